@@ -1,0 +1,88 @@
+-- 01, "Numbers on both sides": the worked cases, one table and one theorem. Assumes nothing.
+use Prim.Native.Nat.{ℕ, zero, suc, _+_, _-_, _*_, _/_, _%_}
+use mathlib.Core.Path.{_≡_, refl}
+use mathlib.Core.Bool.{Bool, true, false, _&&_}
+use mathlib.Core.List.{List, [], _∷_}
+use lib.Dec.{eqb}
+use Rattle.units.specs.Units.{dots, clocksOf}
+use Rattle.refusal.specs.Number.{numberOf}
+use Rattle.raster.specs.Moves.{advance, advanceBy, toLast, around}
+use Rattle.raster.specs.Cells.{startOf, cellOf, tallyOf}
+use Rattle.board.specs.declared.Page.{Page}
+use Rattle.board.specs.Range.{addressRefused}
+use Rattle.timing.specs.Fields.{htOf, hfpOf, vtOf, bufferOf, shapeOf}
+use Rattle.timing.specs.Check.{pageCheck}
+use Rattle.timing.specs.Feed.{feedOf}
+
+-- HSYNC 8 and HBP 7, 24 rows of 10 lines, VFP 4, VSYNC 3, VBP 20; EC, HACT, the buffer and screen start 1 as given
+pub page : (ec hact first last start1 : ℕ) → Page
+page ec hact first last start1 = record {
+  irs =
+      72 ∷ (ec - 1) ∷ 26 ∷ 8 ∷ 23 ∷ (hact - 1) ∷ 0 ∷ 0 ∷ (first % 256) ∷ (16 * (last / 1024) + first / 256) ∷ 0 ∷ 0 ∷ 0 ∷ 0 ∷ 0 ∷ [];
+  starts = record { start1 = start1; cursor = 0; start2 = 0 };
+  switches = 1;
+  video = record { dots = dots 8; strike = 0 };
+}
+
+pub data Fact : Type 0 where
+  HT HFP VT : ℕ → Fact
+  frame : (clocks : ℕ) → Fact
+  answers : (number : ℕ) → Fact
+  column : (row column address : ℕ) → Fact
+  columns : (row count from : ℕ) → Fact
+  row : (row address : ℕ) → Fact
+  after : (address next : ℕ) → Fact
+
+-- the address that a column of a row fetches, with the row table off
+pub fetched : Page → ℕ → ℕ → ℕ
+fetched p r c = cellOf (feedOf p (λ _. 0)) (tallyOf (shapeOf (p .irs))) r c
+
+-- columns 0 to n - 1 of row r fetch a, a + 1, ..
+pub run : Page → ℕ → ℕ → ℕ → Bool
+run p r zero a = true
+run p r (suc n) a = eqb (fetched p r n) (a + n) && run p r n a
+
+pub holds : Page → Fact → Bool
+holds p (HT n) = eqb (htOf (p .irs)) n
+holds p (HFP n) = eqb (hfpOf (p .irs)) n
+holds p (VT n) = eqb (vtOf (p .irs)) n
+holds p (frame n) = eqb ((clocksOf (shapeOf (p .irs) .vt) (shapeOf (p .irs) .ht)) .0) n
+holds p (answers n) = eqb (numberOf (pageCheck p)) n
+holds p (column r c a) = eqb (fetched p r c) a
+holds p (columns r n a) = run p r n a
+holds p (row r a) = eqb (startOf (feedOf p (λ _. 0)) (tallyOf (shapeOf (p .irs))) r) a
+holds p (after a b) = eqb (advance (bufferOf (p .irs)) a) b
+
+pub record Case : Type 0 where
+  pub given : Page
+  pub facts : List Fact
+
+pub true-of : Page → List Fact → Bool
+true-of p [] = true
+true-of p (f ∷ fs) = holds p f && true-of p fs
+
+pub all : List Case → Bool
+all [] = true
+all (k ∷ ks) = true-of (k .given) (k .facts) && all ks
+
+pub cases : List Case
+cases =
+    -- A1, A5
+    record { given = page 35 80 0 16383 0; facts = HT 102 ∷ HFP 7 ∷ answers 0 ∷ VT 267 ∷ frame 27234 ∷ [] }
+    -- A2
+    ∷ record { given = page 32 80 0 16383 0; facts = HFP 1 ∷ answers 5 ∷ [] }
+    -- A3
+    ∷ record { given = page 33 80 0 16383 0; facts = HFP 3 ∷ answers 0 ∷ [] }
+    -- A4
+    ∷ record { given = page 33 81 0 16383 0; facts = HFP 2 ∷ answers 0 ∷ [] }
+    -- A6
+    ∷ record { given = page 35 80 0 1023 1000; facts = column 0 23 1023 ∷ column 0 24 0 ∷ row 1 56 ∷ [] }
+    -- A7
+    ∷ record { given = page 35 80 2048 3071 0; facts = columns 0 80 0 ∷ [] }
+    -- A8
+    ∷ record { given = page 35 80 4095 1023 0; facts = after 16383 0 ∷ after 1023 4095 ∷ [] }
+    ∷ []
+
+pub worked : all cases ≡ true
+unfolding all cases true-of holds run fetched page pageCheck addressRefused shapeOf bufferOf startOf cellOf advance advanceBy toLast around
+worked = refl

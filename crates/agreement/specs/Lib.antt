@@ -1,0 +1,3 @@
+-- The promises.
+pub mod Cases
+pub mod OneAnswer

@@ -1,0 +1,11 @@
+use borrow.Author.Needs.{needs}
+use Rattle.board.specs.Range.{addressRefused}
+use Rattle.board.proofs.address_refused.Statement.{statement}
+use Rattle.board.proofs.address_refused.Tie as tie
+
+returns : tie.Need-returns
+unfolding addressRefused
+returns c = cc
+
+pub address-refused-spec : {M : Type 1} → statement M
+address-refused-spec = tie.close (tie.spec (λ c κs. search needs) returns)

@@ -1,0 +1,3 @@
+-- The record, and what its numbers may be.
+pub mod State
+pub mod Range

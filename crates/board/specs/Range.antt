@@ -1,0 +1,23 @@
+-- Refusals 12 and 7 of 01's table, as far as they need no timing.
+use Prim.Native.Nat.{ℕ}
+use mathlib.Core.Bool.{Bool, _||_}
+use lib.Dec.{ltb}
+use Rattle.board.specs.declared.Starts.{Starts}
+use Rattle.board.specs.declared.Page.{Page}
+use Rattle.board.specs.declared.Place.{Place}
+
+-- a start or cursor address above 16383
+abbrev pub startsRefused : Starts → Bool
+startsRefused s = ltb 16383 (s .start1) || ltb 16383 (s .cursor) || ltb 16383 (s .start2)
+
+-- 12: a start or cursor address above 16383, switches 4 to 7, or strike line above 15
+unfoldable pub addressRefused : Page → Bool
+addressRefused p = startsRefused (p .starts) || ltb 15 (p .switches) || ltb 15 (p .video .strike)
+
+-- 7: a state's address or row start out of range
+abbrev pub cellsRefused : Place → Bool
+cellsRefused p = ltb 16383 (p .now .at) || ltb 16383 (p .kept .at)
+
+-- 7: a state's IR pointer out of range
+abbrev pub pointerRefused : ℕ → Bool
+pointerRefused n = ltb 14 n

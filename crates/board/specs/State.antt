@@ -1,0 +1,25 @@
+-- The board at power, and at clock 0 (01, "The board that is built").
+use Prim.Native.Nat.{ℕ}
+use lib.ListN.{replicate}
+use Rattle.units.specs.Units.{clocks, lines, dots}
+use Rattle.raster.specs.Moves.{cell}
+use Rattle.board.specs.declared.Place.{Place}
+use Rattle.board.specs.declared.Board.{Board}
+
+-- the field counter is 0, as are line, clock, address and row start
+abbrev pub clockZero : Place
+clockZero = record { field = 0; line = lines 0; clock = clocks 0; now = cell 0; kept = cell 0 }
+
+-- power gives zeros throughout
+abbrev pub powerOf : Board
+powerOf = record {
+  page = record {
+    irs = replicate 15 0;
+    starts = record { start1 = 0; cursor = 0; start2 = 0 };
+    switches = 0;
+    video = record { dots = dots 0; strike = 0 };
+  };
+  place = clockZero;
+  pointer = 0;
+  resets = 0;
+}

@@ -1,0 +1,108 @@
+// The board's whole state, by value. It holds numbers only and is laid out as C lays it out, so that every bit pattern is a value.
+ghost use mathlib.Core.Path.{_≡_};
+ghost use Rattle.board.specs.State.{clockZero, powerOf};
+ghost use Rattle.board.specs.Range.{startsRefused, addressRefused, cellsRefused, pointerRefused};
+
+#[repr(C)]
+pub struct Starts {
+    pub start1: u16,
+    pub cursor: u16,
+    pub start2: u16,
+}
+
+#[repr(C)]
+pub struct Video {
+    pub dots: units::Dots,
+    pub strike: u8,
+}
+
+// What a page file holds beside the memories. The switches are the file's byte: bit 0 display, 1 cursor, 2 BKGND, 3 RBLANK.
+#[repr(C)]
+pub struct Page {
+    pub irs: [u8; 15],
+    pub starts: Starts,
+    pub switches: u8,
+    pub video: Video,
+}
+
+// Where the beam is, the cell it carries, and the cell that its row began with.
+#[repr(C)]
+pub struct Place {
+    pub field: u8,
+    pub line: units::Lines,
+    pub clock: units::Clocks,
+    pub now: raster::Cell,
+    pub kept: raster::Cell,
+}
+
+// The pointer names an IR. The count of master resets in a row is the power state: 0 or 1 is inactive, 2 and above active.
+#[repr(C)]
+pub struct Board {
+    pub page: Page,
+    pub place: Place,
+    pub pointer: u8,
+    pub resets: u8,
+}
+
+pub fn clock_zero() -> Place
+    ensures { λ r. ⌜ r ≡ clockZero ⌝ }
+{
+    Place {
+        field: 0,
+        line: units::Lines(0),
+        clock: units::Clocks(0),
+        now: raster::Cell { at: 0 },
+        kept: raster::Cell { at: 0 },
+    }
+}
+
+pub fn power() -> Board
+    ensures { λ r. ⌜ r ≡ powerOf ⌝ }
+{
+    Board {
+        page: Page {
+            irs: [0u8; 15],
+            starts: Starts {
+                start1: 0,
+                cursor: 0,
+                start2: 0,
+            },
+            switches: 0,
+            video: Video {
+                dots: units::Dots(0),
+                strike: 0,
+            },
+        },
+        place: clock_zero(),
+        pointer: 0,
+        resets: 0,
+    }
+}
+
+pub fn starts_refused(s: Starts) -> bool
+    ensures { λ r. ⌜ r ≡ startsRefused s ⌝ }
+{
+    (16383 < s.start1) | (16383 < s.cursor) | (16383 < s.start2)
+}
+
+// 12, for a page.
+pub fn address_refused(p: Page) -> bool
+    ensures { λ r. ⌜ r ≡ addressRefused p ⌝ }
+{
+    let s = p.starts;
+    starts_refused(s) | (15 < p.switches) | (15 < p.video.strike)
+}
+
+// 7, for the two cells of a place.
+pub fn cells_refused(p: Place) -> bool
+    ensures { λ r. ⌜ r ≡ cellsRefused p ⌝ }
+{
+    (16383 < p.now.at) | (16383 < p.kept.at)
+}
+
+// 7, for the IR pointer.
+pub fn pointer_refused(pointer: u8) -> bool
+    ensures { λ r. ⌜ r ≡ pointerRefused pointer ⌝ }
+{
+    14 < pointer
+}

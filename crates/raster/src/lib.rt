@@ -1,0 +1,56 @@
+// The beam: where it is, and which cell it is at. Almost all of this crate is theory (specs/); the code is the move from cell to cell.
+ghost use mathlib.Core.Path.{_≡_};
+ghost use Rattle.raster.specs.Moves.{cell, advance, advanceBy};
+
+// What the beam carries along, and what a row keeps: an address.
+#[repr(C)]
+pub struct Cell {
+    pub at: u16,
+}
+
+// The counts that the beam goes by: clocks per line, of which so many are active; lines per frame; lines per row; rows.
+pub struct Shape {
+    pub ht: units::Clocks,
+    pub hact: units::Clocks,
+    pub vt: units::Lines,
+    pub lines: units::Lines,
+    pub rows: u32,
+}
+
+// The first and the last buffer address. The first may be above the last.
+pub struct Buffer {
+    pub first: u16,
+    pub last: u16,
+}
+
+// The cell after this one.
+pub fn advance_one(b: Buffer, c: Cell) -> Cell
+    ensures { λ r. ⌜ r ≡ cell (advance b (c .at)) ⌝ }
+{
+    let a = c.at;
+    if a == b.last {
+        return Cell { at: b.first };
+    }
+    Cell {
+        at: (a % 16384 + 1) % 16384,
+    }
+}
+
+// The cell k moves after this one.
+pub fn advance_by(b: Buffer, k: u32, c: Cell) -> Cell
+    ensures { λ r. ⌜ r ≡ cell (advanceBy b k (c .at)) ⌝ }
+{
+    let first = b.first as u32;
+    let last = b.last as u32;
+    let a = c.at as u32 % 16384;
+    let d = (last + 16384 - a) % 16384;
+    if k <= d {
+        return Cell {
+            at: ((a + k) % 16384) as u16,
+        };
+    }
+    let p = (last + 16384 - first % 16384) % 16384 + 1;
+    Cell {
+        at: ((first + (k - d - 1) % p) % 16384) as u16,
+    }
+}

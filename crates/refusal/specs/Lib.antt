@@ -1,0 +1,3 @@
+-- The refusal numbers.
+pub mod Number
+pub mod Laws

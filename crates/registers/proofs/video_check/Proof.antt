@@ -1,0 +1,34 @@
+use mathlib.Core.Path.{refl, sym, ap, _∙_}
+use mathlib.Core.Bool.{Bool, _||_}
+use lib.Dec.{ltb}
+use borrow.Author.Needs.{needs}
+use Rattle.lists.specs.Choice.{stop, pass}
+use Rattle.registers.specs.Video.{videoCheck}
+use Rattle.registers.proofs.video_check.Statement.{statement}
+use Rattle.registers.proofs.video_check.Tie as tie
+
+returns : tie.Need-returns
+unfolding videoCheck
+returns c = stop _ (rw (c .before .starts-refused .ensures) at (c .if1 .taken)) refl
+
+returns-2 : tie.Need-returns-2
+unfolding videoCheck
+returns-2 c =
+    pass _ (rw (c .before .before .before .starts-refused .ensures) at (c .before .before .if1 .left))
+    (stop _ (sym (c .before .width-refused .ensures) ∙ c .if2 .taken) refl)
+
+returns-3 : tie.Need-returns-3
+unfolding videoCheck
+returns-3 c =
+    pass _ (rw (c .before .before .before .starts-refused .ensures) at (c .before .before .if1 .left))
+    (pass _ (sym (c .before .width-refused .ensures) ∙ c .if2 .left) refl)
+
+pub video-check-spec : {M : Type 1} → statement M
+video-check-spec =
+    tie.close
+    (tie.spec
+    (λ c κs. search needs)
+    returns
+    (λ c κs. search needs)
+    returns-2
+    returns-3)

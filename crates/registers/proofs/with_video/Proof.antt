@@ -1,0 +1,10 @@
+use borrow.Author.Needs.{needs}
+use Rattle.registers.proofs.with_video.Statement.{statement}
+use Rattle.registers.proofs.with_video.Tie as tie
+
+returns : tie.Need-returns
+returns c = cc
+
+pub with-video-spec : {M : Type 1} → statement M
+with-video-spec =
+    tie.close (tie.spec (λ c κs. search needs) (λ c κs. search needs) (λ c. search needs) (λ c. search needs) returns)

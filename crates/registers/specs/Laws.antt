@@ -1,0 +1,17 @@
+-- What a proof of the register calls uses of their checks. Assumes nothing.
+use Prim.Native.Nat.{_≤_}
+use mathlib.Core.Path.{_≡_, refl}
+use borrow.Author.Tests.{ltb-false}
+use Rattle.refusal.specs.declared.Refusal.the-variants.{Done, Range, Address}
+use Rattle.refusal.specs.Laws.{passed}
+use Rattle.board.specs.declared.Board.{Board}
+use Rattle.board.specs.Range.{addressRefused, pointerRefused}
+use Rattle.registers.specs.Write.{stateCheck}
+
+-- a board that passes has its pointer at one of the fifteen registers
+pub pointer-in : (b : Board) → stateCheck b ≡ Done → b .pointer ≤ 14
+unfolding stateCheck
+pointer-in b e =
+    let a = passed (addressRefused (b .page)) Address _ refl e in
+    let p = passed (pointerRefused (b .pointer)) Range _ refl (a .1) in
+    ltb-false _ _ (p .0)

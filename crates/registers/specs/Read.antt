@@ -1,0 +1,33 @@
+-- A read at a register address (003 Tables 1 and 4): reads at 0 and 1 give 0, and bits 7 and 6 of an upper register read 0.
+use Prim.Native.Nat.{ℕ, _/_, _%_}
+use lib.Dec.{eqb, ltb}
+use Rattle.lists.specs.Choice.{pick}
+use Rattle.refusal.specs.declared.Refusal.the-variants.{Done, Register}
+use Rattle.refusal.specs.Number.{doneOf}
+use Rattle.board.specs.declared.Starts.{Starts}
+use Rattle.board.specs.declared.Board.{Board}
+use Rattle.registers.specs.declared.ByteRead.{ByteRead}
+use Rattle.registers.specs.Parts.{byteRead}
+use Rattle.registers.specs.Write.{stateCheck}
+
+abbrev pub lowerShown : ℕ → ℕ
+lowerShown x = x % 256
+
+abbrev pub upperShown : ℕ → ℕ
+upperShown x = x / 256 % 64
+
+unfoldable pub shownAt : Starts → ℕ → ℕ
+shownAt s a =
+    pick (eqb a 2) (lowerShown (s .start1))
+    (pick (eqb a 3) (upperShown (s .start1))
+    (pick (eqb a 4) (lowerShown (s .cursor))
+    (pick (eqb a 5) (upperShown (s .cursor))
+    (pick (eqb a 6) (lowerShown (s .start2))
+    (pick (eqb a 7) (upperShown (s .start2))
+    0)))))
+
+unfoldable pub readOf : Board → ℕ → ByteRead
+readOf b a =
+    pick (doneOf (stateCheck b))
+    (pick (ltb 7 a) (byteRead Register 0) (byteRead Done (shownAt (b .page .starts) a)))
+    (byteRead (stateCheck b) 0)

@@ -1,0 +1,368 @@
+// The register calls: what the processor writes and reads (003 Tables 1, 4 and 6), and the board's own video setting.
+ghost use mathlib.Core.Path.{_≡_};
+ghost use mathlib.Core.Bool.{_||_};
+ghost use mathlib.Core.List.{[], _∷_};
+ghost use Prim.Native.Nat.{_≤_, _-_, _+_};
+ghost use lib.Dec.{eqb, ltb};
+ghost use Rattle.lists.specs.Choice.{pick, firstOf};
+ghost use Rattle.refusal.specs.declared.Refusal.{Refusal};
+ghost use Rattle.registers.specs.Write.{stateCheck, brokenOf, resetOf, pointedOf, nextPointer, loadedOf, lowerOf, upperOf, startsAfter, startedOf, switchesAfter, switchedOf, commandOf, activeOf, inactiveOf, writeOf};
+ghost use Rattle.registers.specs.Read.{shownAt, readOf};
+ghost use Rattle.registers.specs.Video.{videoCheck, videoOf, setVideoOf};
+
+pub struct Written {
+    pub refusal: refusal::Refusal,
+    pub board: board::Board,
+}
+
+pub struct ByteRead {
+    pub refusal: refusal::Refusal,
+    pub byte: u8,
+}
+
+// What every register call asks of the board: 12, then 7 for the pointer.
+fn first_of_two(address: bool, range: bool) -> refusal::Refusal
+    ensures { λ r. ⌜ r ≡ firstOf ((address, Refusal.Address) ∷ (range, Refusal.Range) ∷ []) Refusal.Done ⌝ }
+{
+    if address {
+        refusal::Refusal::Address
+    } else if range {
+        refusal::Refusal::Range
+    } else {
+        refusal::Refusal::Done
+    }
+}
+
+fn state_check(b: board::Board) -> refusal::Refusal
+    ensures { λ r. ⌜ r ≡ stateCheck b ⌝ }
+{
+    let p = b.page;
+    first_of_two(board::address_refused(p), board::pointer_refused(b.pointer))
+}
+
+fn choose(t: bool, a: u8, b: u8) -> u8
+    ensures { λ r. ⌜ r ≡ pick t a b ⌝ }
+{
+    if t { a } else { b }
+}
+
+// A write that is no reset, on an inactive board.
+fn broken(b: board::Board) -> board::Board
+    ensures { λ r. ⌜ r ≡ brokenOf b ⌝ }
+{
+    let mut n = b;
+    n.resets = 0;
+    n
+}
+
+fn reset(b: board::Board) -> board::Board
+    ensures { λ r. ⌜ r ≡ resetOf b ⌝ }
+{
+    let place = board::clock_zero();
+    let resets = choose(b.resets == 0, 1, 2);
+    let off = b.page.switches / 4 * 4;
+    let mut n = b;
+    n.page.switches = off;
+    n.place = place;
+    n.pointer = 0;
+    n.resets = resets;
+    n
+}
+
+fn pointed(b: board::Board, at: u8) -> board::Board
+    ensures { λ r. ⌜ r ≡ pointedOf b at ⌝ }
+{
+    let mut n = b;
+    n.pointer = at;
+    n
+}
+
+fn next_pointer(at: u8) -> u8
+    requires { ⌜ at ≤ 14 ⌝ }
+    ensures { λ r. ⌜ r ≡ nextPointer at ⌝ }
+{
+    choose(at < 14, at + 1, 14)
+}
+
+fn loaded(b: board::Board, v: u8) -> board::Board
+    requires { ⌜ b .pointer ≤ 14 ⌝ }
+    ensures { λ r. ⌜ r ≡ loadedOf b v ⌝ }
+{
+    let at = b.pointer;
+    let i = at as usize;
+    let next = next_pointer(at);
+    let mut p = b.page;
+    p.irs[i] = v;
+    let mut n = b;
+    n.page = p;
+    n.pointer = next;
+    n
+}
+
+fn lower(x: u16, v: u8) -> u16
+    ensures { λ r. ⌜ r ≡ lowerOf x v ⌝ }
+{
+    x / 256 * 256 + v as u16
+}
+
+fn upper(x: u16, v: u8) -> u16
+    ensures { λ r. ⌜ r ≡ upperOf x v ⌝ }
+{
+    v as u16 % 64 * 256 + x % 256
+}
+
+// Addresses 2 to 7: lower, then upper.
+fn starts_after(s: board::Starts, a: u8, v: u8) -> board::Starts
+    ensures { λ r. ⌜ r ≡ startsAfter s a v ⌝ }
+{
+    let mut n = s;
+    match a {
+        2 => {
+            n.start1 = lower(s.start1, v);
+            n
+        }
+        3 => {
+            n.start1 = upper(s.start1, v);
+            n
+        }
+        4 => {
+            n.cursor = lower(s.cursor, v);
+            n
+        }
+        5 => {
+            n.cursor = upper(s.cursor, v);
+            n
+        }
+        6 => {
+            n.start2 = lower(s.start2, v);
+            n
+        }
+        _ => {
+            n.start2 = upper(s.start2, v);
+            n
+        }
+    }
+}
+
+fn started(b: board::Board, a: u8, v: u8) -> board::Board
+    ensures { λ r. ⌜ r ≡ startedOf b a v ⌝ }
+{
+    let mut p = b.page;
+    let s = p.starts;
+    let t = starts_after(s, a, v);
+    p.starts = t;
+    let mut n = b;
+    n.page = p;
+    n
+}
+
+// A switch after a command byte that names it, or does not.
+fn switch_after(named: bool, on: u8, old: u8) -> u8
+    requires { ⌜ (on ≤ 1) × (old ≤ 1) ⌝ }
+    ensures { λ r. ⌜ (r ≡ pick named on old) × (r ≤ 1) ⌝ }
+{
+    if named { on } else { old }
+}
+
+// Bit 3 names the display, bit 4 the cursor; bit 0 says on.
+fn switches_after(s: u8, v: u8) -> u8
+    ensures { λ r. ⌜ r ≡ switchesAfter s v ⌝ }
+{
+    let cursor = switch_after(v / 16 % 2 == 1, v % 2, s / 2 % 2);
+    let display = switch_after(v / 8 % 2 == 1, v % 2, s % 2);
+    s / 4 * 4 + 2 * cursor + display
+}
+
+fn switched(b: board::Board, v: u8) -> board::Board
+    ensures { λ r. ⌜ r ≡ switchedOf b v ⌝ }
+{
+    let s = switches_after(b.page.switches, v);
+    let mut n = b;
+    n.page.switches = s;
+    n
+}
+
+fn done(b: board::Board) -> Written
+    ensures { λ r. ⌜ r ≡ record { refusal = Refusal.Done; board = b } ⌝ }
+{
+    Written {
+        refusal: refusal::Refusal::Done,
+        board: b,
+    }
+}
+
+// The command byte (003 Table 6).
+fn command(b: board::Board, v: u8) -> Written
+    ensures { λ r. ⌜ r ≡ commandOf b v ⌝ }
+{
+    match v {
+        0 => done(reset(b)),
+        16..=30 => done(pointed(b, v - 16)),
+        32..=63 => {
+            if (v / 2 % 2 == 0) & !(v / 8 % 4 == 0) {
+                done(switched(b, v))
+            } else {
+                Written {
+                    refusal: refusal::Refusal::Command,
+                    board: b,
+                }
+            }
+        }
+        _ => Written {
+            refusal: refusal::Refusal::Command,
+            board: b,
+        },
+    }
+}
+
+// The register address (003 Table 1), on an active board.
+fn active(b: board::Board, a: u8, v: u8) -> Written
+    requires { ⌜ b .pointer ≤ 14 ⌝ }
+    ensures { λ r. ⌜ r ≡ activeOf b a v ⌝ }
+{
+    match a {
+        0 => done(loaded(b, v)),
+        1 => command(b, v),
+        2..=7 => done(started(b, a, v)),
+        _ => Written {
+            refusal: refusal::Refusal::Register,
+            board: b,
+        },
+    }
+}
+
+fn inactive(b: board::Board, a: u8, v: u8) -> Written
+    ensures { λ r. ⌜ r ≡ inactiveOf b a v ⌝ }
+{
+    match a {
+        0..=7 => {
+            if (a == 1) & (v == 0) {
+                done(reset(b))
+            } else {
+                done(broken(b))
+            }
+        }
+        _ => Written {
+            refusal: refusal::Refusal::Register,
+            board: b,
+        },
+    }
+}
+
+// A write at a register address.
+pub fn write(b: board::Board, a: u8, v: u8) -> Written
+    ensures { λ r. ⌜ r ≡ writeOf b a v ⌝ }
+{
+    let refused = state_check(b);
+    if refusal::is_done(refused) {
+        if 2 <= b.resets {
+            return active(b, a, v);
+        }
+        return inactive(b, a, v);
+    }
+    Written {
+        refusal: refused,
+        board: b,
+    }
+}
+
+fn shown_at(s: board::Starts, a: u8) -> u8
+    ensures { λ r. ⌜ r ≡ shownAt s a ⌝ }
+{
+    match a {
+        2 => (s.start1 % 256) as u8,
+        3 => (s.start1 / 256 % 64) as u8,
+        4 => (s.cursor % 256) as u8,
+        5 => (s.cursor / 256 % 64) as u8,
+        6 => (s.start2 % 256) as u8,
+        7 => (s.start2 / 256 % 64) as u8,
+        _ => 0,
+    }
+}
+
+// A read at a register address. It never changes the board.
+pub fn read(b: board::Board, a: u8) -> ByteRead
+    ensures { λ r. ⌜ r ≡ readOf b a ⌝ }
+{
+    let refused = state_check(b);
+    if refusal::is_done(refused) {
+        if 7 < a {
+            return ByteRead {
+                refusal: refusal::Refusal::Register,
+                byte: 0,
+            };
+        }
+        let s = b.page.starts;
+        return ByteRead {
+            refusal: refused,
+            byte: shown_at(s, a),
+        };
+    }
+    ByteRead {
+        refusal: refused,
+        byte: 0,
+    }
+}
+
+fn video_check(s: board::Starts, switches: u8, dots: units::Dots, strike: u8) -> refusal::Refusal
+    ensures { λ r. ⌜ r ≡ videoCheck s switches dots strike ⌝ }
+{
+    if board::starts_refused(s) | (15 < switches) | (15 < strike) {
+        return refusal::Refusal::Address;
+    }
+    if timing::width_refused(dots) {
+        return refusal::Refusal::Width;
+    }
+    refusal::Refusal::Done
+}
+
+fn weight(on: bool, n: u8) -> u8
+    ensures { λ r. ⌜ (r ≡ pick on n 0) × (r ≤ n) ⌝ }
+{
+    if on { n } else { 0 }
+}
+
+fn with_video(
+    b: board::Board,
+    dots: units::Dots,
+    strike: u8,
+    bkgnd: bool,
+    rblank: bool,
+) -> board::Board
+    ensures { λ r. ⌜ r ≡ videoOf b dots strike bkgnd rblank ⌝ }
+{
+    let background = weight(bkgnd, 4);
+    let retrace = weight(rblank, 8);
+    let switches = b.page.switches % 4 + background + retrace;
+    let video = board::Video {
+        dots: dots,
+        strike: strike,
+    };
+    let mut p = b.page;
+    p.switches = switches;
+    p.video = video;
+    let mut n = b;
+    n.page = p;
+    n
+}
+
+// The board's own setting of dots, strike line, BKGND and RBLANK.
+pub fn set_video(
+    b: board::Board,
+    dots: units::Dots,
+    strike: u8,
+    bkgnd: bool,
+    rblank: bool,
+) -> Written
+    ensures { λ r. ⌜ r ≡ setVideoOf b dots strike bkgnd rblank ⌝ }
+{
+    let s = b.page.starts;
+    let refused = video_check(s, b.page.switches, dots, strike);
+    if refusal::is_done(refused) {
+        return done(with_video(b, dots, strike, bkgnd, rblank));
+    }
+    Written {
+        refusal: refused,
+        board: b,
+    }
+}

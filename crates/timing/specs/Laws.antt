@@ -1,0 +1,115 @@
+-- What callers use of the definitions: bounds that hold of any registers, and what an accepted page gives. Assumes nothing.
+use Prim.Native.Nat.{ℕ, _+_, _*_, _/_, _%_, _≤_, _<_}
+use mathlib.Core.Path.{_≡_, refl}
+use mathlib.Core.Bool.{false, _||_}
+use mathlib.Core.List.{List}
+use native.Mathlib.Nat.{mul-le-mul}
+use native.Mathlib.Omega.{arith}
+use borrow.Author.Tests.{ltb-false, eqb-false}
+use lib.Dec.{eqb, ltb}
+use Rattle.lists.specs.Choice.{neither, pick-le}
+use Rattle.units.specs.Units.{clocksOf}
+use Rattle.refusal.specs.declared.Refusal.the-variants.{Done, Reserved, Porch, Width, Address}
+use Rattle.refusal.specs.Laws.{passed}
+use Rattle.raster.specs.Moves.{Bounded}
+use Rattle.raster.specs.Raster.{Good}
+use Rattle.board.specs.declared.Page.{Page}
+use Rattle.board.specs.Range.{startsRefused, addressRefused}
+use Rattle.timing.specs.Fields.{ir, linesOf, rowsOf, hactOf, htOf, hfpOf, vsyncOf, vtOf, bufferOf, shapeOf}
+use Rattle.timing.specs.Check.{reservedRefused, porchRefused, widthRefused, pageCheck}
+
+-- ---- any registers
+
+pub visible-bound : (irs : List ℕ) → rowsOf irs * linesOf irs ≤ 2048
+visible-bound irs =
+    let r : rowsOf irs ≤ 128 = omega arith in
+    let l : linesOf irs ≤ 16 = omega arith in
+    mul-le-mul r l
+
+vsync-bound : (n : ℕ) → vsyncOf n ≤ 7
+vsync-bound n =
+    pick-le 7 (eqb n 0) 3 _ (omega arith)
+    (pick-le 7 (eqb n 1) 1 _ (omega arith) (pick-le 7 (eqb n 2) 5 7 (omega arith) (omega arith)))
+
+pub ht-bound : (irs : List ℕ) → htOf irs ≤ 384
+ht-bound irs = omega arith
+
+pub vt-bound : (irs : List ℕ) → vtOf irs ≤ 2153
+vt-bound irs = omega (arith, visible-bound irs, vsync-bound (ir irs 7 / 64 % 4))
+
+-- a frame has at most 826,752 clocks
+pub frame-bound : (irs : List ℕ) → (clocksOf (shapeOf irs .vt) (shapeOf irs .ht)) .0 ≤ 826752
+unfolding shapeOf
+frame-bound irs = mul-le-mul (vt-bound irs) (ht-bound irs)
+
+pub buffer-bounded : (irs : List ℕ) → Bounded (bufferOf irs)
+unfolding bufferOf
+buffer-bounded irs = record { first-lt = omega arith; last-lt = omega arith }
+
+-- ---- an accepted page
+
+pub record Accepted (p : Page) : Type 0 where
+  pub start1 : p .starts .start1 ≤ 16383
+  pub cursor : p .starts .cursor ≤ 16383
+  pub start2 : p .starts .start2 ≤ 16383
+  pub switches : p .switches ≤ 15
+  pub strike : p .video .strike ≤ 15
+  pub plain : ir (p .irs) 0 / 128 % 2 ≡ 1 → ⊥
+  pub straight : ir (p .irs) 1 / 128 % 2 ≡ 1 → ⊥
+  pub hbp : ir (p .irs) 2 % 8 ≡ 0 → ⊥
+  pub hfp : 2 ≤ hfpOf (p .irs)
+  pub least : 6 ≤ p .video .dots .0
+  pub most : p .video .dots .0 ≤ 12
+
+pub accepted : (p : Page) → pageCheck p ≡ Done → Accepted p
+unfolding pageCheck addressRefused
+accepted p e =
+    let irs = p .irs in
+    let s = p .starts in
+    let d = p .video .dots .0 in
+    let a = passed (addressRefused p) Address _ refl e in
+    let b = passed (reservedRefused irs) Reserved _ refl (a .1) in
+    let c = passed (porchRefused irs) Porch _ refl (b .1) in
+    let w = passed (widthRefused (p .video .dots)) Width _ refl (c .1) in
+    let a4 = neither (startsRefused s || ltb 15 (p .switches)) (ltb 15 (p .video .strike)) (a .0) in
+    let a3 = neither (startsRefused s) (ltb 15 (p .switches)) (a4 .0) in
+    let a2 = neither (ltb 16383 (s .start1) || ltb 16383 (s .cursor)) (ltb 16383 (s .start2)) (a3 .0) in
+    let a1 = neither (ltb 16383 (s .start1)) (ltb 16383 (s .cursor)) (a2 .0) in
+    let b1 = neither (eqb (ir irs 0 / 128 % 2) 1) (eqb (ir irs 1 / 128 % 2) 1) (b .0) in
+    let c1 = neither (eqb (ir irs 2 % 8) 0) (ltb (hfpOf irs) 2) (c .0) in
+    let w1 = neither (ltb d 6) (ltb 12 d) (w .0) in
+    record {
+      start1 = ltb-false _ _ (a1 .0);
+      cursor = ltb-false _ _ (a1 .1);
+      start2 = ltb-false _ _ (a2 .1);
+      switches = ltb-false _ _ (a3 .1);
+      strike = ltb-false _ _ (a4 .1);
+      plain = eqb-false _ _ (b1 .0);
+      straight = eqb-false _ _ (b1 .1);
+      hbp = eqb-false _ _ (c1 .0);
+      hfp = ltb-false _ _ (c1 .1);
+      least = ltb-false _ _ (w1 .0);
+      most = ltb-false _ _ (w1 .1);
+    }
+
+-- the counts of an accepted page are good for the beam
+pub accepted-good : (p : Page) → Accepted p → Good (shapeOf (p .irs))
+unfolding shapeOf
+accepted-good p a =
+    let irs = p .irs in
+    record {
+      ht-le = ht-bound irs;
+      hact-some = omega arith;
+      hact-lt = omega (arith, a .hfp);
+      lines-some = omega arith;
+      lines-le = omega arith;
+      rows-some = omega arith;
+      porch = omega arith;
+      vt-le = omega (arith, vt-bound irs);
+    }
+
+-- its line has few enough dots
+pub dots-bound : (p : Page) → Accepted p → hactOf (p .irs) * p .video .dots .0 ≤ 3072
+dots-bound p a =
+    let h : hactOf (p .irs) ≤ 256 = omega arith in
+    mul-le-mul h (a .most)

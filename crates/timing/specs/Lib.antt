@@ -1,0 +1,5 @@
+-- The registers' fields, the page check, and what an accepted page gives.
+pub mod Fields
+pub mod Check
+pub mod Laws
+pub mod Feed

@@ -1,0 +1,207 @@
+// The initialization registers decoded into counts (003 Table 2), the page check, and the size of a page's picture.
+ghost use mathlib.Core.Path.{_≡_};
+ghost use mathlib.Core.List.{[], _∷_};
+ghost use Prim.Native.Nat.{_-_, _*_, _≤_};
+ghost use Rattle.lists.specs.Choice.{firstOf};
+ghost use Rattle.refusal.specs.declared.Refusal.{Refusal};
+ghost use Rattle.timing.specs.Fields.{vsyncOf, timingOf, bufferOf, tableOf, cursorOf, underlineOf, blinkOf};
+ghost use Rattle.timing.specs.Check.{reservedRefused, porchRefused, widthRefused, pageCheck, sizeOf};
+
+// A line's and a frame's parts, and the counts that the beam goes by.
+pub struct Timing {
+    pub ec: units::Clocks,
+    pub hsync: units::Clocks,
+    pub hbp: units::Clocks,
+    pub hfp: units::Clocks,
+    pub vfp: units::Lines,
+    pub vsync: units::Lines,
+    pub vbp: units::Lines,
+    pub shape: raster::Shape,
+}
+
+// The cursor's first and last scan line; whether it blinks, and over how many fields.
+pub struct CursorLook {
+    pub first: units::Lines,
+    pub last: units::Lines,
+    pub blinks: bool,
+    pub period: u32,
+}
+
+// The visible lines of a page, and the dots in each.
+pub struct Size {
+    pub refusal: refusal::Refusal,
+    pub lines: units::Lines,
+    pub dots: units::Dots,
+}
+
+// VSYNC by its code.
+fn vsync_of(n: u32) -> u32
+    ensures { λ r. ⌜ (r ≡ vsyncOf n) × (r ≤ 7) ⌝ }
+{
+    match n {
+        0 => 3,
+        1 => 1,
+        2 => 5,
+        _ => 7,
+    }
+}
+
+// a - b, and 0 where b is more.
+fn minus(a: u32, b: u32) -> u32
+    ensures { λ r. ⌜ r ≡ a - b ⌝ }
+{
+    if b <= a { a - b } else { 0 }
+}
+
+// The visible lines: at most 128 rows of at most 16.
+fn visible(rows: u32, lines: u32) -> u32
+    requires { ⌜ (rows ≤ 128) × (lines ≤ 16) ⌝ }
+    ensures { λ r. ⌜ (r ≡ rows * lines) × (r ≤ 2048) ⌝ }
+{
+    rows * lines
+}
+
+pub fn timing_of(irs: [u8; 15]) -> Timing
+    ensures { λ r. ⌜ r ≡ timingOf irs ⌝ }
+{
+    let lines = irs[0] as u32 / 8 % 16 + 1;
+    let ec = irs[1] as u32 % 128 + 1;
+    let hsync = 2 * (irs[2] as u32 / 8 % 16) + 2;
+    let hbp = minus(4 * (irs[2] as u32 % 8), 1);
+    let vfp = 4 * (irs[3] as u32 / 32 % 8) + 4;
+    let vbp = 2 * (irs[3] as u32 % 32) + 4;
+    let rows = irs[4] as u32 % 128 + 1;
+    let hact = irs[5] as u32 % 256 + 1;
+    let vsync = vsync_of(irs[7] as u32 / 64 % 4);
+    let ht = 2 * (ec + 2 * hsync);
+    let hfp = minus(ht, hact + hsync + hbp);
+    let vt = visible(rows, lines) + vfp + vsync + vbp;
+    Timing {
+        ec: units::Clocks(ec),
+        hsync: units::Clocks(hsync),
+        hbp: units::Clocks(hbp),
+        hfp: units::Clocks(hfp),
+        vfp: units::Lines(vfp),
+        vsync: units::Lines(vsync),
+        vbp: units::Lines(vbp),
+        shape: raster::Shape {
+            ht: units::Clocks(ht),
+            hact: units::Clocks(hact),
+            vt: units::Lines(vt),
+            lines: units::Lines(lines),
+            rows: rows,
+        },
+    }
+}
+
+pub fn buffer_of(irs: [u8; 15]) -> raster::Buffer
+    ensures { λ r. ⌜ r ≡ bufferOf irs ⌝ }
+{
+    raster::Buffer {
+        first: irs[9] as u16 % 16 * 256 + irs[8] as u16 % 256,
+        last: 1024 * (irs[9] as u16 / 16 % 16 + 1) - 1,
+    }
+}
+
+pub fn table_of(irs: [u8; 15]) -> bool
+    ensures { λ r. ⌜ r ≡ tableOf irs ⌝ }
+{
+    irs[2] / 128 % 2 == 1
+}
+
+pub fn cursor_of(irs: [u8; 15]) -> CursorLook
+    ensures { λ r. ⌜ r ≡ cursorOf irs ⌝ }
+{
+    CursorLook {
+        first: units::Lines(irs[6] as u32 / 16 % 16),
+        last: units::Lines(irs[6] as u32 % 16),
+        blinks: irs[7] / 32 % 2 == 1,
+        period: 32 * (irs[7] as u32 / 16 % 2 + 1),
+    }
+}
+
+pub fn underline_of(irs: [u8; 15]) -> units::Lines
+    ensures { λ r. ⌜ r ≡ underlineOf irs ⌝ }
+{
+    units::Lines(irs[7] as u32 % 16)
+}
+
+pub fn blink_of(irs: [u8; 15]) -> u32
+    ensures { λ r. ⌜ r ≡ blinkOf irs ⌝ }
+{
+    64 * (irs[4] as u32 / 128 % 2 + 1)
+}
+
+// 4: doubled rows or interlace.
+pub fn reserved_refused(irs: [u8; 15]) -> bool
+    ensures { λ r. ⌜ r ≡ reservedRefused irs ⌝ }
+{
+    (irs[0] / 128 % 2 == 1) | (irs[1] / 128 % 2 == 1)
+}
+
+// 5: HBP code 0, or a front porch below 2.
+pub fn porch_refused(irs: [u8; 15]) -> bool
+    ensures { λ r. ⌜ r ≡ porchRefused irs ⌝ }
+{
+    let t = timing_of(irs);
+    (irs[2] % 8 == 0) | (t.hfp.0 < 2)
+}
+
+// 6: dots not 6 to 12.
+pub fn width_refused(d: units::Dots) -> bool
+    ensures { λ r. ⌜ r ≡ widthRefused d ⌝ }
+{
+    (d.0 < 6) | (12 < d.0)
+}
+
+// The order of the page check.
+fn first_of(address: bool, reserved: bool, porch: bool, width: bool) -> refusal::Refusal
+    ensures { λ r. ⌜ r ≡ firstOf ((address, Refusal.Address) ∷ (reserved, Refusal.Reserved) ∷ (porch, Refusal.Porch) ∷ (width, Refusal.Width) ∷ []) Refusal.Done ⌝ }
+{
+    if address {
+        refusal::Refusal::Address
+    } else if reserved {
+        refusal::Refusal::Reserved
+    } else if porch {
+        refusal::Refusal::Porch
+    } else if width {
+        refusal::Refusal::Width
+    } else {
+        refusal::Refusal::Done
+    }
+}
+
+pub fn page_check(p: board::Page) -> refusal::Refusal
+    ensures { λ r. ⌜ r ≡ pageCheck p ⌝ }
+{
+    let irs = p.irs;
+    let dots = p.video.dots;
+    first_of(
+        board::address_refused(p),
+        reserved_refused(irs),
+        porch_refused(irs),
+        width_refused(dots),
+    )
+}
+
+pub fn page_size(p: board::Page) -> Size
+    ensures { λ r. ⌜ r ≡ sizeOf p ⌝ }
+{
+    let refused = page_check(p);
+    if refusal::is_done(refused) {
+        let irs = p.irs;
+        let dots = p.video.dots;
+        let t = timing_of(irs);
+        let hact = t.shape.hact;
+        return Size {
+            refusal: refused,
+            lines: units::Lines(visible(t.shape.rows, t.shape.lines.0)),
+            dots: units::dots_of(hact, dots),
+        };
+    }
+    Size {
+        refusal: refused,
+        lines: units::Lines(0),
+        dots: units::Dots(0),
+    }
+}
