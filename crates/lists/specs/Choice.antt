@@ -46,3 +46,7 @@ neither false t e = (refl, e)
 pub pick-le : (k : ℕ) (t : Bool) (a b : ℕ) → a ≤ k → b ≤ k → pick t a b ≤ k
 pick-le k true a b p q = p
 pick-le k false a b p q = q
+
+pub pick-lt : (k : ℕ) (t : Bool) (a b : ℕ) → a < k → b < k → pick t a b < k
+pick-lt k true a b p q = p
+pick-lt k false a b p q = q

@@ -3,3 +3,4 @@ pub mod Choice
 pub mod Answer
 pub mod Fill
 pub mod Tab
+pub mod Join

@@ -99,13 +99,13 @@ module _ (g : Shape) (e : Feed) (t : Tally) (d : Fed e) (v : Tallied g e t) wher
       go true = d .entry-lt r
       go false = advanceBy-lt (e .buffer) (r * t .perRow) (e .start1)
 
-  cell-zero : (r : ℕ) → cellOf e t r 0 ≡ startOf e t r
+  pub cell-zero : (r : ℕ) → cellOf e t r 0 ≡ startOf e t r
   unfolding cellOf
   cell-zero r =
       ap (λ (x : ℕ). advanceBy (e .buffer) x (startOf e t r)) (v .none-yet r)
       ∙ advanceBy-zero (e .buffer) (startOf e t r) (start-lt r)
 
-  cell-suc : (r c : ℕ) → c < HT g → cellOf e t r (suc c) ≡ movesOn e r c (cellOf e t r c)
+  pub cell-suc : (r c : ℕ) → c < HT g → cellOf e t r (suc c) ≡ movesOn e r c (cellOf e t r c)
   unfolding cellOf movesOn
   cell-suc r c h = ap (λ (x : ℕ). advanceBy (e .buffer) x a) (v .one-more r c h) ∙ go (e .moves r c)
     where

@@ -1,6 +1,6 @@
 -- What callers use of a refusal: which test was passed where nothing is refused. Assumes nothing.
 use mathlib.Core.Path.{_≡_, refl, sym, ap, _∙_}
-use mathlib.Core.Bool.{Bool, true, false, true≢false}
+use mathlib.Core.Bool.{Bool, true, false, not, true≢false}
 use Rattle.lists.specs.Choice.{pick}
 use Rattle.refusal.specs.declared.Refusal.{Refusal}
 use Rattle.refusal.specs.declared.Refusal.the-variants.{Done, Version, Length, Size, Reserved, Porch, Width, Range, Room, Register, Command, Address}
@@ -24,6 +24,14 @@ done-is Address e = absurd (true≢false (sym e))
 pub passed : (t : Bool) (x r : Refusal) → doneOf x ≡ false → pick t x r ≡ Done → (t ≡ false) × (r ≡ Done)
 passed true x r q e = absurd (true≢false (sym (ap doneOf e) ∙ q))
 passed false x r q e = (refl, e)
+
+-- the same for another check's answer x, which is given where it refuses
+pub not-refused : (x r : Refusal) → pick (not (doneOf x)) x r ≡ Done → (x ≡ Done) × (r ≡ Done)
+not-refused x r e = go (doneOf x) refl e
+  where
+    go : (t : Bool) → doneOf x ≡ t → pick (not t) x r ≡ Done → (x ≡ Done) × (r ≡ Done)
+    go true d q = (done-is x d, q)
+    go false d q = absurd (true≢false (sym (ap doneOf q) ∙ d))
 
 -- the usual way into a call: r is what the check x gave, and t whether that is Done
 pub checked : {r x : Refusal} {t b : Bool} → r ≡ x → t ≡ doneOf r → t ≡ b → doneOf x ≡ b

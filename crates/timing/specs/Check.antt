@@ -1,19 +1,20 @@
 -- The page check of 01, and the size of an accepted page's picture.
 use Prim.Native.Nat.{ℕ, _*_, _/_, _%_}
-use mathlib.Core.Bool.{Bool, _||_}
+use mathlib.Core.Bool.{Bool, _||_, not}
 use mathlib.Core.List.{List, [], _∷_}
-use lib.Dec.{eqb, ltb}
+use lib.Dec.{eqb, ltb, leb}
 use Rattle.lists.specs.Choice.{pick, firstOf}
 use Rattle.units.specs.declared.Dots.{Dots}
 use Rattle.units.specs.declared.Lines.{Lines}
 use Rattle.units.specs.Units.{clocks, lines, dots, dotsOf}
 use Rattle.refusal.specs.declared.Refusal.{Refusal}
-use Rattle.refusal.specs.declared.Refusal.the-variants.{Done, Reserved, Porch, Width, Address}
+use Rattle.refusal.specs.declared.Refusal.the-variants.{Done, Size, Reserved, Porch, Width, Range, Room, Address}
 use Rattle.refusal.specs.Number.{doneOf}
 use Rattle.board.specs.declared.Page.{Page}
-use Rattle.board.specs.Range.{addressRefused}
-use Rattle.timing.specs.declared.Size.{Size}
-use Rattle.timing.specs.Fields.{ir, hfpOf, hactOf, rowsOf, linesOf}
+use Rattle.board.specs.declared.Board.{Board}
+use Rattle.board.specs.Range.{addressRefused, cellsRefused, pointerRefused}
+use Rattle.timing.specs.declared.Size.{Size as PageSize}
+use Rattle.timing.specs.Fields.{ir, hfpOf, hactOf, htOf, vtOf, visibleOf}
 
 -- 4: IR0[7] or IR1[7] set
 abbrev pub reservedRefused : List ℕ → Bool
@@ -38,12 +39,31 @@ pageCheck p =
     ∷ [])
     Done
 
-abbrev pub sized : Refusal → Lines → Dots → Size
+abbrev pub sized : Refusal → Lines → Dots → PageSize
 sized r l d = record { refusal = r; lines = l; dots = d }
 
 -- rows x lines visible lines of HACT x dots; zeros on a refusal
-unfoldable pub sizeOf : Page → Size
+unfoldable pub sizeOf : Page → PageSize
 sizeOf p =
     pick (doneOf (pageCheck p))
-    (sized (pageCheck p) (lines (rowsOf (p .irs) * linesOf (p .irs))) (dotsOf (clocks (hactOf (p .irs))) (p .video .dots)))
+    (sized (pageCheck p) (visibleOf (p .irs)) (dotsOf (clocks (hactOf (p .irs))) (p .video .dots)))
     (sized (pageCheck p) (lines 0) (dots 0))
+
+-- 7: a state's line, clock in the line, address, row start or IR pointer out of range
+unfoldable pub stateRefused : Board → Bool
+stateRefused b =
+    leb (vtOf (b .page .irs)) (b .place .line .0)
+    || leb (htOf (b .page .irs)) (b .place .clock .0)
+    || cellsRefused (b .place)
+    || pointerRefused (b .pointer)
+
+-- drawing, stepping, states and runs give 3, then the page's own 12, 4, 5, 6, then 7 for the state and for what is asked, then 8
+unfoldable pub callCheck : Board → (size asked room : Bool) → Refusal
+callCheck b size asked room =
+    firstOf
+    ((size, Size)
+    ∷ (not (doneOf (pageCheck (b .page))), pageCheck (b .page))
+    ∷ (stateRefused b || asked, Range)
+    ∷ (room, Room)
+    ∷ [])
+    Done

@@ -89,7 +89,10 @@ restOf irs = hactOf irs + hsyncOf irs + hbpOf irs
 abbrev pub hfpOf : List ℕ → ℕ
 hfpOf irs = htOf irs - restOf irs
 
--- lines per frame
+-- the lines that show a picture, and lines per frame
+abbrev pub visibleOf : List ℕ → Lines
+visibleOf irs = lines (rowsOf irs * linesOf irs)
+
 abbrev pub vtOf : List ℕ → ℕ
 vtOf irs = rowsOf irs * linesOf irs + vfpOf irs + vsyncOf (ir irs 7 / 64 % 4) + vbpOf irs
 

@@ -1,22 +1,24 @@
 -- What callers use of the definitions: bounds that hold of any registers, and what an accepted page gives. Assumes nothing.
 use Prim.Native.Nat.{ℕ, _+_, _*_, _/_, _%_, _≤_, _<_}
 use mathlib.Core.Path.{_≡_, refl}
-use mathlib.Core.Bool.{false, _||_}
+use mathlib.Core.Bool.{Bool, false, _||_, not}
 use mathlib.Core.List.{List}
 use native.Mathlib.Nat.{mul-le-mul}
 use native.Mathlib.Omega.{arith}
-use borrow.Author.Tests.{ltb-false, eqb-false}
-use lib.Dec.{eqb, ltb}
+use borrow.Author.Tests.{ltb-false, leb-false, eqb-false}
+use lib.Dec.{eqb, ltb, leb}
 use Rattle.lists.specs.Choice.{neither, pick-le}
 use Rattle.units.specs.Units.{clocksOf}
-use Rattle.refusal.specs.declared.Refusal.the-variants.{Done, Reserved, Porch, Width, Address}
-use Rattle.refusal.specs.Laws.{passed}
+use Rattle.refusal.specs.declared.Refusal.the-variants.{Done, Size, Reserved, Porch, Width, Range, Room, Address}
+use Rattle.refusal.specs.Number.{doneOf}
+use Rattle.refusal.specs.Laws.{passed, done-is, not-refused}
 use Rattle.raster.specs.Moves.{Bounded}
 use Rattle.raster.specs.Raster.{Good}
 use Rattle.board.specs.declared.Page.{Page}
-use Rattle.board.specs.Range.{startsRefused, addressRefused}
+use Rattle.board.specs.declared.Board.{Board}
+use Rattle.board.specs.Range.{startsRefused, addressRefused, cellsRefused, pointerRefused}
 use Rattle.timing.specs.Fields.{ir, linesOf, rowsOf, hactOf, htOf, hfpOf, vsyncOf, vtOf, bufferOf, shapeOf}
-use Rattle.timing.specs.Check.{reservedRefused, porchRefused, widthRefused, pageCheck}
+use Rattle.timing.specs.Check.{reservedRefused, porchRefused, widthRefused, pageCheck, stateRefused, callCheck}
 
 -- ---- any registers
 
@@ -113,3 +115,52 @@ pub dots-bound : (p : Page) → Accepted p → hactOf (p .irs) * p .video .dots 
 dots-bound p a =
     let h : hactOf (p .irs) ≤ 256 = omega arith in
     mul-le-mul h (a .most)
+
+-- ---- a call that is not refused
+
+pub record InRange (b : Board) : Type 0 where
+  pub line-lt : b .place .line .0 < vtOf (b .page .irs)
+  pub clock-lt : b .place .clock .0 < htOf (b .page .irs)
+  pub now-le : b .place .now .at ≤ 16383
+  pub kept-le : b .place .kept .at ≤ 16383
+  pub pointer-le : b .pointer ≤ 14
+
+pub in-range : (b : Board) → stateRefused b ≡ false → InRange b
+unfolding stateRefused
+in-range b e =
+    let l = leb (vtOf (b .page .irs)) (b .place .line .0) in
+    let k = leb (htOf (b .page .irs)) (b .place .clock .0) in
+    let d = neither (l || k || cellsRefused (b .place)) (pointerRefused (b .pointer)) e in
+    let c = neither (l || k) (cellsRefused (b .place)) (d .0) in
+    let a = neither l k (c .0) in
+    let n = neither (ltb 16383 (b .place .now .at)) (ltb 16383 (b .place .kept .at)) (c .1) in
+    record {
+      line-lt = leb-false _ _ (a .0);
+      clock-lt = leb-false _ _ (a .1);
+      now-le = ltb-false _ _ (n .0);
+      kept-le = ltb-false _ _ (n .1);
+      pointer-le = ltb-false _ _ (d .1);
+    }
+
+pub record Passed (b : Board) (size asked room : Bool) : Type 0 where
+  pub sized : size ≡ false
+  pub page : Accepted (b .page)
+  pub state : InRange b
+  pub in-reach : asked ≡ false
+  pub roomy : room ≡ false
+
+pub call-passed : (b : Board) (size asked room : Bool) → callCheck b size asked room ≡ Done → Passed b size asked room
+unfolding callCheck
+call-passed b size asked room e =
+    let s = passed size Size _ refl e in
+    let p = not-refused (pageCheck (b .page)) _ (s .1) in
+    let r = passed (stateRefused b || asked) Range _ refl (p .1) in
+    let o = passed room Room _ refl (r .1) in
+    let q = neither (stateRefused b) asked (r .0) in
+    record {
+      sized = s .0;
+      page = accepted (b .page) (p .0);
+      state = in-range b (q .0);
+      in-reach = q .1;
+      roomy = o .0;
+    }

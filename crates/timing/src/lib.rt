@@ -4,8 +4,8 @@ ghost use mathlib.Core.List.{[], _∷_};
 ghost use Prim.Native.Nat.{_-_, _*_, _≤_};
 ghost use Rattle.lists.specs.Choice.{firstOf};
 ghost use Rattle.refusal.specs.declared.Refusal.{Refusal};
-ghost use Rattle.timing.specs.Fields.{vsyncOf, timingOf, bufferOf, tableOf, cursorOf, underlineOf, blinkOf};
-ghost use Rattle.timing.specs.Check.{reservedRefused, porchRefused, widthRefused, pageCheck, sizeOf};
+ghost use Rattle.timing.specs.Fields.{vsyncOf, timingOf, visibleOf, bufferOf, tableOf, cursorOf, underlineOf, blinkOf};
+ghost use Rattle.timing.specs.Check.{reservedRefused, porchRefused, widthRefused, pageCheck, sizeOf, stateRefused, callCheck};
 
 // A line's and a frame's parts, and the counts that the beam goes by.
 pub struct Timing {
@@ -92,6 +92,16 @@ pub fn timing_of(irs: [u8; 15]) -> Timing
             rows: rows,
         },
     }
+}
+
+// The lines that show a picture.
+pub fn visible_of(irs: [u8; 15]) -> units::Lines
+    ensures { λ r. ⌜ r ≡ visibleOf irs ⌝ }
+{
+    units::Lines(visible(
+        irs[4] as u32 % 128 + 1,
+        irs[0] as u32 / 8 % 16 + 1,
+    ))
 }
 
 pub fn buffer_of(irs: [u8; 15]) -> raster::Buffer
@@ -195,7 +205,7 @@ pub fn page_size(p: board::Page) -> Size
         let hact = t.shape.hact;
         return Size {
             refusal: refused,
-            lines: units::Lines(visible(t.shape.rows, t.shape.lines.0)),
+            lines: visible_of(irs),
             dots: units::dots_of(hact, dots),
         };
     }
@@ -204,4 +214,43 @@ pub fn page_size(p: board::Page) -> Size
         lines: units::Lines(0),
         dots: units::Dots(0),
     }
+}
+
+// 7, for a board's own numbers.
+pub fn state_refused(b: board::Board) -> bool
+    ensures { λ r. ⌜ r ≡ stateRefused b ⌝ }
+{
+    let irs = b.page.irs;
+    let place = b.place;
+    let t = timing_of(irs);
+    (t.shape.vt.0 <= place.line.0)
+        | (t.shape.ht.0 <= place.clock.0)
+        | board::cells_refused(place)
+        | board::pointer_refused(b.pointer)
+}
+
+fn call_order(size: bool, refused: bool, page: refusal::Refusal, range: bool, room: bool) -> refusal::Refusal
+    ensures { λ r. ⌜ r ≡ firstOf ((size, Refusal.Size) ∷ (refused, page) ∷ (range, Refusal.Range) ∷ (room, Refusal.Room) ∷ []) Refusal.Done ⌝ }
+{
+    if size {
+        refusal::Refusal::Size
+    } else if refused {
+        page
+    } else if range {
+        refusal::Refusal::Range
+    } else if room {
+        refusal::Refusal::Room
+    } else {
+        refusal::Refusal::Done
+    }
+}
+
+// What drawing, stepping, states and runs ask: whether a lent part has a wrong size, what was asked for is out of range, the room is short.
+pub fn call_check(b: board::Board, size: bool, asked: bool, room: bool) -> refusal::Refusal
+    ensures { λ r. ⌜ r ≡ callCheck b size asked room ⌝ }
+{
+    let p = b.page;
+    let page = page_check(p);
+    let refused = !refusal::is_done(page);
+    call_order(size, refused, page, state_refused(b) | asked, room)
 }

@@ -10,17 +10,13 @@ use Rattle.timing.specs.Laws.{accepted, dots-bound}
 use Rattle.timing.proofs.page_size.Statement.{statement}
 use Rattle.timing.proofs.page_size.Tie as tie
 
-visible-requires : tie.Need-visible-requires
-unfolding timingOf shapeOf
-visible-requires c κs = rw (c .before .timing-of .ensures) (omega arith, omega arith)
-
 dots-of-requires : tie.Need-dots-of-requires
 unfolding timingOf shapeOf
 dots-of-requires c κs =
     let then = c .before .before .before .before .before in
     let p = then .before .before .before .args .p in
     let ok : pageCheck p ≡ Done
-    = done-is _ (checked (then .before .before .page-check .ensures) (then .before .is-done .ensures) (then .if1 .taken)) in
+        = done-is _ (checked (then .before .before .page-check .ensures) (then .before .is-done .ensures) (then .if1 .taken)) in
     rw (c .before .before .timing-of .ensures) (omega (arith, dots-bound p (accepted p ok)))
 
 returns : tie.Need-returns
@@ -30,7 +26,7 @@ returns c =
     let then = c .before .before .before .before .before .before in
     let check = then .before .before .page-check .ensures in
     stop _ (checked check (then .before .is-done .ensures) (then .if1 .taken))
-    (rw (check, c .before .visible .ensures .0, c .dots-of .ensures, t))
+    (rw (check, c .before .visible-of .ensures, c .dots-of .ensures, t))
 
 returns-2 : tie.Need-returns-2
 unfolding sizeOf
@@ -45,7 +41,7 @@ page-size-spec =
     (λ c κs. search needs)
     (λ c κs. search needs)
     (λ c κs. search needs)
-    visible-requires
+    (λ c κs. search needs)
     dots-of-requires
     returns
     returns-2)

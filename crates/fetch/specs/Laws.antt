@@ -1,0 +1,141 @@
+-- What callers use of the fetch: an accepted page's cells are the beam's, and a run is empty on a refusal and only there. Assumes nothing.
+use Prim.Native.Nat.{ℕ, suc, min, _+_, _-_, _*_, _^_, _≤_, _<_}
+use mathlib.Core.Path.{_≡_, refl, sym, ap, _∙_}
+use mathlib.Core.Bool.{Bool, true, false, not}
+use mathlib.Core.List.{List}
+use native.Mathlib.Nat.{mul-le-mul}
+use native.Mathlib.Omega.{arith}
+use borrow.Author.Tests.{leb-false, eqb-true, not-false}
+use lib.Dec.{eqb, leb}
+use lib.ListN.{length, take, drop, length-drop}
+use lib.Seq.{length-take-le}
+use Rattle.lists.specs.Choice.{pick}
+use Rattle.refusal.specs.declared.Refusal.{Refusal}
+use Rattle.refusal.specs.declared.Refusal.the-variants.{Done}
+use Rattle.refusal.specs.Number.{doneOf}
+use Rattle.refusal.specs.Laws.{done-is}
+use Rattle.raster.specs.Moves.{toLast, advanceBy, advanceBy-lt}
+use Rattle.raster.specs.Cells.{Fed, Tallied, startOf, cellOf, start-lt, cell-zero}
+use Rattle.board.specs.declared.Page.{Page}
+use Rattle.board.specs.declared.Board.{Board}
+use Rattle.timing.specs.Fields.{rowsOf, hactOf, tableOf, bufferOf, shapeOf}
+use Rattle.timing.specs.Laws.{Accepted, call-passed}
+use Rattle.timing.specs.Feed.{accepted-fed, accepted-tallied}
+use Rattle.fetch.specs.declared.Span.{Span}
+use Rattle.fetch.specs.Rows.{entryOf, feedIn, tallyIn, rowStart, cellAt}
+use Rattle.fetch.specs.Run.{runCheck, runCount, span, spanOf, runOf}
+
+pub entry-lt : (p : Page) (chars : List ℕ) (r : ℕ) → entryOf p chars r < 16384
+unfolding entryOf
+entry-lt p chars r = omega arith
+
+module _ (p : Page) (chars : List ℕ) (a : Accepted p) where
+  pub fed : Fed (feedIn p chars)
+  fed = accepted-fed p (entryOf p chars) a (entry-lt p chars)
+
+  pub tallied : Tallied (shapeOf (p .irs)) (feedIn p chars) (tallyIn p)
+  tallied = accepted-tallied p (entryOf p chars) a
+
+  pub row-start-lt : (r : ℕ) → rowStart p chars r < 16384
+  unfolding rowStart
+  row-start-lt r = start-lt (shapeOf (p .irs)) (feedIn p chars) (tallyIn p) fed tallied r
+
+  -- the first column fetches the row's start
+  pub first-column : (r : ℕ) → cellAt p chars r 0 ≡ rowStart p chars r
+  unfolding cellAt rowStart
+  first-column r = cell-zero (shapeOf (p .irs)) (feedIn p chars) (tallyIn p) fed tallied r
+
+pub cell-at-lt : (p : Page) (chars : List ℕ) (r c : ℕ) → cellAt p chars r c < 16384
+unfolding cellAt cellOf
+cell-at-lt p chars r c = advanceBy-lt (bufferOf (p .irs)) (tallyIn p .moved r c) (startOf (feedIn p chars) (tallyIn p) r)
+
+-- ---- the definitions as the code has them
+
+pub moves-fit : (p : Page) (r : ℕ) → r < 8192 → r * hactOf (p .irs) < 2 ^ 32
+moves-fit p r h =
+    let a : r ≤ 8192 = omega arith in
+    let b : hactOf (p .irs) ≤ 256 = omega arith in
+    omega (arith, mul-le-mul a b)
+
+module _ (p : Page) (chars : List ℕ) (r : ℕ) where
+  pub start-table : tableOf (p .irs) ≡ true → entryOf p chars r ≡ rowStart p chars r
+  unfolding rowStart startOf
+  start-table e = rw e
+
+  pub start-sheet : tableOf (p .irs) ≡ false → advanceBy (bufferOf (p .irs)) (r * hactOf (p .irs)) (p .starts .start1) ≡ rowStart p chars r
+  unfolding rowStart startOf shapeOf
+  start-sheet e = rw e
+
+  pub cell-moved : (c : ℕ) → advanceBy (bufferOf (p .irs)) (min c (hactOf (p .irs))) (rowStart p chars r) ≡ cellAt p chars r c
+  unfolding cellAt cellOf rowStart shapeOf
+  cell-moved c = refl
+
+-- ---- runs
+
+pub record Run (b : Board) (n row : ℕ) : Type 0 where
+  pub page : Accepted (b .page)
+  pub whole : n ≡ 16384
+  pub row-lt : row < rowsOf (b .page .irs)
+
+pub run-passed : (b : Board) (n row : ℕ) → runCheck b n row ≡ Done → Run b n row
+unfolding runCheck
+run-passed b n row e =
+    let k = call-passed b (not (eqb n 16384)) (leb (rowsOf (b .page .irs)) row) false e in
+    record { page = k .page; whole = eqb-true _ _ (not-false _ (k .sized)); row-lt = leb-false _ _ (k .in-reach) }
+
+count-some : (p : Page) (s : ℕ) → s < 16384 → 0 < runCount p s
+unfolding runCount
+count-some p s h = omega arith
+
+count-fits : (p : Page) (s : ℕ) → s < 16384 → s + runCount p s ≤ 16384
+unfolding runCount
+count-fits p s h = omega arith
+
+module _ (b : Board) (chars : List ℕ) (row : ℕ) where
+  -- the run lies in character memory
+  pub span-fits : spanOf b chars row .start + spanOf b chars row .count ≤ length chars
+  unfolding spanOf
+  span-fits = go (doneOf (runCheck b (length chars) row)) refl
+    where
+      go : (t : Bool) → doneOf (runCheck b (length chars) row) ≡ t → spanOf b chars row .start + spanOf b chars row .count ≤ length chars
+      go true q =
+          let k : Run b (length chars) row = run-passed b (length chars) row (done-is _ q) in
+          let l : rowStart (b .page) chars row < 16384 = row-start-lt (b .page) chars (k .page) row in
+          rw q (omega (arith, count-fits (b .page) (rowStart (b .page) chars row) l, k .whole))
+      go false q = rw q (omega arith)
+
+  -- the same, as the code has it
+  pub run-part : (s : Span) → s ≡ spanOf b chars row → take (s .start + s .count - s .start) (drop (s .start) chars) ≡ runOf b chars row
+  unfolding runOf
+  run-part s e =
+      let n : s .start + s .count - s .start ≡ s .count = omega arith in
+      rw (n, e)
+
+  pub span-number : (s : Span) → s ≡ spanOf b chars row → s .refusal ≡ runCheck b (length chars) row
+  unfolding spanOf
+  span-number s e = rw e (go (doneOf (runCheck b (length chars) row)))
+    where
+      x : Refusal
+      x = runCheck b (length chars) row
+      a : ℕ
+      a = rowStart (b .page) chars row
+      go : (t : Bool) → pick t (span x a (runCount (b .page) a)) (span x 0 0) .refusal ≡ x
+      go true = refl
+      go false = refl
+
+  counted : doneOf (runCheck b (length chars) row) ≡ true → rowStart (b .page) chars row < 16384 → 0 < spanOf b chars row .count
+  unfolding spanOf
+  counted e h = rw e (count-some (b .page) (rowStart (b .page) chars row) h)
+
+  -- a refusal shows an empty part, and nothing else does
+  pub run-refused : doneOf (runCheck b (length chars) row) ≡ false → length (runOf b chars row) ≡ 0
+  unfolding runOf spanOf
+  run-refused q = rw q
+
+  pub run-some : doneOf (runCheck b (length chars) row) ≡ true → 0 < length (runOf b chars row)
+  unfolding runOf
+  run-some q =
+      let k : Run b (length chars) row = run-passed b (length chars) row (done-is _ q) in
+      let l : rowStart (b .page) chars row < 16384 = row-start-lt (b .page) chars (k .page) row in
+      let room : spanOf b chars row .count ≤ length (drop (spanOf b chars row .start) chars) = rw length-drop (omega (arith, span-fits)) in
+      rw (length-take-le (spanOf b chars row .count) (drop (spanOf b chars row .start) chars) room) (counted q l)

@@ -1,0 +1,4 @@
+-- The row table, the cell at a column, and a row's first run.
+pub mod Rows
+pub mod Run
+pub mod Laws

@@ -1,0 +1,123 @@
+// Which cell is fetched: the row table, a row's start, the cell at a column, and a row's first run.
+ghost use mathlib.Core.Path.{_≡_};
+ghost use Prim.Native.Nat.{min, _<_, _≤_, _+_};
+ghost use lib.ListN.{length};
+ghost use Rattle.raster.specs.Moves.{cell};
+ghost use Rattle.refusal.specs.Number.{numberOf};
+ghost use Rattle.timing.specs.Laws.{Accepted};
+ghost use Rattle.fetch.specs.Rows.{entryOf, rowStart, cellAt};
+ghost use Rattle.fetch.specs.Run.{runCheck, runCount, spanOf, runOf};
+
+// A row's first run: from a cell on, so many.
+pub struct Span {
+    pub refusal: refusal::Refusal,
+    pub start: usize,
+    pub count: usize,
+}
+
+fn wide(x: u8) -> u16
+    ensures { λ r. ⌜ r ≡ x ⌝ }
+{
+    x as u16
+}
+
+fn least(a: u32, b: u32) -> u32
+    ensures { λ r. ⌜ r ≡ min a b ⌝ }
+{
+    if a < b { a } else { b }
+}
+
+// The row table's entry of a row.
+fn entry(p: board::Page, chars: &[u8], row: u32) -> raster::Cell
+    requires { ⌜ (length (now chars) ≡ 16384) × (row < 8192) ⌝ }
+    ensures { λ r. ⌜ r ≡ cell (entryOf p (now (chars .entry)) row) ⌝ }
+{
+    let start = p.starts.start2 as u32 + 2 * row;
+    let low = (start % 16384) as usize;
+    let high = ((start + 1) % 16384) as usize;
+    raster::Cell {
+        at: wide(chars[low]) % 256 + 256 * (wide(chars[high]) % 64),
+    }
+}
+
+// A row's start.
+pub fn row_start(p: board::Page, chars: &[u8], row: u32) -> raster::Cell
+    requires { ⌜ (length (now chars) ≡ 16384) × (row < 8192) ⌝ }
+    ensures { λ r. ⌜ r ≡ cell (rowStart p (now (chars .entry)) row) ⌝ }
+{
+    let irs = p.irs;
+    if timing::table_of(irs) {
+        return entry(p, chars, row);
+    }
+    let t = timing::timing_of(irs);
+    let moves = row * t.shape.hact.0;
+    let start = raster::Cell {
+        at: p.starts.start1,
+    };
+    raster::advance_by(timing::buffer_of(irs), moves, start)
+}
+
+// The cell at a column of a row, at once.
+pub fn cell_at(p: board::Page, chars: &[u8], row: u32, column: u32) -> raster::Cell
+    requires { ⌜ (length (now chars) ≡ 16384) × (row < 8192) ⌝ }
+    ensures { λ r. ⌜ r ≡ cell (cellAt p (now (chars .entry)) row column) ⌝ }
+{
+    let irs = p.irs;
+    let t = timing::timing_of(irs);
+    let moves = least(column, t.shape.hact.0);
+    let start = row_start(p, chars, row);
+    raster::advance_by(timing::buffer_of(irs), moves, start)
+}
+
+// How many cells from a row's start on stand side by side.
+fn run_count(p: board::Page, start: u16) -> u32
+    requires { ⌜ start < 16384 ⌝ }
+    ensures { λ r. ⌜ r ≡ runCount p start ⌝ }
+{
+    let irs = p.irs;
+    let t = timing::timing_of(irs);
+    let b = timing::buffer_of(irs);
+    let at = start as u32;
+    let to_last = (b.last as u32 + 16384 - at % 16384) % 16384;
+    least(t.shape.hact.0, least(to_last + 1, 16384 - at))
+}
+
+fn run_check(b: board::Board, n: usize, row: u32) -> refusal::Refusal
+    ensures { λ r. ⌜ r ≡ runCheck b n row ⌝ }
+{
+    let irs = b.page.irs;
+    let t = timing::timing_of(irs);
+    timing::call_check(b, n != 16384, t.shape.rows <= row, false)
+}
+
+pub fn span_of(b: board::Board, chars: &[u8], row: u32) -> Span
+    ensures { λ r. ⌜ (r ≡ spanOf b (now (chars .entry)) row) × (r .start + r .count ≤ length (now (chars .entry))) ⌝ }
+{
+    let page = b.page;
+    let refused = run_check(b, chars.len(), row);
+    if refusal::is_done(refused) {
+        let start = row_start(page, chars, row);
+        return Span {
+            refusal: refused,
+            start: start.at as usize,
+            count: run_count(page, start.at) as usize,
+        };
+    }
+    Span {
+        refusal: refused,
+        start: 0,
+        count: 0,
+    }
+}
+
+// A row's first run of cells, as a part of character memory; empty on a refusal, whose number is set beside it.
+pub fn row_run<'a>(b: board::Board, chars: &'a [u8], row: u32, refusal: &mut u32) -> &'a [u8]
+    ensures { λ r. ⌜ (now r ≡ runOf b (now (chars .entry)) row) × (now (refusal .exit) ≡ numberOf (runCheck b (length (now (chars .entry))) row)) ⌝ }
+{
+    let s = span_of(b, chars, row);
+    let refused = s.refusal;
+    *refusal = refusal::number(refused);
+    let from = s.start;
+    let to = from + s.count;
+    &chars[from..to]
+}

@@ -1,0 +1,33 @@
+use mathlib.Core.Path.{_∙_}
+use borrow.Author.Needs.{needs}
+use Rattle.shape.specs.Laws.{by-small}
+use Rattle.line.specs.Walk.{cellBy}
+use Rattle.line.proofs.put.Statement.{statement}
+use Rattle.line.proofs.put.Tie as tie
+
+draw-cell-requires : tie.Need-draw-cell-requires
+draw-cell-requires c κs =
+    let pre = c .before .before .before .before .before .before .before .before .before .pre in
+    (rw (c .before .word-by .ensures) (by-small _ _ _ _ _), pre .2, pre .3, pre .4)
+
+returns : tie.Need-returns
+unfolding cellBy
+returns c =
+    let drawn = c .before .before in
+    let word = drawn .before .before in
+    let look = word .before in
+    let attributes = look .before in
+    drawn .draw-cell .ensures
+    ∙ rw (word .word-by .ensures, look .look-of .ensures, attributes .effective-of .ensures, attributes .before .cursor-at .ensures)
+
+pub put-spec : {M : Type 1} → statement M
+put-spec =
+    tie.close
+    (tie.spec
+    (λ c κs. search needs)
+    (λ c κs. search needs)
+    (λ c κs. search needs)
+    (λ c κs. search needs)
+    draw-cell-requires
+    (λ c. search needs)
+    returns)

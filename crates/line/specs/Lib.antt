@@ -1,0 +1,3 @@
+-- A whole line.
+pub mod Line
+pub mod Walk

@@ -1,0 +1,186 @@
+-- The line as the drawer goes along it, and that this is the line of `Line.antt`. Assumes nothing.
+use Prim.Native.Nat.{ℕ, min, _+_, _*_, _/_, _%_, _≤_, _<_}
+use mathlib.Core.Path.{_≡_, refl, sym, ap, _∙_}
+use mathlib.Core.Bool.{Bool, true, false, _||_, not}
+use mathlib.Core.List.{List, _++_}
+use native.Mathlib.Nat.{div-lt-iff-lt-mul}
+use native.Mathlib.Numerals.{add-one}
+use native.Mathlib.Omega.{arith}
+use borrow.Author.Tests.{leb-false, ltb-false, eqb-true, not-false}
+use lib.ListN.{length, getD, drop}
+use lib.Dec.{eqb, ltb, leb}
+use Rattle.lists.specs.Choice.{neither}
+use Rattle.lists.specs.Join.{joined, same-joined}
+use Rattle.refusal.specs.declared.Refusal.the-variants.{Done}
+use Rattle.refusal.specs.Number.{doneOf}
+use Rattle.raster.specs.declared.Buffer.{Buffer}
+use Rattle.raster.specs.declared.Cell.{Cell}
+use Rattle.raster.specs.Moves.{cell, Bounded, advance, advanceBy, advanceBy-lt, advanceBy-zero, advanceBy-suc}
+use Rattle.board.specs.declared.Board.{Board}
+use Rattle.timing.specs.declared.Timing.{Timing}
+use Rattle.timing.specs.Fields.{hactOf, rowsOf, linesOf, visibleOf, bufferOf, timingOf, shapeOf}
+use Rattle.timing.specs.Laws.{Accepted, Passed, call-passed, buffer-bounded}
+use Rattle.fetch.specs.Rows.{rowStart, cellAt}
+use Rattle.fetch.specs.Laws.{cell-moved, row-start-lt}
+use Rattle.shape.specs.Font.{Font, Whole, fontRefused, positionOf, wordBy, wordOf}
+use Rattle.shape.specs.Laws.{font-whole, by-small}
+use Rattle.video.specs.Scene.{sceneOf, cursorAt}
+use Rattle.video.specs.Look.{effective, lookOf}
+use Rattle.video.specs.Cell.{cellDots}
+use Rattle.video.specs.Width.{length-cell}
+use Rattle.line.specs.declared.Walk.{Walk}
+use Rattle.line.specs.Line.{scanOf, dotsAt, columnDots, lineDots, lineLength, lentRefused, drawCheck, drawnOf}
+
+unfoldable pub walkOf : Board → (unshifted shifted : List ℕ) → (scan field : ℕ) → Walk
+walkOf b unshifted shifted scan field = record {
+  scene = sceneOf b scan field;
+  plain = positionOf unshifted scan;
+  moved = positionOf shifted scan;
+  buffer = bufferOf (b .page .irs);
+  width = b .page .video .dots .0;
+}
+
+-- one cell, from its code, its attribute byte and its address
+unfoldable pub cellBy : Walk → (words flags : List ℕ) → (code attr at : ℕ) → List ℕ
+cellBy w words flags code attr at =
+    cellDots (lookOf (w .scene) (effective attr) (cursorAt (w .scene) at)) (wordBy words flags (w .plain) (w .moved) code) (w .width)
+
+-- the cell c moves from the row's start
+unfoldable pub columnBy : Walk → (chars attrs words flags : List ℕ) → (start c : ℕ) → List ℕ
+columnBy w chars attrs words flags start c =
+    cellBy w words flags (getD chars (advanceBy (w .buffer) c start) 0) (getD attrs (advanceBy (w .buffer) c start) 0) (advanceBy (w .buffer) c start)
+
+pub record Ready (w : Walk) (chars attrs words flags : List ℕ) (start : ℕ) : Type 0 where
+  pub least : 6 ≤ w .width
+  pub most : w .width ≤ 12
+  pub chars-all : length chars ≡ 16384
+  pub attrs-all : length attrs ≡ 16384
+  pub words-all : length words ≡ 1152
+  pub flags-all : length flags ≡ 128
+  pub bounded : Bounded (w .buffer)
+  pub start-lt : start < 16384
+
+pub length-column : (w : Walk) (chars attrs words flags : List ℕ) (start : ℕ) → w .width ≤ 12
+    → (c : ℕ) → length (columnBy w chars attrs words flags start c) ≡ w .width
+unfolding columnBy cellBy
+length-column w chars attrs words flags start m c = length-cell _ _ (w .width) (by-small words flags (w .plain) (w .moved) _) m
+
+-- ---- a turn of the drawer's loop
+
+module _ (b : Buffer) (start c : ℕ) (x : Cell) (e : x ≡ cell (advanceBy b c start)) where
+  pub at-lt : x .at < 16384
+  at-lt = rw e (advanceBy-lt b c start)
+
+  pub moved-on : Bounded b → start < 16384 → (y : Cell) → y ≡ cell (advance b (x .at)) → y ≡ cell (advanceBy b (c + 1) start)
+  moved-on o h y q = q ∙ rw (e, add-one c) (ap cell (sym (advanceBy-suc b o c start h)))
+
+pub not-moved : (b : Buffer) (x : Cell) → x .at < 16384 → x ≡ cell (advanceBy b 0 (x .at))
+not-moved b x h = ap cell (sym (advanceBy-zero b (x .at) h))
+
+pub as-column : (w : Walk) (chars attrs words flags : List ℕ) (start c : ℕ) (x : Cell) (out rest : List ℕ) → x ≡ cell (advanceBy (w .buffer) c start)
+    → out ≡ cellBy w words flags (getD chars (x .at) 0) (getD attrs (x .at) 0) (x .at) ++ rest → out ≡ columnBy w chars attrs words flags start c ++ rest
+unfolding columnBy
+as-column w chars attrs words flags start c x out rest e q = rw e at q
+
+-- ---- the two lines agree
+
+module _ (b : Board) (chars attrs : List ℕ) (f : Font) (line field : ℕ) where
+  abbrev r : ℕ
+  r = line / linesOf (b .page .irs)
+
+  abbrev w : Walk
+  w = walkOf b (f .unshifted) (f .shifted) (scanOf (line % linesOf (b .page .irs))) field
+
+  same-column : (c : ℕ) → c < hactOf (b .page .irs)
+      → columnBy w chars attrs (f .words) (f .flags) (rowStart (b .page) chars r) c ≡ columnDots b chars attrs f line field c
+  unfolding columnBy cellBy columnDots dotsAt wordOf walkOf
+  same-column c h =
+      let k : min c (hactOf (b .page .irs)) ≡ c = omega arith in
+      rw (← cell-moved (b .page) chars (line / linesOf (b .page .irs)) c, k)
+
+  pub same-line : joined 0 (hactOf (b .page .irs)) (columnBy w chars attrs (f .words) (f .flags) (rowStart (b .page) chars r)) ≡ lineDots b chars attrs f line field
+  unfolding lineDots
+  same-line = same-joined 0 (hactOf (b .page .irs)) _ _ (λ c l u. same-column c (omega arith))
+
+-- ---- a call that is not refused
+
+pub record Drawn (b : Board) (chars attrs : List ℕ) (f : Font) (line room : ℕ) : Type 0 where
+  pub page : Accepted (b .page)
+  pub chars-all : length chars ≡ 16384
+  pub attrs-all : length attrs ≡ 16384
+  pub font : Whole f
+  pub row-lt : line / linesOf (b .page .irs) < rowsOf (b .page .irs)
+  pub roomy : lineLength b ≤ room
+
+pub draw-passed : (b : Board) (chars attrs : List ℕ) (f : Font) (line room : ℕ) → drawCheck b (lentRefused chars attrs f) line room ≡ Done
+    → Drawn b chars attrs f line room
+unfolding drawCheck
+draw-passed b chars attrs f line room e =
+    let k = call-passed b (lentRefused chars attrs f) (leb (visibleOf (b .page .irs) .0) line) (ltb room (lineLength b)) e in
+    let s = neither (not (eqb (length chars) 16384) || not (eqb (length attrs) 16384)) (fontRefused f) (k .sized) in
+    let m = neither (not (eqb (length chars) 16384)) (not (eqb (length attrs) 16384)) (s .0) in
+    let some : 0 < linesOf (b .page .irs) = omega arith in
+    record {
+      page = k .page;
+      chars-all = eqb-true _ _ (not-false _ (m .0));
+      attrs-all = eqb-true _ _ (not-false _ (m .1));
+      font = font-whole f (s .1);
+      row-lt = div-lt-iff-lt-mul some .1 (leb-false _ _ (k .in-reach));
+      roomy = ltb-false _ _ (k .roomy);
+    }
+
+-- what the drawer has worked out before it goes along the line: the counts, the line's constants, and the row's start
+pub record Prepared (b : Board) (chars unshifted shifted : List ℕ) (line field : ℕ) (t : Timing) (w : Walk) (start : Cell) : Type 0 where
+  pub timed : t ≡ timingOf (b .page .irs)
+  pub walked : w ≡ walkOf b unshifted shifted (line % t .shape .lines .0) field
+  pub started : start ≡ cell (rowStart (b .page) chars (line / t .shape .lines .0))
+
+pub lines-some : (t : Timing) (irs : List ℕ) → t ≡ timingOf irs → 0 < t .shape .lines .0
+unfolding timingOf shapeOf
+lines-some t irs e = rw e (omega arith)
+
+pub hact-le : (t : Timing) (irs : List ℕ) → t ≡ timingOf irs → t .shape .hact .0 ≤ 256
+unfolding timingOf shapeOf
+hact-le t irs e = rw e (omega arith)
+
+module _ (b : Board) (chars attrs : List ℕ) (f : Font) (line field : ℕ) (t : Timing) where
+  pub row-lt : {room : ℕ} → t ≡ timingOf (b .page .irs) → Drawn b chars attrs f line room → line / t .shape .lines .0 < 8192
+  unfolding timingOf shapeOf
+  row-lt e k = rw e (omega (arith, k .row-lt))
+
+  module _ (w : Walk) (start : Cell) (q : Prepared b chars (f .unshifted) (f .shifted) line field t w start) where
+    pub ready : {room : ℕ} → Drawn b chars attrs f line room → Ready w chars attrs (f .words) (f .flags) (start .at) × (t .shape .hact .0 * w .width ≤ room)
+    unfolding timingOf shapeOf walkOf
+    ready k =
+        rw (q .started, q .walked, q .timed)
+        (record {
+          least = k .page .least;
+          most = k .page .most;
+          chars-all = k .chars-all;
+          attrs-all = k .attrs-all;
+          words-all = k .font .words-all;
+          flags-all = k .font .flags-all;
+          bounded = buffer-bounded (b .page .irs);
+          start-lt = row-start-lt (b .page) chars (k .page) (line / linesOf (b .page .irs));
+        }
+        , k .roomy)
+
+    pub drawn : (out out₀ : List ℕ)
+        → out ≡ joined 0 (t .shape .hact .0) (columnBy w chars attrs (f .words) (f .flags) (start .at)) ++ drop (t .shape .hact .0 * w .width) out₀
+        → out ≡ lineDots b chars attrs f line field ++ drop (lineLength b) out₀
+    unfolding timingOf shapeOf walkOf
+    drawn out out₀ e =
+        (rw (q .started, q .walked, q .timed) at e)
+        ∙ ap (λ (l : List ℕ). l ++ drop (lineLength b) out₀) (same-line b chars attrs f line field)
+
+-- ---- what the call leaves
+
+module _ (b : Board) (chars attrs : List ℕ) (f : Font) (line field : ℕ) (out₀ : List ℕ) where
+  pub left-drawn : doneOf (drawCheck b (lentRefused chars attrs f) line (length out₀)) ≡ true
+      → (out : List ℕ) → out ≡ lineDots b chars attrs f line field ++ drop (lineLength b) out₀ → out ≡ drawnOf b chars attrs f line field out₀
+  unfolding drawnOf
+  left-drawn t out e = rw t e
+
+  pub left-alone : doneOf (drawCheck b (lentRefused chars attrs f) line (length out₀)) ≡ false → out₀ ≡ drawnOf b chars attrs f line field out₀
+  unfolding drawnOf
+  left-alone t = rw t

@@ -1,0 +1,52 @@
+-- Stretches put end to end, and the loop that lends each its own part of a buffer. Assumes nothing.
+--     joined                 f c, f (c + 1), .., n of them, end to end
+--     same-joined            stretches that agree one by one make the same list
+--     begins, turn, ends     the loop's proof, where every stretch is d long: what is left after c turns is `joined c (n - c) f`
+--     inside                 stretch c lies within the buffer
+use mathlib.Core.Path.{_≡_, refl, ap₂, _∙_}
+use mathlib.Core.List.{List, [], _++_}
+use Prim.Native.Nat.{ℕ, zero, suc, _+_, _*_, _-_, _≤_, _<_}
+use native.Mathlib.Nat.{zero-mul, add-mul, one-mul, sub-zero, mul-le-mul-right}
+use native.Mathlib.Numerals.{add-one}
+use native.Mathlib.Omega.{arith}
+use lib.ListN.{length, take, drop}
+use Rattle.lists.specs.Fill.{Filling, fill-start, fill-part, fill-end, lent}
+
+unfoldable pub joined : (from n : ℕ) → (ℕ → List ℕ) → List ℕ
+joined c zero f = []
+joined c (suc n) f = f c ++ joined (suc c) n f
+
+pub same-joined : (c n : ℕ) (f g : ℕ → List ℕ) → ((k : ℕ) → c ≤ k → k < c + n → f k ≡ g k) → joined c n f ≡ joined c n g
+unfolding joined
+same-joined c zero f g h = refl
+same-joined c (suc n) f g h =
+    ap₂ (λ (x y : List ℕ). x ++ y) (h c (omega arith) (omega arith))
+    (same-joined (suc c) n f g (λ k l u. h k (omega arith) (omega arith)))
+
+pub inside : (c n d m : ℕ) → c < n → n * d ≤ m → c * d + d ≤ m
+inside c n d m h k =
+    let l : c + 1 ≤ n = omega arith in
+    omega (arith, add-mul c 1 d, one-mul d, mul-le-mul-right d l)
+
+module _ (f : ℕ → List ℕ) (d : ℕ) (each : (c : ℕ) → length (f c) ≡ d) where
+  more : (c n : ℕ) → c < n → joined c (n - c) f ≡ f c ++ joined (c + 1) (n - (c + 1)) f
+  unfolding joined
+  more c n h = let e : n - c ≡ suc (n - (c + 1)) = omega arith in rw (e, add-one c)
+
+  none : (c n : ℕ) → n ≤ c → joined c (n - c) f ≡ []
+  unfolding joined
+  none c n h = let e : n - c ≡ 0 = omega arith in rw e
+
+  pub begins : (out : List ℕ) (n : ℕ) → Filling (joined 0 n f ++ drop (n * d) out) out (n * d) out (0 * d) (joined 0 (n - 0) f)
+  begins out n = rw (sub-zero, zero-mul) (fill-start out (n * d) (joined 0 n f))
+
+  pub turn : {final out₀ out : List ℕ} (ys : List ℕ) (c n : ℕ) → Filling final out₀ (n * d) out (c * d) (joined c (n - c) f)
+      → c < n → n * d ≤ length out₀ → ys ≡ f c ++ drop d (take (length out - c * d) (drop (c * d) out))
+      → Filling final out₀ (n * d) (take (c * d) out ++ (ys ++ drop (length out - c * d) (drop (c * d) out))) ((c + 1) * d) (joined (c + 1) (n - (c + 1)) f)
+  turn {out = out} ys c n g h l q =
+      let room : c * d + d ≤ length out = omega (arith, g .same, inside c n d _ h l) in
+      let next : (c + 1) * d ≡ c * d + d = omega (arith, add-mul c 1 d, one-mul d) in
+      rw (lent out ys (f c) (c * d) d room q, next) (fill-part (f c) d (each c) room (rw (more c n h) at g))
+
+  pub ends : {final out₀ out : List ℕ} (c n : ℕ) → Filling final out₀ (n * d) out (c * d) (joined c (n - c) f) → c ≤ n → n ≤ c → out ≡ final
+  ends c n g l h = let e : c ≡ n = omega arith in fill-end (rw (none c n h, e) at g)

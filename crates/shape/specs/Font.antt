@@ -1,0 +1,48 @@
+-- 01, "From cell to dots", the character (002): which font word a code shows on a scan line.
+use Prim.Native.Nat.{ℕ, suc, _+_, _*_, _%_}
+use mathlib.Core.Path.{_≡_}
+use mathlib.Core.Bool.{Bool, _||_, not}
+use mathlib.Core.List.{List, [], _∷_}
+use lib.ListN.{length, getD}
+use lib.Dec.{eqb, ltb}
+use Rattle.lists.specs.Choice.{pick}
+
+-- 128 characters by nine words, a shift flag for each character, and two lists of nine line numbers
+pub record Font : Type 0 where
+  pub words : List ℕ
+  pub flags : List ℕ
+  pub unshifted : List ℕ
+  pub shifted : List ℕ
+
+abbrev pub fontOf : List ℕ → List ℕ → List ℕ → List ℕ → Font
+fontOf words flags unshifted shifted = record { words = words; flags = flags; unshifted = unshifted; shifted = shifted }
+
+pub record Whole (f : Font) : Type 0 where
+  pub words-all : length (f .words) ≡ 1152
+  pub flags-all : length (f .flags) ≡ 128
+  pub unshifted-all : length (f .unshifted) ≡ 9
+  pub shifted-all : length (f .shifted) ≡ 9
+
+-- 3: a font part of wrong size
+abbrev pub fontRefused : Font → Bool
+fontRefused f =
+    not (eqb (length (f .words)) 1152) || not (eqb (length (f .flags)) 128) || not (eqb (length (f .unshifted)) 9)
+    || not (eqb (length (f .shifted)) 9)
+
+-- the first position in a list that equals the scan line (low four bits count), or the list's length where none does
+unfoldable pub positionOf : List ℕ → ℕ → ℕ
+positionOf [] scan = 0
+positionOf (x ∷ xs) scan = pick (eqb (x % 16) scan) 0 (suc (positionOf xs scan))
+
+-- the font word of a character at a position of nine (low ten bits count); zeros past the nine
+unfoldable pub wordAt : List ℕ → ℕ → ℕ → ℕ
+wordAt words character position = pick (ltb position 9) (getD words (character * 9 + position) 0 % 1024) 0
+
+-- CA7 = 0 gives zeros; a shift flag that is not 0 is shifted
+unfoldable pub wordBy : List ℕ → List ℕ → ℕ → ℕ → ℕ → ℕ
+wordBy words flags plain moved code =
+    pick (ltb code 128) 0 (wordAt words (code % 128) (pick (eqb (getD flags (code % 128) 0) 0) plain moved))
+
+-- the shift flag chooses a list; the first position in it that equals the scan line gives the font word
+unfoldable pub wordOf : Font → ℕ → ℕ → ℕ
+wordOf f code scan = wordBy (f .words) (f .flags) (positionOf (f .unshifted) scan) (positionOf (f .shifted) scan) code

@@ -1,0 +1,71 @@
+// The character generator (002): from a code, a scan line and the font to ten dots.
+ghost use mathlib.Core.Path.{_≡_};
+ghost use Prim.Native.Nat.{_<_};
+ghost use lib.ListN.{length};
+ghost use Rattle.shape.specs.Font.{fontOf, Whole, fontRefused, positionOf, wordAt, wordBy, wordOf};
+
+// The first position in a list of line numbers that equals the scan line, or the list's length. Four bits of a line number count.
+pub fn position(list: &[u8], scan: u32) -> usize
+    ensures { λ r. ⌜ r ≡ positionOf (now (list .entry)) scan ⌝ }
+{
+    let mut i = 0;
+    while i < list.len() {
+        if list[i] as u32 % 16 == scan {
+            return i;
+        }
+        i += 1;
+    }
+    i
+}
+
+// 3, for the four parts of a font.
+pub fn font_refused(words: &[u16], flags: &[u8], unshifted: &[u8], shifted: &[u8]) -> bool
+    ensures { λ r. ⌜ r ≡ fontRefused (fontOf (now (words .entry)) (now (flags .entry)) (now (unshifted .entry)) (now (shifted .entry))) ⌝ }
+{
+    (words.len() != 1152) | (flags.len() != 128) | (unshifted.len() != 9) | (shifted.len() != 9)
+}
+
+// The font word at a position of a character; past the nine there is none.
+fn word_at(words: &[u16], character: usize, position: usize) -> u16
+    requires { ⌜ (character < 128) × (length (now words) ≡ 1152) ⌝ }
+    ensures { λ r. ⌜ r ≡ wordAt (now (words .entry)) character position ⌝ }
+{
+    if position < 9 {
+        words[character * 9 + position] % 1024
+    } else {
+        0
+    }
+}
+
+// The word that a code shows, where its scan line stands at position plain of the unshifted list and at position moved of the shifted one.
+pub fn word_by(words: &[u16], flags: &[u8], plain: usize, moved: usize, code: u8) -> u16
+    requires { ⌜ (length (now words) ≡ 1152) × (length (now flags) ≡ 128) ⌝ }
+    ensures { λ r. ⌜ r ≡ wordBy (now (words .entry)) (now (flags .entry)) plain moved code ⌝ }
+{
+    if code < 128 {
+        return 0;
+    }
+    let character = (code % 128) as usize;
+    if flags[character] == 0 {
+        word_at(words, character, plain)
+    } else {
+        word_at(words, character, moved)
+    }
+}
+
+// The word that a code shows on a scan line.
+pub fn word_of(
+    code: u8,
+    scan: u32,
+    words: &[u16],
+    flags: &[u8],
+    unshifted: &[u8],
+    shifted: &[u8],
+) -> u16
+    requires { ⌜ Whole (fontOf (now words) (now flags) (now unshifted) (now shifted)) ⌝ }
+    ensures { λ r. ⌜ r ≡ wordOf (fontOf (now (words .entry)) (now (flags .entry)) (now (unshifted .entry)) (now (shifted .entry))) code scan ⌝ }
+{
+    let plain = position(unshifted, scan);
+    let moved = position(shifted, scan);
+    word_by(words, flags, plain, moved, code)
+}

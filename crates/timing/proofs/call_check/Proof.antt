@@ -1,0 +1,18 @@
+use borrow.Author.Needs.{needs}
+use Rattle.timing.specs.Check.{callCheck}
+use Rattle.timing.proofs.call_check.Statement.{statement}
+use Rattle.timing.proofs.call_check.Tie as tie
+
+returns : tie.Need-returns
+unfolding callCheck
+returns c = cc
+
+pub call-check-spec : {M : Type 1} → statement M
+call-check-spec =
+    tie.close
+    (tie.spec
+    (λ c κs. search needs)
+    (λ c κs. search needs)
+    (λ c κs. search needs)
+    (λ c κs. search needs)
+    returns)

@@ -1,0 +1,31 @@
+use native.Mathlib.Omega.{arith}
+use borrow.Author.Needs.{needs}
+use Rattle.timing.specs.Fields.{cursorOf}
+use Rattle.video.specs.Scene.{sceneOf}
+use Rattle.video.proofs.scene_of.Statement.{statement}
+use Rattle.video.proofs.scene_of.Tie as tie
+
+cursor-gate-requires : tie.Need-cursor-gate-requires
+unfolding cursorOf
+cursor-gate-requires c κs = rw (c .before .cursor-of .ensures) (omega arith)
+
+returns : tie.Need-returns
+unfolding sceneOf
+returns c = cc
+
+pub scene-of-spec : {M : Type 1} → statement M
+scene-of-spec =
+    tie.close
+    (tie.spec
+    (λ c κs. search needs)
+    (λ c κs. search needs)
+    (λ c κs. search needs)
+    (λ c κs. search needs)
+    (λ c κs. search needs)
+    (λ c κs. search needs)
+    (λ c κs. search needs)
+    (λ c. search needs)
+    (λ c κs. search needs)
+    (λ c κs. search needs)
+    cursor-gate-requires
+    returns)

@@ -1,0 +1,31 @@
+-- 01, "From cell to dots" (000): a cell's dots, six to twelve, D0 first.
+use Prim.Native.Nat.{ℕ, zero, suc, _/_, _%_}
+use mathlib.Core.Bool.{Bool}
+use mathlib.Core.List.{List, [], _∷_, _++_, map}
+use lib.ListN.{take, replicate}
+use lib.Dec.{eqb, ltb}
+use Rattle.lists.specs.Choice.{pick}
+use Rattle.video.specs.declared.Look.{Look}
+
+-- n bits of w, lowest first
+unfoldable pub bits : ℕ → ℕ → List ℕ
+bits zero w = []
+bits (suc n) w = (w % 2) ∷ bits n (w / 2)
+
+-- with 11 or 12 dots a zero before D0
+unfoldable pub lead : ℕ → List ℕ
+lead d = pick (ltb 10 d) (0 ∷ []) []
+
+-- d dots: D0 first, with 11 or 12 a zero before it, and with 12 a zero after D9
+unfoldable pub cellBits : ℕ → ℕ → List ℕ
+cellBits word d = take d (lead d ++ (bits 10 word ++ (0 ∷ [])))
+
+-- underline and strike light all dots of the cell, fillers too
+unfoldable pub litBits : Bool → ℕ → ℕ → List ℕ
+litBits lit word d = pick lit (replicate d 1) (cellBits word d)
+
+abbrev pub shadeOf : (symbol surround bit : ℕ) → ℕ
+shadeOf symbol surround bit = pick (eqb bit 0) surround symbol
+
+unfoldable pub cellDots : Look → ℕ → ℕ → List ℕ
+cellDots look word d = map (shadeOf (look .symbol) (look .surround)) (litBits (look .lit) word d)

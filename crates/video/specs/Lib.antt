@@ -1,0 +1,8 @@
+-- Levels, the look of a cell, and its dots.
+pub mod Levels
+pub mod Scene
+pub mod Look
+pub mod Cell
+pub mod Stores
+pub mod Width
+pub mod Flat

@@ -1,0 +1,42 @@
+-- 01, "From cell to dots": what is the same for all cells of a scan line. BLINK and the underline line are signals of a line in 003 too (DADD11, DADD10).
+use Prim.Native.Nat.{ℕ, _+_, _*_, _/_, _%_}
+use mathlib.Core.Bool.{Bool, _&&_, _||_, not}
+use lib.Dec.{eqb, ltb, leb}
+use Rattle.board.specs.declared.Board.{Board}
+use Rattle.timing.specs.declared.CursorLook.{CursorLook}
+use Rattle.timing.specs.Fields.{cursorOf, underlineOf, blinkOf}
+use Rattle.video.specs.declared.Scene.{Scene}
+use Rattle.video.specs.Levels.{blankLevel}
+
+-- the switch of a weight: display 1, cursor 2, BKGND 4, RBLANK 8
+abbrev pub switchOf : ℕ → ℕ → Bool
+switchOf switches weight = eqb (switches / weight % 2) 1
+
+-- the display counts as off where its switch is off or the board is not active
+abbrev pub displayed : Board → Bool
+displayed b = switchOf (b .page .switches) 1 && leb 2 (b .resets)
+
+-- BLINK is high in the fourth quarter of its period
+abbrev pub blinkAt : (period field : ℕ) → Bool
+blinkAt period field = leb (3 * (period / 4)) (field % period)
+
+-- cursor on, scan line from first to last cursor line, and, if it blinks, the first half of its period
+abbrev pub cursorGate : CursorLook → Bool → (scan field : ℕ) → Bool
+cursorGate k on scan field =
+    on && leb (k .first .0) scan && leb scan (k .last .0) && (not (k .blinks) || ltb (field % k .period) (k .period / 2))
+
+unfoldable pub sceneOf : Board → (scan field : ℕ) → Scene
+sceneOf b scan field = record {
+  shown = displayed b;
+  blank = blankLevel (switchOf (b .page .switches) 8) (switchOf (b .page .switches) 4);
+  bkgnd = switchOf (b .page .switches) 4;
+  blink = blinkAt (blinkOf (b .page .irs)) field;
+  underline = eqb scan (underlineOf (b .page .irs) .0);
+  strike = eqb scan (b .page .video .strike);
+  gate = cursorGate (cursorOf (b .page .irs)) (switchOf (b .page .switches) 2) scan field;
+  cursor = b .page .starts .cursor;
+}
+
+-- the cursor gate is open, and the fetched address equals the cursor address
+abbrev pub cursorAt : Scene → ℕ → Bool
+cursorAt s address = s .gate && eqb address (s .cursor)

@@ -1,0 +1,218 @@
+// The attributes controller (000): from a cell's attributes, the cursor gate and a font word to black, gray and white dots.
+ghost use mathlib.Core.Path.{_≡_};
+ghost use mathlib.Core.Bool.{Bool, xor};
+ghost use mathlib.Core.List.{_++_};
+ghost use Prim.Native.Nat.{_≤_, _<_};
+ghost use lib.ListN.{length, drop};
+ghost use Rattle.video.specs.Levels.{blankLevel, symbolLevel, surroundLevel};
+ghost use Rattle.video.specs.Scene.{switchOf, displayed, blinkAt, cursorGate, sceneOf, cursorAt};
+ghost use Rattle.video.specs.Look.{attribute, effective, nonDisplay, litOf, lookOf};
+ghost use Rattle.video.specs.Cell.{shadeOf, cellDots};
+ghost use Rattle.video.specs.Stores.{wideOf, putIf, puts};
+
+// What is the same for all cells of a scan line: whether the picture is shown, the blank level, BKGND, BLINK, whether this is the
+// underline line and the strike line, whether the cursor gate opens on this line, and at which address.
+pub struct Scene {
+    pub shown: bool,
+    pub blank: u8,
+    pub bkgnd: bool,
+    pub blink: bool,
+    pub underline: bool,
+    pub strike: bool,
+    pub gate: bool,
+    pub cursor: u16,
+}
+
+// A cell's two levels, and whether a line lights all its dots.
+pub struct Look {
+    pub lit: bool,
+    pub symbol: u8,
+    pub surround: u8,
+}
+
+// The switch of a weight: display 1, cursor 2, BKGND 4, RBLANK 8.
+fn switch(switches: u8, weight: u8) -> bool
+    requires { ⌜ 0 < weight ⌝ }
+    ensures { λ r. ⌜ r ≡ switchOf switches weight ⌝ }
+{
+    switches / weight % 2 == 1
+}
+
+// High in the fourth quarter of the period.
+pub fn blink_at(period: u32, field: u8) -> bool
+    requires { ⌜ (0 < period) × (period ≤ 128) ⌝ }
+    ensures { λ r. ⌜ r ≡ blinkAt period field ⌝ }
+{
+    3 * (period / 4) <= field as u32 % period
+}
+
+// Whether the cursor may show on a scan line of a field.
+pub fn cursor_gate(k: timing::CursorLook, on: bool, scan: u32, field: u8) -> bool
+    requires { ⌜ 0 < k .period ⌝ }
+    ensures { λ r. ⌜ r ≡ cursorGate k on scan field ⌝ }
+{
+    let half = (field as u32 % k.period) < k.period / 2;
+    on & (k.first.0 <= scan) & (scan <= k.last.0) & (!k.blinks | half)
+}
+
+// The level while BLANK is high.
+pub fn blank_level(rblank: bool, bkgnd: bool) -> u8
+    ensures { λ r. ⌜ r ≡ blankLevel rblank bkgnd ⌝ }
+{
+    if rblank {
+        0
+    } else if bkgnd {
+        1
+    } else {
+        0
+    }
+}
+
+pub fn scene_of(b: board::Board, scan: u32, field: u8) -> Scene
+    ensures { λ r. ⌜ r ≡ sceneOf b scan field ⌝ }
+{
+    let irs = b.page.irs;
+    let s = b.page.switches;
+    let bkgnd = switch(s, 4);
+    let underline = timing::underline_of(irs);
+    Scene {
+        shown: switch(s, 1) & (2 <= b.resets),
+        blank: blank_level(switch(s, 8), bkgnd),
+        bkgnd: bkgnd,
+        blink: blink_at(timing::blink_of(irs), field),
+        underline: scan == underline.0,
+        strike: scan == b.page.video.strike as u32,
+        gate: cursor_gate(timing::cursor_of(irs), switch(s, 2), scan, field),
+        cursor: b.page.starts.cursor,
+    }
+}
+
+// CURSOR at a fetched address.
+pub fn cursor_at(s: Scene, at: u16) -> bool
+    ensures { λ r. ⌜ r ≡ cursorAt s at ⌝ }
+{
+    s.gate & (at == s.cursor)
+}
+
+// The attribute of a weight: reverse 1, blank 2, blink 4, underline 8, highlight 16, strike 32.
+fn has(attributes: u8, weight: u8) -> bool
+    requires { ⌜ 0 < weight ⌝ }
+    ensures { λ r. ⌜ r ≡ attribute attributes weight ⌝ }
+{
+    attributes / weight % 2 == 1
+}
+
+// With AFLG 0 the cell has no attributes.
+pub fn effective_of(byte: u8) -> u8
+    ensures { λ r. ⌜ r ≡ effective byte ⌝ }
+{
+    if byte < 128 { 0 } else { byte }
+}
+
+fn exclusive(a: bool, b: bool) -> bool
+    ensures { λ r. ⌜ r ≡ xor a b ⌝ }
+{
+    a ^ b
+}
+
+// T: white if highlighted, else gray; the surround is black, or T where E holds.
+pub fn surround_level(e: bool, highlight: bool) -> u8
+    ensures { λ r. ⌜ r ≡ surroundLevel e highlight ⌝ }
+{
+    if e {
+        if highlight { 2 } else { 1 }
+    } else {
+        0
+    }
+}
+
+pub fn symbol_level(e: bool, highlight: bool, hidden: bool) -> u8
+    ensures { λ r. ⌜ r ≡ symbolLevel e highlight hidden ⌝ }
+{
+    if hidden {
+        return surround_level(e, highlight);
+    }
+    surround_level(!e, highlight)
+}
+
+// The look of a cell from its effective attributes and CURSOR.
+pub fn look_of(s: Scene, attributes: u8, cursor: bool) -> Look
+    ensures { λ r. ⌜ r ≡ lookOf s attributes cursor ⌝ }
+{
+    if !s.shown {
+        return Look {
+            lit: false,
+            symbol: s.blank,
+            surround: s.blank,
+        };
+    }
+    let highlight = has(attributes, 16);
+    let hidden = has(attributes, 2) | (has(attributes, 4) & s.blink);
+    let e = exclusive(s.bkgnd, exclusive(has(attributes, 1), cursor));
+    Look {
+        lit: (has(attributes, 8) & s.underline) | (has(attributes, 32) & s.strike),
+        symbol: symbol_level(e, highlight, hidden),
+        surround: surround_level(e, highlight),
+    }
+}
+
+fn shade(symbol: u8, surround: u8, bit: u16) -> u8
+    ensures { λ r. ⌜ r ≡ shadeOf symbol surround bit ⌝ }
+{
+    if bit == 0 { surround } else { symbol }
+}
+
+// The number whose low d bits are the cell's dots.
+fn wide(lit: bool, word: u16, d: usize) -> u16
+    requires { ⌜ word < 1024 ⌝ }
+    ensures { λ r. ⌜ r ≡ wideOf lit word d ⌝ }
+{
+    if lit {
+        return 4095;
+    }
+    if 10 < d { 2 * word } else { word }
+}
+
+// One dot at k, where the cell is that wide.
+fn dot(out: &mut [u8], k: usize, d: usize, symbol: u8, surround: u8, bit: u16)
+    requires { ⌜ d ≤ length (now out) ⌝ }
+    ensures { λ _. ⌜ now (out .exit) ≡ putIf (now (out .entry)) k d (shadeOf symbol surround bit) ⌝ }
+{
+    if k < d {
+        out[k] = shade(symbol, surround, bit);
+    }
+}
+
+// The first six dots, which every cell has.
+fn six(out: &mut [u8], d: usize, symbol: u8, surround: u8, w: u16)
+    requires { ⌜ (6 ≤ d) × (d ≤ length (now out)) ⌝ }
+    ensures { λ _. ⌜ now (out .exit) ≡ puts d symbol surround 6 (now (out .entry)) 0 w ⌝ }
+{
+    out[0] = shade(symbol, surround, w % 2);
+    out[1] = shade(symbol, surround, w / 2 % 2);
+    out[2] = shade(symbol, surround, w / 4 % 2);
+    out[3] = shade(symbol, surround, w / 8 % 2);
+    out[4] = shade(symbol, surround, w / 16 % 2);
+    out[5] = shade(symbol, surround, w / 32 % 2);
+}
+
+// Three dots at k and on, of those that the cell has.
+fn three(out: &mut [u8], k: usize, d: usize, symbol: u8, surround: u8, w: u16)
+    requires { ⌜ (k ≤ 9) × (d ≤ length (now out)) ⌝ }
+    ensures { λ _. ⌜ now (out .exit) ≡ puts d symbol surround 3 (now (out .entry)) k w ⌝ }
+{
+    dot(out, k, d, symbol, surround, w % 2);
+    dot(out, k + 1, d, symbol, surround, w / 2 % 2);
+    dot(out, k + 2, d, symbol, surround, w / 4 % 2);
+}
+
+// Writes a cell's dots to the front of the part it is lent.
+pub fn draw_cell(out: &mut [u8], look: Look, word: u16, d: usize)
+    requires { ⌜ (word < 1024) × (6 ≤ d) × (d ≤ 12) × (d ≤ length (now out)) ⌝ }
+    ensures { λ _. ⌜ now (out .exit) ≡ cellDots look word d ++ drop d (now (out .entry)) ⌝ }
+{
+    let w = wide(look.lit, word, d);
+    six(out, d, look.symbol, look.surround, w);
+    three(out, 6, d, look.symbol, look.surround, w / 64);
+    three(out, 9, d, look.symbol, look.surround, w / 512);
+}
