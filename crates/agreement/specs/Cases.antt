@@ -1,27 +1,33 @@
 -- 01, "Numbers on both sides": the worked cases, one table and one theorem. Assumes nothing.
 use Prim.Native.Nat.{ℕ, zero, suc, _+_, _-_, _*_, _/_, _%_}
 use mathlib.Core.Path.{_≡_, refl}
-use mathlib.Core.Bool.{Bool, true, false, _&&_}
+use mathlib.Core.Bool.{Bool, true, false, _&&_, xor}
 use mathlib.Core.List.{List, [], _∷_}
 use lib.Dec.{eqb}
-use Rattle.units.specs.Units.{dots, clocksOf}
+use Rattle.units.specs.Units.{clocksOf}
 use Rattle.refusal.specs.Number.{numberOf}
 use Rattle.raster.specs.Moves.{advance, advanceBy, toLast, around}
-use Rattle.raster.specs.Cells.{startOf, cellOf, tallyOf}
+use Rattle.raster.specs.Cells.{startOf, cellOf}
 use Rattle.board.specs.declared.Page.{Page}
+use Rattle.board.specs.declared.Board.{Board}
+use Rattle.board.specs.State.{clockZero}
 use Rattle.board.specs.Range.{addressRefused}
-use Rattle.timing.specs.Fields.{htOf, hfpOf, vtOf, bufferOf, shapeOf}
+use Rattle.timing.specs.Fields.{htOf, hfpOf, vtOf, bufferOf, cursorOf, shapeOf}
 use Rattle.timing.specs.Check.{pageCheck}
-use Rattle.timing.specs.Feed.{feedOf}
+use Rattle.fetch.specs.Rows.{rowStart, cellAt}
+use Rattle.video.specs.declared.Look.{Look}
+use Rattle.video.specs.Scene.{sceneOf}
+use Rattle.video.specs.Look.{effective, lookOf}
+use Rattle.video.specs.Cell.{bits, lead, cellBits, litBits, cellDots}
 
--- HSYNC 8 and HBP 7, 24 rows of 10 lines, VFP 4, VSYNC 3, VBP 20; EC, HACT, the buffer and screen start 1 as given
-pub page : (ec hact first last start1 : ℕ) → Page
-page ec hact first last start1 = record {
+-- HSYNC 8 and HBP 7, 24 rows of 10 lines, VFP 4, VSYNC 3, VBP 20, display on, 8 dots; EC, HACT, the buffer, screen start 1 and BKGND as given
+pub page : (ec hact first last start1 bkgnd : ℕ) → Page
+page ec hact first last start1 bkgnd = record {
   irs =
       72 ∷ (ec - 1) ∷ 26 ∷ 8 ∷ 23 ∷ (hact - 1) ∷ 0 ∷ 0 ∷ (first % 256) ∷ (16 * (last / 1024) + first / 256) ∷ 0 ∷ 0 ∷ 0 ∷ 0 ∷ 0 ∷ [];
   starts = record { start1 = start1; cursor = 0; start2 = 0 };
-  switches = 1;
-  video = record { dots = dots 8; strike = 0 };
+  switches = 1 + 4 * bkgnd;
+  video = record { dots = record { 0 = 8 }; strike = 0 };
 }
 
 pub data Fact : Type 0 where
@@ -32,15 +38,35 @@ pub data Fact : Type 0 where
   columns : (row count from : ℕ) → Fact
   row : (row address : ℕ) → Fact
   after : (address next : ℕ) → Fact
+  dots : (word width : ℕ) → List ℕ → Fact
+  levels : (attributes symbol surround : ℕ) → Fact
+
+-- the page on an active board at clock 0
+pub board : Page → Board
+board p = record { page = p; place = clockZero; pointer = 0; resets = 2 }
 
 -- the address that a column of a row fetches, with the row table off
 pub fetched : Page → ℕ → ℕ → ℕ
-fetched p r c = cellOf (feedOf p (λ _. 0)) (tallyOf (shapeOf (p .irs))) r c
+fetched p r c = cellAt p [] r c
 
 -- columns 0 to n - 1 of row r fetch a, a + 1, ..
 pub run : Page → ℕ → ℕ → ℕ → Bool
 run p r zero a = true
 run p r (suc n) a = eqb (fetched p r n) (a + n) && run p r n a
+
+pub same : List ℕ → List ℕ → Bool
+same [] [] = true
+same [] (y ∷ ys) = false
+same (x ∷ xs) [] = false
+same (x ∷ xs) (y ∷ ys) = eqb x y && same xs ys
+
+-- a lit dot as 1, any other as 0
+pub ones : Look
+ones = record { lit = false; symbol = 1; surround = 0 }
+
+-- the look of a cell with AFLG and these attributes, away from cursor, underline line and strike line
+pub look : Page → ℕ → Look
+look p a = lookOf (sceneOf (board p) 1 0) (effective (128 + a)) false
 
 pub holds : Page → Fact → Bool
 holds p (HT n) = eqb (htOf (p .irs)) n
@@ -50,8 +76,10 @@ holds p (frame n) = eqb ((clocksOf (shapeOf (p .irs) .vt) (shapeOf (p .irs) .ht)
 holds p (answers n) = eqb (numberOf (pageCheck p)) n
 holds p (column r c a) = eqb (fetched p r c) a
 holds p (columns r n a) = run p r n a
-holds p (row r a) = eqb (startOf (feedOf p (λ _. 0)) (tallyOf (shapeOf (p .irs))) r) a
+holds p (row r a) = eqb (rowStart p [] r) a
 holds p (after a b) = eqb (advance (bufferOf (p .irs)) a) b
+holds p (dots w d l) = same (cellDots ones w d) l
+holds p (levels a x y) = eqb (look p a .symbol) x && eqb (look p a .surround) y
 
 pub record Case : Type 0 where
   pub given : Page
@@ -68,21 +96,31 @@ all (k ∷ ks) = true-of (k .given) (k .facts) && all ks
 pub cases : List Case
 cases =
     -- A1, A5
-    record { given = page 35 80 0 16383 0; facts = HT 102 ∷ HFP 7 ∷ answers 0 ∷ VT 267 ∷ frame 27234 ∷ [] }
+    record { given = page 35 80 0 16383 0 0; facts = HT 102 ∷ HFP 7 ∷ answers 0 ∷ VT 267 ∷ frame 27234 ∷ [] }
     -- A2
-    ∷ record { given = page 32 80 0 16383 0; facts = HFP 1 ∷ answers 5 ∷ [] }
+    ∷ record { given = page 32 80 0 16383 0 0; facts = HFP 1 ∷ answers 5 ∷ [] }
     -- A3
-    ∷ record { given = page 33 80 0 16383 0; facts = HFP 3 ∷ answers 0 ∷ [] }
+    ∷ record { given = page 33 80 0 16383 0 0; facts = HFP 3 ∷ answers 0 ∷ [] }
     -- A4
-    ∷ record { given = page 33 81 0 16383 0; facts = HFP 2 ∷ answers 0 ∷ [] }
+    ∷ record { given = page 33 81 0 16383 0 0; facts = HFP 2 ∷ answers 0 ∷ [] }
     -- A6
-    ∷ record { given = page 35 80 0 1023 1000; facts = column 0 23 1023 ∷ column 0 24 0 ∷ row 1 56 ∷ [] }
+    ∷ record { given = page 35 80 0 1023 1000 0; facts = column 0 23 1023 ∷ column 0 24 0 ∷ row 1 56 ∷ [] }
     -- A7
-    ∷ record { given = page 35 80 2048 3071 0; facts = columns 0 80 0 ∷ [] }
+    ∷ record { given = page 35 80 2048 3071 0 0; facts = columns 0 80 0 ∷ [] }
     -- A8
-    ∷ record { given = page 35 80 4095 1023 0; facts = after 16383 0 ∷ after 1023 4095 ∷ [] }
+    ∷ record { given = page 35 80 4095 1023 0 0; facts = after 16383 0 ∷ after 1023 4095 ∷ [] }
+    -- A9
+    ∷ record {
+      given = page 35 80 0 16383 0 0;
+      facts =
+          dots 0x041 12 (0 ∷ 1 ∷ 0 ∷ 0 ∷ 0 ∷ 0 ∷ 0 ∷ 1 ∷ 0 ∷ 0 ∷ 0 ∷ 0 ∷ [])
+          ∷ dots 0x041 8 (1 ∷ 0 ∷ 0 ∷ 0 ∷ 0 ∷ 0 ∷ 1 ∷ 0 ∷ [])
+          ∷ [];
+    }
+    -- A10: reverse and highlight
+    ∷ record { given = page 35 80 0 16383 0 1; facts = levels (1 + 16) 2 0 ∷ [] }
     ∷ []
 
 pub worked : all cases ≡ true
-unfolding all cases true-of holds run fetched page pageCheck addressRefused shapeOf bufferOf startOf cellOf advance advanceBy toLast around
+unfolding all cases true-of holds run fetched page board same ones look pageCheck addressRefused shapeOf bufferOf cursorOf rowStart cellAt startOf cellOf advance advanceBy toLast around sceneOf lookOf cellDots litBits cellBits lead bits xor
 worked = refl

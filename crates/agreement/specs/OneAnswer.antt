@@ -3,7 +3,8 @@ use Prim.Native.Nat.{ℕ}
 use mathlib.Core.Path.{_≡_}
 use mathlib.Core.Bool.{Bool}
 use mathlib.Core.List.{List}
-use Rattle.lists.specs.Answer.{OneAnswer, only}
+use lib.ListN.{length}
+use Rattle.lists.specs.Answer.{OneAnswer, only, only-both}
 use Rattle.units.specs.declared.Dots.{Dots}
 use Rattle.refusal.specs.declared.Refusal.{Refusal}
 use Rattle.refusal.specs.Number.{numberOf, doneOf}
@@ -16,8 +17,15 @@ use Rattle.board.specs.declared.Place.{Place}
 use Rattle.board.specs.declared.Board.{Board}
 use Rattle.board.specs.State.{clockZero, powerOf}
 use Rattle.board.specs.Range.{startsRefused, addressRefused, cellsRefused, pointerRefused}
-use Rattle.timing.specs.Fields.{timingOf, bufferOf, tableOf, cursorOf, underlineOf, blinkOf}
-use Rattle.timing.specs.Check.{reservedRefused, porchRefused, widthRefused, pageCheck, sizeOf}
+use Rattle.timing.specs.Fields.{timingOf, visibleOf, bufferOf, tableOf, cursorOf, underlineOf, blinkOf}
+use Rattle.timing.specs.Check.{reservedRefused, porchRefused, widthRefused, pageCheck, sizeOf, stateRefused, callCheck}
+use Rattle.fetch.specs.Run.{runCheck, spanOf, runOf}
+use Rattle.shape.specs.Font.{Font, fontRefused, positionOf}
+use Rattle.video.specs.declared.Scene.{Scene}
+use Rattle.video.specs.Levels.{blankLevel, symbolLevel, surroundLevel}
+use Rattle.video.specs.Scene.{sceneOf, cursorAt}
+use Rattle.video.specs.Look.{effective, lookOf}
+use Rattle.line.specs.Line.{lentRefused, drawCheck, drawnOf}
 use Rattle.registers.specs.Write.{writeOf}
 use Rattle.registers.specs.Read.{readOf}
 use Rattle.registers.specs.Video.{setVideoOf}
@@ -41,6 +49,16 @@ page-check-one p = only (pageCheck p)
 
 pub page-size-one : (p : Page) → OneAnswer (λ r. r ≡ sizeOf p)
 page-size-one p = only (sizeOf p)
+
+-- the number and the part
+pub row-run-one : (b : Board) (chars : List ℕ) (row : ℕ) → OneAnswer (λ (r : List ℕ × ℕ). (r .0 ≡ runOf b chars row) × (r .1 ≡ numberOf (runCheck b (length chars) row)))
+row-run-one b chars row = only-both (runOf b chars row) (numberOf (runCheck b (length chars) row))
+
+-- the refusal and the buffer
+pub draw-line-one : (b : Board) (chars attrs : List ℕ) (f : Font) (line field : ℕ) (out : List ℕ)
+    → OneAnswer (λ (r : Refusal × List ℕ). (r .0 ≡ drawCheck b (lentRefused chars attrs f) line (length out)) × (r .1 ≡ drawnOf b chars attrs f line field out))
+draw-line-one b chars attrs f line field out =
+    only-both (drawCheck b (lentRefused chars attrs f) line (length out)) (drawnOf b chars attrs f line field out)
 
 -- ---- the functions below them
 
@@ -97,3 +115,45 @@ porch-refused-one irs = only (porchRefused irs)
 
 pub width-refused-one : (d : Dots) → OneAnswer (λ r. r ≡ widthRefused d)
 width-refused-one d = only (widthRefused d)
+
+pub visible-of-one : (irs : List ℕ) → OneAnswer (λ r. r ≡ visibleOf irs)
+visible-of-one irs = only (visibleOf irs)
+
+pub state-refused-one : (b : Board) → OneAnswer (λ r. r ≡ stateRefused b)
+state-refused-one b = only (stateRefused b)
+
+pub call-check-one : (b : Board) (size asked room : Bool) → OneAnswer (λ r. r ≡ callCheck b size asked room)
+call-check-one b size asked room = only (callCheck b size asked room)
+
+pub span-of-one : (b : Board) (chars : List ℕ) (row : ℕ) → OneAnswer (λ r. r ≡ spanOf b chars row)
+span-of-one b chars row = only (spanOf b chars row)
+
+pub position-one : (list : List ℕ) (scan : ℕ) → OneAnswer (λ r. r ≡ positionOf list scan)
+position-one list scan = only (positionOf list scan)
+
+pub font-refused-one : (f : Font) → OneAnswer (λ r. r ≡ fontRefused f)
+font-refused-one f = only (fontRefused f)
+
+pub blank-level-one : (rblank bkgnd : Bool) → OneAnswer (λ r. r ≡ blankLevel rblank bkgnd)
+blank-level-one rblank bkgnd = only (blankLevel rblank bkgnd)
+
+pub surround-level-one : (e highlight : Bool) → OneAnswer (λ r. r ≡ surroundLevel e highlight)
+surround-level-one e highlight = only (surroundLevel e highlight)
+
+pub symbol-level-one : (e highlight hidden : Bool) → OneAnswer (λ r. r ≡ symbolLevel e highlight hidden)
+symbol-level-one e highlight hidden = only (symbolLevel e highlight hidden)
+
+pub scene-of-one : (b : Board) (scan field : ℕ) → OneAnswer (λ r. r ≡ sceneOf b scan field)
+scene-of-one b scan field = only (sceneOf b scan field)
+
+pub cursor-at-one : (s : Scene) (at : ℕ) → OneAnswer (λ r. r ≡ cursorAt s at)
+cursor-at-one s at = only (cursorAt s at)
+
+pub effective-of-one : (byte : ℕ) → OneAnswer (λ r. r ≡ effective byte)
+effective-of-one byte = only (effective byte)
+
+pub look-of-one : (s : Scene) (attributes : ℕ) (cursor : Bool) → OneAnswer (λ r. r ≡ lookOf s attributes cursor)
+look-of-one s attributes cursor = only (lookOf s attributes cursor)
+
+pub lent-refused-one : (chars attrs : List ℕ) (f : Font) → OneAnswer (λ r. r ≡ lentRefused chars attrs f)
+lent-refused-one chars attrs f = only (lentRefused chars attrs f)

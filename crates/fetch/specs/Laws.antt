@@ -117,8 +117,10 @@ module _ (b : Board) (chars : List ℕ) (row : ℕ) where
     where
       x : Refusal
       x = runCheck b (length chars) row
+
       a : ℕ
       a = rowStart (b .page) chars row
+
       go : (t : Bool) → pick t (span x a (runCount (b .page) a)) (span x 0 0) .refusal ≡ x
       go true = refl
       go false = refl

@@ -28,7 +28,7 @@ fn least(a: u32, b: u32) -> u32
 }
 
 // The row table's entry of a row.
-fn entry(p: board::Page, chars: &[u8], row: u32) -> raster::Cell
+pub fn entry(p: board::Page, chars: &[u8], row: u32) -> raster::Cell
     requires { ⌜ (length (now chars) ≡ 16384) × (row < 8192) ⌝ }
     ensures { λ r. ⌜ r ≡ cell (entryOf p (now (chars .entry)) row) ⌝ }
 {

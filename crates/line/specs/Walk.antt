@@ -152,18 +152,19 @@ module _ (b : Board) (chars attrs : List ℕ) (f : Font) (line field : ℕ) (t :
     pub ready : {room : ℕ} → Drawn b chars attrs f line room → Ready w chars attrs (f .words) (f .flags) (start .at) × (t .shape .hact .0 * w .width ≤ room)
     unfolding timingOf shapeOf walkOf
     ready k =
-        rw (q .started, q .walked, q .timed)
-        (record {
-          least = k .page .least;
-          most = k .page .most;
-          chars-all = k .chars-all;
-          attrs-all = k .attrs-all;
-          words-all = k .font .words-all;
-          flags-all = k .font .flags-all;
-          bounded = buffer-bounded (b .page .irs);
-          start-lt = row-start-lt (b .page) chars (k .page) (line / linesOf (b .page .irs));
-        }
-        , k .roomy)
+        rw (q .started, q .walked, q .timed) (
+          record {
+            least = k .page .least;
+            most = k .page .most;
+            chars-all = k .chars-all;
+            attrs-all = k .attrs-all;
+            words-all = k .font .words-all;
+            flags-all = k .font .flags-all;
+            bounded = buffer-bounded (b .page .irs);
+            start-lt = row-start-lt (b .page) chars (k .page) (line / linesOf (b .page .irs));
+          },
+          k .roomy,
+        )
 
     pub drawn : (out out₀ : List ℕ)
         → out ≡ joined 0 (t .shape .hact .0) (columnBy w chars attrs (f .words) (f .flags) (start .at)) ++ drop (t .shape .hact .0 * w .width) out₀

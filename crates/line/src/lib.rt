@@ -19,7 +19,7 @@ pub struct Walk {
 }
 
 // Writes one cell's dots to the front of out.
-fn put(out: &mut [u8], w: Walk, words: &[u16], flags: &[u8], code: u8, attr: u8, at: u16)
+fn put(out: &mut [u8], w: Walk, words: &[u16], flags: &[u8], code: u8, attr: u8, at: usize)
     requires { ⌜ (length (now words) ≡ 1152) × (length (now flags) ≡ 128) × (6 ≤ w .width) × (w .width ≤ 12) × (w .width ≤ length (now out)) ⌝ }
     ensures { λ _. ⌜ now (out .exit) ≡ cellBy w (now (words .entry)) (now (flags .entry)) code attr at ++ drop (w .width) (now (out .entry)) ⌝ }
 {
@@ -51,21 +51,15 @@ fn cells(
     let mut c = 0;
     while c < n {
         let a = c * d;
-        let at = cell.at;
-        let i = at as usize;
-        put(&mut out[a..], w, words, flags, chars[i], attrs[i], at);
+        let address = cell.at;
+        let at = address as usize;
+        put(&mut out[a..], w, words, flags, chars[at], attrs[at], at);
         cell = raster::advance_one(buffer, cell);
         c += 1;
     }
 }
 
-fn walk_of(
-    b: board::Board,
-    unshifted: &[u8],
-    shifted: &[u8],
-    scan: u32,
-    field: u8,
-) -> Walk
+fn walk_of(b: board::Board, unshifted: &[u8], shifted: &[u8], scan: u32, field: u8) -> Walk
     ensures { λ r. ⌜ r ≡ walkOf b (now (unshifted .entry)) (now (shifted .entry)) scan field ⌝ }
 {
     let irs = b.page.irs;
@@ -136,7 +130,16 @@ fn whole_line(
     let scan = line % t.shape.lines.0;
     let w = walk_of(b, unshifted, shifted, scan, field);
     let start = fetch::row_start(page, chars, row);
-    cells(out, w, chars, attrs, words, flags, start, t.shape.hact.0 as usize);
+    cells(
+        out,
+        w,
+        chars,
+        attrs,
+        words,
+        flags,
+        start,
+        t.shape.hact.0 as usize,
+    );
 }
 
 // Draws a visible line as it looks in a field, HACT x dots bytes at the front of out.
@@ -159,7 +162,16 @@ pub fn draw_line(
     let refused = draw_check(b, size, line, out.len());
     if refusal::is_done(refused) {
         whole_line(
-            out, b, chars, attrs, words, flags, unshifted, shifted, line, field,
+            out,
+            b,
+            chars,
+            attrs,
+            words,
+            flags,
+            unshifted,
+            shifted,
+            line,
+            field,
         );
     }
     refused

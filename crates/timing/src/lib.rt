@@ -98,10 +98,7 @@ pub fn timing_of(irs: [u8; 15]) -> Timing
 pub fn visible_of(irs: [u8; 15]) -> units::Lines
     ensures { λ r. ⌜ r ≡ visibleOf irs ⌝ }
 {
-    units::Lines(visible(
-        irs[4] as u32 % 128 + 1,
-        irs[0] as u32 / 8 % 16 + 1,
-    ))
+    units::Lines(visible(irs[4] as u32 % 128 + 1, irs[0] as u32 / 8 % 16 + 1))
 }
 
 pub fn buffer_of(irs: [u8; 15]) -> raster::Buffer
@@ -229,7 +226,13 @@ pub fn state_refused(b: board::Board) -> bool
         | board::pointer_refused(b.pointer)
 }
 
-fn call_order(size: bool, refused: bool, page: refusal::Refusal, range: bool, room: bool) -> refusal::Refusal
+fn call_order(
+    size: bool,
+    refused: bool,
+    page: refusal::Refusal,
+    range: bool,
+    room: bool,
+) -> refusal::Refusal
     ensures { λ r. ⌜ r ≡ firstOf ((size, Refusal.Size) ∷ (refused, page) ∷ (range, Refusal.Range) ∷ (room, Refusal.Room) ∷ []) Refusal.Done ⌝ }
 {
     if size {

@@ -60,12 +60,9 @@ pub fn blank_level(rblank: bool, bkgnd: bool) -> u8
     ensures { λ r. ⌜ r ≡ blankLevel rblank bkgnd ⌝ }
 {
     if rblank {
-        0
-    } else if bkgnd {
-        1
-    } else {
-        0
+        return 0;
     }
+    if bkgnd { 1 } else { 0 }
 }
 
 pub fn scene_of(b: board::Board, scan: u32, field: u8) -> Scene
@@ -88,10 +85,10 @@ pub fn scene_of(b: board::Board, scan: u32, field: u8) -> Scene
 }
 
 // CURSOR at a fetched address.
-pub fn cursor_at(s: Scene, at: u16) -> bool
+pub fn cursor_at(s: Scene, at: usize) -> bool
     ensures { λ r. ⌜ r ≡ cursorAt s at ⌝ }
 {
-    s.gate & (at == s.cursor)
+    s.gate & (at == s.cursor as usize)
 }
 
 // The attribute of a weight: reverse 1, blank 2, blink 4, underline 8, highlight 16, strike 32.
@@ -119,11 +116,7 @@ fn exclusive(a: bool, b: bool) -> bool
 pub fn surround_level(e: bool, highlight: bool) -> u8
     ensures { λ r. ⌜ r ≡ surroundLevel e highlight ⌝ }
 {
-    if e {
-        if highlight { 2 } else { 1 }
-    } else {
-        0
-    }
+    if e { if highlight { 2 } else { 1 } } else { 0 }
 }
 
 pub fn symbol_level(e: bool, highlight: bool, hidden: bool) -> u8

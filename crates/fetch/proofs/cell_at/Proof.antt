@@ -11,7 +11,7 @@ unfolding timingOf shapeOf
 returns c =
     c .advance-by .ensures
     ∙ rw (c .before .buffer-of .ensures, c .before .before .row-start .ensures, c .before .before .before .least .ensures, c .before .before .before .before .timing-of .ensures)
-      (ap cell (cell-moved _ _ _ _))
+    (ap cell (cell-moved _ _ _ _))
 
 pub cell-at-spec : {M : Type 1} → statement M
 cell-at-spec =

@@ -22,7 +22,7 @@ returns-2 c =
     let left = c .before .before .before .before in
     c .advance-by .ensures
     ∙ rw (c .before .buffer-of .ensures, c .before .before .before .timing-of .ensures)
-      (ap cell (start-sheet _ _ _ (sym (left .before .table-of .ensures) ∙ left .if1 .left)))
+    (ap cell (start-sheet _ _ _ (sym (left .before .table-of .ensures) ∙ left .if1 .left)))
 
 pub row-start-spec : {M : Type 1} → statement M
 row-start-spec =

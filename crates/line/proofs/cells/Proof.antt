@@ -37,8 +37,8 @@ loop-holds c =
 mul-a : tie.Need-mul-a Inv-loop μ-loop
 mul-a c = omega (arith, room c)
 
-cast-i : tie.Need-cast-i Inv-loop μ-loop
-cast-i c = omega (arith, at c)
+cast-at : tie.Need-cast-at Inv-loop μ-loop
+cast-at c = omega (arith, at c)
 
 sub-put : tie.Need-sub-put Inv-loop μ-loop
 sub-put c = omega (arith, room c)
@@ -75,8 +75,7 @@ loop-again c =
     let put = c .before .before .before in
     let i = put .before .before .before .before in
     let inv = i .before .loop .inv in
-    let ready = start i .pre .0 in
-    (
+    let ready = start i .pre .0 in (
       omega (arith, i .loop-test .taken),
       moved-on _ _ _ _ (inv .1) (ready .bounded) (ready .start-lt) _ (c .advance-one .ensures),
       turn _ _ (length-column _ _ _ _ _ _ (ready .most)) _ _ _ (inv .2) (i .loop-test .taken) (start i .pre .1) (as-column _ _ _ _ _ _ _ _ _ _ (inv .1) (put .put .ensures)),
@@ -98,7 +97,7 @@ cells-spec =
     μ-loop
     loop-holds
     mul-a
-    cast-i
+    cast-at
     sub-put
     part-put-start
     part-put-end

@@ -28,7 +28,7 @@ font c = fontOf (begin c .args .words .now) (begin c .args .flags .now) (begin c
 
 prepared : (c : tie.After-row-start)
     → Prepared (begin c .args .b) (begin c .args .chars .now) (font c .unshifted) (font c .shifted) (begin c .args .line) (begin c .args .field)
-      (c .before .before .before .before .timing-of .result) (c .before .walk-of .result) (c .row-start .result)
+    (c .before .before .before .before .timing-of .result) (c .before .walk-of .result) (c .row-start .result)
 prepared c = record {
   timed = c .before .before .before .before .timing-of .ensures;
   walked = c .before .walk-of .ensures;

@@ -16,7 +16,7 @@ dots-of-requires c κs =
     let then = c .before .before .before .before .before in
     let p = then .before .before .before .args .p in
     let ok : pageCheck p ≡ Done
-        = done-is _ (checked (then .before .before .page-check .ensures) (then .before .is-done .ensures) (then .if1 .taken)) in
+    = done-is _ (checked (then .before .before .page-check .ensures) (then .before .is-done .ensures) (then .if1 .taken)) in
     rw (c .before .before .timing-of .ensures) (omega (arith, dots-bound p (accepted p ok)))
 
 returns : tie.Need-returns

@@ -1,0 +1,31 @@
+use mathlib.Core.Path.{sym, _∙_}
+use borrow.Author.Needs.{needs}
+use Rattle.shape.specs.Font.{fontOf}
+use Rattle.clock.specs.Laws.{dots-active, dots-blank}
+use Rattle.clock.proofs.dots_of.Statement.{statement}
+use Rattle.clock.proofs.dots_of.Tie as tie
+
+returns : tie.Need-returns
+returns c =
+    let then = c .before .before .before in
+    let start = then .before .before .before .before .before .before .before .before in
+    dots-active (start .args .b) (start .args .chars .now) (start .args .attrs .now) (fontOf (start .args .words .now) (start .args .flags .now) (start .args .unshifted .now) (start .args .shifted .now)) (start .args .scene) (start .pre .1) (start .args .address) _
+    (sym (then .before .active-in .ensures) ∙ then .if1 .taken) (c .shown-dots .ensures)
+
+returns-2 : tie.Need-returns-2
+returns-2 c =
+    let start = c .before .before .before .before .before .before .before .before .before in
+    dots-blank (start .args .b) (start .args .chars .now) (start .args .attrs .now) (fontOf (start .args .words .now) (start .args .flags .now) (start .args .unshifted .now) (start .args .shifted .now)) (start .args .scene) (start .pre .1) (start .args .address) _
+    (sym (c .before .before .active-in .ensures) ∙ c .before .if1 .left) (c .blank-dots .ensures)
+
+pub dots-of-spec : {M : Type 1} → statement M
+dots-of-spec =
+    tie.close
+    (tie.spec
+    (λ c κs. search needs)
+    (λ c. search needs)
+    (λ c. search needs)
+    (λ c κs. search needs)
+    returns
+    (λ c κs. search needs)
+    returns-2)

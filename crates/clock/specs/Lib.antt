@@ -1,0 +1,5 @@
+-- One clock, and the state for clock n.
+pub mod Place
+pub mod Signals
+pub mod Step
+pub mod Laws

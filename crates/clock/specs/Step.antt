@@ -1,0 +1,75 @@
+-- The step, and the state for clock n.
+use Prim.Native.Nat.{ℕ}
+use mathlib.Core.Path.{_≡_}
+use mathlib.Core.Bool.{Bool, false, _||_, not}
+use mathlib.Core.List.{List}
+use lib.Dec.{eqb}
+use lib.ListN.{length, replicate}
+use Rattle.lists.specs.Choice.{pick}
+use Rattle.refusal.specs.declared.Refusal.{Refusal}
+use Rattle.refusal.specs.declared.Refusal.the-variants.{Done}
+use Rattle.refusal.specs.Number.{doneOf}
+use Rattle.board.specs.declared.Place.{Place}
+use Rattle.board.specs.declared.Board.{Board}
+use Rattle.timing.specs.Check.{callCheck}
+use Rattle.timing.specs.Laws.{Accepted, InRange}
+use Rattle.shape.specs.Font.{Font, Whole}
+use Rattle.line.specs.Line.{lentRefused}
+use Rattle.clock.specs.declared.Signals.{Signals}
+use Rattle.clock.specs.declared.Stepped.{Stepped}
+use Rattle.clock.specs.declared.StateAt.{StateAt}
+use Rattle.clock.specs.Place.{loadedIn, nextPlace, placeAt}
+use Rattle.clock.specs.Signals.{signalsOf, dotsOf}
+
+abbrev pub withPlace : Board → Place → Board
+withPlace b q = record { page = b .page; place = q; pointer = b .pointer; resets = b .resets }
+
+-- the address fetched, or off the active clocks the one held
+abbrev pub addressOf : Board → (chars : List ℕ) → ℕ
+addressOf b chars = loadedIn (b .page) chars (b .place) .now .at
+
+-- a clock's signals, address and dots, and the board for the next clock
+unfoldable pub steppedOf : Board → (chars attrs : List ℕ) → Font → Stepped
+steppedOf b chars attrs f = record {
+  refusal = Done;
+  signals = signalsOf b (addressOf b chars);
+  address = addressOf b chars;
+  dots = dotsOf b chars attrs f (addressOf b chars);
+  board = withPlace b (nextPlace (b .page) chars (b .place));
+}
+
+-- 3, 12, 4, 5, 6, 7
+abbrev pub stepCheck : Board → (chars attrs : List ℕ) → Font → Refusal
+stepCheck b chars attrs f = callCheck b (lentRefused chars attrs f) false false
+
+abbrev pub noSignals : Signals
+noSignals = record { hsync = false; vsync = false; blank = false; cursor = false; blink = false }
+
+-- a refusal returns zeros beside its number, and the old board
+abbrev pub stepRefused : Refusal → Board → Stepped
+stepRefused r b = record { refusal = r; signals = noSignals; address = 0; dots = replicate 12 0; board = b }
+
+unfoldable pub stepOf : Board → (chars attrs : List ℕ) → Font → Stepped
+stepOf b chars attrs f =
+    pick (doneOf (stepCheck b chars attrs f)) (steppedOf b chars attrs f) (stepRefused (stepCheck b chars attrs f) b)
+
+-- 3 for the memories, 12, 4, 5, 6, 7
+abbrev pub stateCheck : Board → (chars attrs : List ℕ) → Refusal
+stateCheck b chars attrs = callCheck b (not (eqb (length chars) 16384) || not (eqb (length attrs) 16384)) false false
+
+abbrev pub stated : Refusal → Board → StateAt
+stated r b = record { refusal = r; board = b }
+
+-- page, pointer and power state are the given board's; the place is that for clock n, counted from clock 0
+unfoldable pub stateOf : Board → (chars attrs : List ℕ) → ℕ → StateAt
+stateOf b chars attrs n =
+    stated (stateCheck b chars attrs)
+    (pick (doneOf (stateCheck b chars attrs)) (withPlace b (placeAt (b .page) chars n)) b)
+
+-- what a step has once nothing is refused
+pub record Fit (b : Board) (chars attrs : List ℕ) (f : Font) : Type 0 where
+  pub page : Accepted (b .page)
+  pub state : InRange b
+  pub chars-all : length chars ≡ 16384
+  pub attrs-all : length attrs ≡ 16384
+  pub font : Whole f

@@ -1,0 +1,9 @@
+use borrow.Author.Needs.{needs}
+use Rattle.feldrime.proofs.answered.Statement.{statement}
+use Rattle.feldrime.proofs.answered.Tie as tie
+
+returns : tie.Need-returns
+returns c = cc
+
+pub answered-spec : {M : Type 1} → statement M
+answered-spec = tie.close (tie.spec (λ c κs. search needs) returns)

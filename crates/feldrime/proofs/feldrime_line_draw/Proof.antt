@@ -1,0 +1,41 @@
+use mathlib.Core.Path.{sym, _∙_}
+use borrow.Author.Needs.{needs}
+use Rattle.shape.specs.Font.{Font, fontOf}
+use Rattle.feldrime.specs.Laws.{numbers-all, draw-refused, draw-taken}
+use Rattle.feldrime.proofs.feldrime_line_draw.Statement.{statement}
+use Rattle.feldrime.proofs.feldrime_line_draw.Tie as tie
+
+-- where the function begins, from the place where the numbers are known, and the font that it was lent
+abbrev begin : tie.After-numbers-refused → tie.Start
+begin c = c .before .before .before .before .before .before .before .before .before
+
+abbrev font : tie.After-numbers-refused → Font
+font c = fontOf (begin c .args .words .now) (begin c .args .flags .now) (begin c .args .unshifted .now) (begin c .args .shifted .now)
+
+returns : tie.Need-returns
+returns c =
+    let then = c .before in
+    draw-refused _ _ _ (font (then .before)) _ _ _ _ (sym (then .before .numbers-refused .ensures) ∙ then .if1 .taken) (c .answered .ensures)
+
+board-from-requires : tie.Need-board-from-requires
+board-from-requires c κs = numbers-all _ (sym (c .before .numbers-refused .ensures) ∙ c .if1 .left)
+
+returns-2 : tie.Need-returns-2
+returns-2 c =
+    let draw = c .before .before .before in
+    let made = draw .before .before in
+    let left = made .before in
+    draw-taken _ _ _ (font (left .before)) _ _ _ _ (sym (left .before .numbers-refused .ensures) ∙ left .if1 .left) _ (made .board-from .ensures) _ _ (draw .draw-line .ensures) (c .answered2 .ensures)
+
+pub feldrime-line-draw-spec : {M : Type 1} → statement M
+feldrime-line-draw-spec =
+    tie.close
+    (tie.spec
+    (λ c κs. search needs)
+    (λ c κs. search needs)
+    returns
+    board-from-requires
+    (λ c κs. search needs)
+    (λ c κs. search needs)
+    (λ c. search needs)
+    returns-2)

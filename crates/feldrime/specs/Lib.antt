@@ -1,0 +1,5 @@
+-- The calls for C.
+pub mod Numbers
+pub mod Answers
+pub mod LineDraw
+pub mod Laws

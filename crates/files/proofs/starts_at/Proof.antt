@@ -1,0 +1,17 @@
+use borrow.Author.Needs.{needs}
+use Rattle.files.proofs.starts_at.Statement.{statement}
+use Rattle.files.proofs.starts_at.Tie as tie
+
+returns : tie.Need-returns
+returns c = cc
+
+pub starts-at-spec : {M : Type 1} → statement M
+starts-at-spec =
+    tie.close
+    (tie.spec
+    (λ c κs. search needs)
+    (λ c. search needs)
+    (λ c κs. search needs)
+    (λ c. search needs)
+    (λ c κs. search needs)
+    returns)

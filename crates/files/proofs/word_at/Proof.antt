@@ -1,0 +1,13 @@
+use borrow.Author.Needs.{needs}
+use Rattle.files.specs.Page.{wordAt}
+use Rattle.files.proofs.word_at.Statement.{statement}
+use Rattle.files.proofs.word_at.Tie as tie
+
+returns : tie.Need-returns
+unfolding wordAt
+returns c = c .word .ensures
+
+pub word-at-spec : {M : Type 1} → statement M
+word-at-spec =
+    tie.close
+    (tie.spec (λ c. search needs) (λ c. search needs) (λ c. search needs) (λ c κs. search needs) returns)

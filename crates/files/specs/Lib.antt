@@ -1,0 +1,2 @@
+-- Page files.
+pub mod Page

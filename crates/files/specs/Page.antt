@@ -1,0 +1,28 @@
+-- 01, "Files": what a page file holds between its length and its character memory.
+use Prim.Native.Nat.{ℕ, _+_, _*_}
+use mathlib.Core.List.{List}
+use lib.ListN.{getD, take, drop}
+use Rattle.units.specs.Units.{dots}
+use Rattle.board.specs.declared.Starts.{Starts}
+use Rattle.board.specs.declared.Video.{Video}
+use Rattle.board.specs.declared.Page.{Page}
+
+-- two bytes big-endian: the high byte first
+unfoldable pub wordAt : List ℕ → ℕ → ℕ
+wordAt bytes i = getD bytes i 0 * 256 + getD bytes (i + 1) 0
+
+-- screen start 1, cursor, screen start 2
+abbrev pub startsAt : List ℕ → ℕ → Starts
+startsAt bytes at = record { start1 = wordAt bytes at; cursor = wordAt bytes (at + 2); start2 = wordAt bytes (at + 4) }
+
+abbrev pub videoOf : (n strike : ℕ) → Video
+videoOf n strike = record { dots = dots n; strike = strike }
+
+-- 15 IRs, the three addresses, switches, dots, strike line
+unfoldable pub pageAt : List ℕ → ℕ → Page
+pageAt bytes at = record {
+  irs = take 15 (drop at bytes);
+  starts = startsAt bytes (at + 15);
+  switches = getD bytes (at + 21) 0;
+  video = videoOf (getD bytes (at + 22) 0) (getD bytes (at + 23) 0);
+}
