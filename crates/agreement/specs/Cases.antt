@@ -21,7 +21,7 @@ use Rattle.video.specs.Look.{effective, lookOf}
 use Rattle.video.specs.Cell.{bits, lead, cellBits, litBits, cellDots}
 
 -- HSYNC 8 and HBP 7, 24 rows of 10 lines, VFP 4, VSYNC 3, VBP 20, display on, 8 dots; EC, HACT, the buffer, screen start 1 and BKGND as given
-pub page : (ec hact first last start1 bkgnd : ℕ) → Page
+unfoldable pub page : (ec hact first last start1 bkgnd : ℕ) → Page
 page ec hact first last start1 bkgnd = record {
   irs =
       72 ∷ (ec - 1) ∷ 26 ∷ 8 ∷ 23 ∷ (hact - 1) ∷ 0 ∷ 0 ∷ (first % 256) ∷ (16 * (last / 1024) + first / 256) ∷ 0 ∷ 0 ∷ 0 ∷ 0 ∷ 0 ∷ [];
@@ -42,7 +42,7 @@ pub data Fact : Type 0 where
   levels : (attributes symbol surround : ℕ) → Fact
 
 -- the page on an active board at clock 0
-pub board : Page → Board
+unfoldable pub board : Page → Board
 board p = record { page = p; place = clockZero; pointer = 0; resets = 2 }
 
 -- the address that a column of a row fetches, with the row table off

@@ -26,6 +26,12 @@ use Rattle.video.specs.Levels.{blankLevel, symbolLevel, surroundLevel}
 use Rattle.video.specs.Scene.{sceneOf, cursorAt}
 use Rattle.video.specs.Look.{effective, lookOf}
 use Rattle.line.specs.Line.{lentRefused, drawCheck, drawnOf}
+use Rattle.clock.specs.Step.{stepOf, stateOf}
+use Rattle.feldrime.specs.declared.Answer.{Answer}
+use Rattle.feldrime.specs.declared.StepAnswer.{StepAnswer}
+use Rattle.feldrime.specs.Answers.{answerOf}
+use Rattle.feldrime.specs.LineDraw.{lineDrawCheck, lineDrawn}
+use Rattle.feldrime.specs.Step.{stepNumbers}
 use Rattle.registers.specs.Write.{writeOf}
 use Rattle.registers.specs.Read.{readOf}
 use Rattle.registers.specs.Video.{setVideoOf}
@@ -59,6 +65,29 @@ pub draw-line-one : (b : Board) (chars attrs : List ℕ) (f : Font) (line field 
     → OneAnswer (λ (r : Refusal × List ℕ). (r .0 ≡ drawCheck b (lentRefused chars attrs f) line (length out)) × (r .1 ≡ drawnOf b chars attrs f line field out))
 draw-line-one b chars attrs f line field out =
     only-both (drawCheck b (lentRefused chars attrs f) line (length out)) (drawnOf b chars attrs f line field out)
+
+pub step-one : (b : Board) (chars attrs : List ℕ) (f : Font) → OneAnswer (λ r. r ≡ stepOf b chars attrs f)
+step-one b chars attrs f = only (stepOf b chars attrs f)
+
+pub state-at-one : (b : Board) (chars attrs : List ℕ) (n : ℕ) → OneAnswer (λ r. r ≡ stateOf b chars attrs n)
+state-at-one b chars attrs n = only (stateOf b chars attrs n)
+
+-- ---- the calls for C
+
+pub line-draw-one : (numbers chars attrs : List ℕ) (f : Font) (line field : ℕ) (out : List ℕ)
+    → OneAnswer (λ (r : Answer × List ℕ). (r .0 ≡ answerOf (lineDrawCheck numbers chars attrs f line (length out))) × (r .1 ≡ lineDrawn numbers chars attrs f line field out))
+line-draw-one numbers chars attrs f line field out =
+    only-both (answerOf (lineDrawCheck numbers chars attrs f line (length out))) (lineDrawn numbers chars attrs f line field out)
+
+pub step-numbers-one : (b : Board) (chars attrs words flags unshifted shifted : List ℕ)
+    → OneAnswer (λ r. r ≡ stepNumbers b chars attrs words flags unshifted shifted)
+step-numbers-one b chars attrs words flags unshifted shifted = only (stepNumbers b chars attrs words flags unshifted shifted)
+
+-- the answer and the board
+pub step-in-place-one : (b : Board) (chars attrs words flags unshifted shifted : List ℕ)
+    → OneAnswer (λ (r : StepAnswer × Board). (r .0 ≡ stepNumbers b chars attrs words flags unshifted shifted .answer) × (r .1 ≡ stepNumbers b chars attrs words flags unshifted shifted .board))
+step-in-place-one b chars attrs words flags unshifted shifted =
+    only-both (stepNumbers b chars attrs words flags unshifted shifted .answer) (stepNumbers b chars attrs words flags unshifted shifted .board)
 
 -- ---- the functions below them
 

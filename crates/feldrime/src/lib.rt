@@ -5,6 +5,8 @@ ghost use Rattle.shape.specs.Font.{fontOf};
 ghost use Rattle.feldrime.specs.Numbers.{numbersRefused, boardOf};
 ghost use Rattle.feldrime.specs.Answers.{answerOf};
 ghost use Rattle.feldrime.specs.LineDraw.{lineDrawCheck, lineDrawn};
+ghost use Rattle.lists.specs.Choice.{pick};
+ghost use Rattle.feldrime.specs.Step.{numbered, stepNumbers};
 
 // The refusal's number, and a number beside it, which no refusal has yet.
 #[repr(C)]
@@ -79,4 +81,87 @@ pub extern "C" fn feldrime_line_draw(
         out,
     );
     answered(refused)
+}
+
+// What a step answers: a signal is 0 or 1, the dots are bytes as in a drawn line.
+#[repr(C)]
+pub struct StepAnswer {
+    pub refusal: u32,
+    pub beside: u32,
+    pub hsync: u32,
+    pub vsync: u32,
+    pub blank: u32,
+    pub cursor: u32,
+    pub blink: u32,
+    pub address: u32,
+    pub dots: [u8; 12],
+}
+
+#[repr(C)]
+pub struct StepBy {
+    pub answer: StepAnswer,
+    pub board: board::Board,
+}
+
+fn bit(on: bool) -> u32
+    ensures { λ r. ⌜ r ≡ pick on 1 0 ⌝ }
+{
+    if on { 1 } else { 0 }
+}
+
+fn number_of(s: clock::Stepped) -> StepAnswer
+    ensures { λ r. ⌜ r ≡ numbered s ⌝ }
+{
+    let refused = s.refusal;
+    let dots = s.dots;
+    StepAnswer {
+        refusal: refusal::number(refused),
+        beside: 0,
+        hsync: bit(s.signals.hsync),
+        vsync: bit(s.signals.vsync),
+        blank: bit(s.signals.blank),
+        cursor: bit(s.signals.cursor),
+        blink: bit(s.signals.blink),
+        address: s.address as u32,
+        dots: dots,
+    }
+}
+
+// The step by value, with numbers only.
+pub fn step_numbers(
+    b: board::Board,
+    chars: &[u8],
+    attrs: &[u8],
+    words: &[u16],
+    flags: &[u8],
+    unshifted: &[u8],
+    shifted: &[u8],
+) -> StepBy
+    ensures { λ r. ⌜ r ≡ stepNumbers b (now (chars .entry)) (now (attrs .entry)) (now (words .entry)) (now (flags .entry)) (now (unshifted .entry)) (now (shifted .entry)) ⌝ }
+{
+    let s = clock::step(b, chars, attrs, words, flags, unshifted, shifted);
+    let next = s.board;
+    StepBy {
+        answer: number_of(s),
+        board: next,
+    }
+}
+
+// One clock: the board is altered where it stands.
+#[no_mangle]
+pub extern "C" fn feldrime_step(
+    b: &mut board::Board,
+    chars: &[u8],
+    attrs: &[u8],
+    words: &[u16],
+    flags: &[u8],
+    unshifted: &[u8],
+    shifted: &[u8],
+) -> StepAnswer
+    ensures { λ r. ⌜ (r ≡ stepNumbers (now (b .entry)) (now (chars .entry)) (now (attrs .entry)) (now (words .entry)) (now (flags .entry)) (now (unshifted .entry)) (now (shifted .entry)) .answer)
+        × (now (b .exit) ≡ stepNumbers (now (b .entry)) (now (chars .entry)) (now (attrs .entry)) (now (words .entry)) (now (flags .entry)) (now (unshifted .entry)) (now (shifted .entry)) .board) ⌝ }
+{
+    let s = step_numbers(*b, chars, attrs, words, flags, unshifted, shifted);
+    *b = s.board;
+    s.answer
 }

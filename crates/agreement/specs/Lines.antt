@@ -1,0 +1,124 @@
+-- Promise 3 over promise 2's lines: the dots of a line's active clocks, end to end, are those of the line drawn whole. Assumes nothing.
+use Prim.Native.Nat.{ℕ, _+_, _*_, _/_, _%_, _≤_, _<_}
+use mathlib.Core.Path.{_≡_, refl, sym, ap, _∙_}
+use mathlib.Core.Bool.{true, _&&_}
+use mathlib.Core.List.{List, _++_}
+use native.Mathlib.Omega.{arith}
+use borrow.Author.Tests.{lt-ltb, lt-leb, le-ltb}
+use lib.Arith.{digits-div, digits-mod}
+use lib.Dec.{ltb, leb}
+use lib.ListN.{length, take, drop, replicate}
+use lib.Seq.{take-at}
+use Rattle.lists.specs.Join.{joined, same-joined}
+use Rattle.refusal.specs.declared.Refusal.the-variants.{Done}
+use Rattle.raster.specs.declared.Cell.{Cell}
+use Rattle.raster.specs.Moves.{cell}
+use Rattle.raster.specs.Raster.{Pair, pair, loaded, scanAt}
+use Rattle.raster.specs.Agree.{loaded-meets}
+use Rattle.raster.specs.Cells.{cells-lawful, cellOf, startOf}
+use Rattle.board.specs.declared.Page.{Page}
+use Rattle.board.specs.declared.Place.{Place}
+use Rattle.board.specs.declared.Board.{Board}
+use Rattle.timing.specs.Fields.{htOf, vtOf, hactOf, linesOf, visibleOf, shapeOf}
+use Rattle.timing.specs.Check.{callCheck}
+use Rattle.timing.specs.Laws.{accepted-good}
+use Rattle.fetch.specs.Rows.{feedIn, tallyIn, cellAt}
+use Rattle.fetch.specs.Laws.{fed, tallied}
+use Rattle.shape.specs.Font.{Font}
+use Rattle.shape.specs.Laws.{word-of-small}
+use Rattle.video.specs.Scene.{sceneOf}
+use Rattle.video.specs.Width.{length-cell}
+use Rattle.line.specs.Line.{scanOf, dotsAt, columnDots, lineDots, lineLength, lentRefused, drawCheck, drawnOf}
+use Rattle.clock.specs.declared.Carried.{Carried}
+use Rattle.clock.specs.Place.{shapeIn, carrierIn, rowsIn, carriedOf, loadedIn, placeAt}
+use Rattle.clock.specs.Signals.{activeIn, padded, dotsOf}
+use Rattle.clock.specs.Step.{steppedOf, stepCheck, stepOf, addressOf}
+use Rattle.agreement.specs.Steps.{after, fits, boardAt, step-is, steps-are}
+
+-- clock c of line l of frame k, counted from clock 0
+unfoldable pub clockOf : Board → (k l c : ℕ) → ℕ
+clockOf b k l c = (k * vtOf (b .page .irs) + l) * htOf (b .page .irs) + c
+
+loaded-visible : (p : Page) (chars : List ℕ) (q : Place) → q .line .0 < visibleOf (p .irs) .0
+    → loadedIn p chars q ≡ carriedOf (loaded (shapeIn p) (carrierIn p chars) (q .line .0) (q .clock .0) (pair (q .now) (q .kept)))
+unfolding loadedIn shapeOf
+loaded-visible p chars q h = rw (lt-ltb (q .line .0) (visibleOf (p .irs) .0) h)
+
+module _ (b : Board) (chars attrs : List ℕ) (f : Font) (ok : stepCheck b chars attrs f ≡ Done) where
+  -- what the step at clock n puts out on a visible line
+  fetched-at : (n : ℕ) → n / htOf (b .page .irs) % vtOf (b .page .irs) < visibleOf (b .page .irs) .0
+      → addressOf (boardAt b chars attrs f ok n) chars
+      ≡ cellAt (b .page) chars (n / htOf (b .page .irs) % vtOf (b .page .irs) / linesOf (b .page .irs)) (n % htOf (b .page .irs))
+  unfolding placeAt scanAt cellAt shapeOf
+  fetched-at n h =
+      ap (λ (x : Carried). x .now .at) (loaded-visible (b .page) chars (placeAt (b .page) chars n) h)
+      ∙ (ap (λ (x : Pair Cell). x .now .at)
+      (loaded-meets (shapeIn (b .page)) (carrierIn (b .page) chars) (rowsIn (b .page) chars) (accepted-good (b .page) (fits b chars attrs f ok .page))
+      (cells-lawful (shapeIn (b .page)) (feedIn (b .page) chars) (tallyIn (b .page)) (fed (b .page) chars (fits b chars attrs f ok .page)) (tallied (b .page) chars (fits b chars attrs f ok .page)))
+      (cell 0) (n % htOf (b .page .irs)) (n / htOf (b .page .irs) % vtOf (b .page .irs)) (n / htOf (b .page .irs) / vtOf (b .page .irs)) h))
+
+  module _ (k l c : ℕ) (hl : l < visibleOf (b .page .irs) .0) (hc : c < hactOf (b .page .irs)) where
+    c-lt : c < htOf (b .page .irs)
+    c-lt = omega (arith, fits b chars attrs f ok .page .hfp)
+
+    l-lt : l < vtOf (b .page .irs)
+    l-lt = omega arith
+
+    clock-is : clockOf b k l c % htOf (b .page .irs) ≡ c
+    unfolding clockOf
+    clock-is = digits-mod (k * vtOf (b .page .irs) + l) c-lt
+
+    count-is : clockOf b k l c / htOf (b .page .irs) ≡ k * vtOf (b .page .irs) + l
+    unfolding clockOf
+    count-is = digits-div (k * vtOf (b .page .irs) + l) c-lt
+
+    line-is : clockOf b k l c / htOf (b .page .irs) % vtOf (b .page .irs) ≡ l
+    line-is = rw count-is (digits-mod k l-lt)
+
+    frame-is : clockOf b k l c / htOf (b .page .irs) / vtOf (b .page .irs) ≡ k
+    frame-is = rw count-is (digits-div k l-lt)
+
+    -- the address that the step puts out, and the board's place
+    pub address-is : stepOf (after b chars attrs f (clockOf b k l c)) chars attrs f .address ≡ cellAt (b .page) chars (l / linesOf (b .page .irs)) c
+    unfolding steppedOf
+    address-is =
+        rw (steps-are b chars attrs f ok (clockOf b k l c), step-is b chars attrs f ok (clockOf b k l c))
+        (fetched-at (clockOf b k l c) (rw line-is hl)
+        ∙ rw (line-is, clock-is))
+
+    active : activeIn (boardAt b chars attrs f ok (clockOf b k l c)) ≡ true
+    unfolding placeAt scanAt shapeOf
+    active = rw (line-is, clock-is, lt-ltb l (visibleOf (b .page .irs) .0) hl, lt-ltb c (hactOf (b .page .irs)) hc)
+
+    pub dots-are : stepOf (after b chars attrs f (clockOf b k l c)) chars attrs f .dots ≡ padded (columnDots b chars attrs f l (k % 256) c) (b .page .video .dots .0)
+    unfolding steppedOf dotsOf columnDots dotsAt sceneOf placeAt scanAt shapeOf
+    dots-are =
+        rw (steps-are b chars attrs f ok (clockOf b k l c), step-is b chars attrs f ok (clockOf b k l c), active, fetched-at (clockOf b k l c) (rw line-is hl), line-is, clock-is, frame-is)
+
+  -- ---- the line
+
+  module _ (k l : ℕ) (hl : l < visibleOf (b .page .irs) .0) where
+    -- the dots that the step at column c puts out, without the places past them
+    abbrev stepDots : ℕ → List ℕ
+    stepDots c = take (b .page .video .dots .0) (stepOf (after b chars attrs f (clockOf b k l c)) chars attrs f .dots)
+
+    length-dots : (c : ℕ) → length (columnDots b chars attrs f l (k % 256) c) ≡ b .page .video .dots .0
+    unfolding columnDots dotsAt
+    length-dots c = length-cell _ _ (b .page .video .dots .0) (word-of-small f _ _) (fits b chars attrs f ok .page .most)
+
+    same-dots : (c : ℕ) → c < hactOf (b .page .irs) → stepDots c ≡ columnDots b chars attrs f l (k % 256) c
+    same-dots c hc = rw (dots-are k l c hl hc) (take-at _ _ (b .page .video .dots .0) (length-dots c))
+
+    -- the dots of the active clocks of line l of frame k, end to end
+    pub stepped-line : joined 0 (hactOf (b .page .irs)) stepDots ≡ lineDots b chars attrs f l (k % 256)
+    unfolding lineDots
+    stepped-line = same-joined 0 (hactOf (b .page .irs)) stepDots (columnDots b chars attrs f l (k % 256)) (λ c _ h. same-dots c (omega arith))
+
+    pub draw-answers : (out : List ℕ) → lineLength b ≤ length out → drawCheck b (lentRefused chars attrs f) l (length out) ≡ Done
+    unfolding drawCheck
+    draw-answers out room = rw (lt-leb (visibleOf (b .page .irs) .0) l hl, le-ltb (length out) (lineLength b) room) ok
+
+    -- the line drawn whole with field count k modulo 256, into any buffer that has room
+    pub same-line : (out : List ℕ) → lineLength b ≤ length out → drawnOf b chars attrs f l (k % 256) out ≡ joined 0 (hactOf (b .page .irs)) stepDots ++ drop (lineLength b) out
+    unfolding drawnOf
+    same-line out room = rw (draw-answers out room, stepped-line)

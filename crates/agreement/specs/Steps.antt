@@ -1,0 +1,151 @@
+-- Promise 3: the state worked out at once for clock n is the state after n single steps. All of it speaks of the public `step` and `state_at`. Assumes nothing.
+use Prim.Native.Nat.{ℕ, zero, suc, _+_, _*_, _/_, _%_, _≤_, _<_}
+use mathlib.Core.Path.{_≡_, refl, sym, ap, _∙_}
+use mathlib.Core.Bool.{Bool, true, false, _||_, not}
+use mathlib.Core.List.{List, []}
+use native.Mathlib.Nat.{mod-lt, zero-div, zero-mod}
+use native.Mathlib.Decide.{decLt}
+use native.Mathlib.Omega.{arith}
+use borrow.Author.Tests.{lt-leb, le-ltb, eq-eqb}
+use lib.Dec.{eqb}
+use lib.ListN.{length}
+use Rattle.lists.specs.Choice.{pick}
+use Rattle.refusal.specs.declared.Refusal.{Refusal}
+use Rattle.refusal.specs.declared.Refusal.the-variants.{Done, Size}
+use Rattle.refusal.specs.Number.{doneOf}
+use Rattle.refusal.specs.Laws.{not-refused, passed}
+use Rattle.raster.specs.Moves.{cell}
+use Rattle.raster.specs.Raster.{carriedAt, scanAt}
+use Rattle.raster.specs.Agree.{step-meets}
+use Rattle.raster.specs.Cells.{cells-lawful}
+use Rattle.board.specs.declared.Page.{Page}
+use Rattle.board.specs.declared.Place.{Place}
+use Rattle.board.specs.declared.Board.{Board}
+use Rattle.board.specs.State.{clockZero}
+use Rattle.board.specs.Range.{cellsRefused, pointerRefused}
+use Rattle.timing.specs.Fields.{htOf, vtOf, rowsOf, visibleOf, shapeOf}
+use Rattle.timing.specs.Check.{pageCheck, stateRefused, callCheck}
+use Rattle.timing.specs.Laws.{Accepted, InRange, accepted, accepted-good, call-passed}
+use Rattle.fetch.specs.Rows.{feedIn, tallyIn, rowStart, cellAt}
+use Rattle.fetch.specs.Laws.{fed, tallied, cell-at-lt, row-start-lt}
+use Rattle.shape.specs.Font.{Font}
+use Rattle.line.specs.Line.{lentRefused}
+use Rattle.clock.specs.declared.Carried.{Carried}
+use Rattle.clock.specs.Place.{shapeIn, carrierIn, rowsIn, placeOf, nextPlace, rowAt, lineAt, carriedBefore, placeAt}
+use Rattle.clock.specs.Step.{withPlace, steppedOf, stepCheck, stepOf, stateCheck, stateOf, Fit}
+use Rattle.clock.specs.Laws.{fit, line-shown, line-idle, carried-on, carried-line, carried-frame, carried-zero}
+
+-- ---- a place in range is not refused
+
+range-ok : (b : Board) → InRange b → stateRefused b ≡ false
+unfolding stateRefused
+range-ok b i =
+    rw
+    (lt-leb (vtOf (b .page .irs)) (b .place .line .0) (i .line-lt), lt-leb (htOf (b .page .irs)) (b .place .clock .0) (i .clock-lt), le-ltb 16383 (b .place .now .at) (i .now-le), le-ltb 16383 (b .place .kept .at) (i .kept-le), le-ltb 14 (b .pointer) (i .pointer-le))
+
+call-ok : (b : Board) (size : Bool) → size ≡ false → pageCheck (b .page) ≡ Done → stateRefused b ≡ false → callCheck b size false false ≡ Done
+unfolding callCheck
+call-ok b size s p r = rw (s, p, r)
+
+-- ---- every state at once is in range
+
+record Small (c : Carried) : Type 0 where
+  now-lt : c .now .at < 16384
+  kept-lt : c .kept .at < 16384
+
+module _ (p : Page) (chars : List ℕ) (a : Accepted p) where
+  row-small : (r c : ℕ) → Small (rowAt p chars r c)
+  unfolding rowAt
+  row-small r c = record { now-lt = cell-at-lt p chars r c; kept-lt = row-start-lt p chars a r }
+
+  line-small : (c line : ℕ) → Small (lineAt p chars c line)
+  line-small c line = go (decLt line (visibleOf (p .irs) .0))
+    where
+      go : Dec (line < visibleOf (p .irs) .0) → Small (lineAt p chars c line)
+      go (yes h) = rw (← line-shown p chars c line h) (row-small _ c)
+      go (no f) = rw (← line-idle p chars c line (omega arith)) (row-small _ (htOf (p .irs)))
+
+  carried-small : (c line frame : ℕ) → Small (carriedBefore p chars c line frame)
+  carried-small (suc c) line frame = rw (← carried-on p chars (suc c) line frame (omega arith)) (line-small (suc c) line)
+  carried-small zero (suc line) frame = rw (← carried-line p chars 0 (suc line) frame refl (omega arith)) (line-small (htOf (p .irs)) _)
+  carried-small zero zero (suc frame) = rw (← carried-frame p chars 0 0 (suc frame) refl refl (omega arith)) (row-small _ (htOf (p .irs)))
+  carried-small zero zero zero = rw (← carried-zero p chars 0 0 0 refl refl refl) (record { now-lt = omega arith; kept-lt = omega arith })
+
+  pub next-place : (n : ℕ) → nextPlace p chars (placeAt p chars n) ≡ placeAt p chars (suc n)
+  unfolding nextPlace placeAt
+  next-place n =
+      ap placeOf
+      (step-meets (shapeIn p) (carrierIn p chars) (rowsIn p chars) (accepted-good p a)
+      (cells-lawful (shapeIn p) (feedIn p chars) (tallyIn p) (fed p chars a) (tallied p chars a)) (cell 0) n)
+
+-- ---- the steps
+
+-- the board after n single steps from clock 0
+unfoldable pub after : Board → (chars attrs : List ℕ) → Font → ℕ → Board
+after b chars attrs f zero = withPlace b clockZero
+after b chars attrs f (suc n) = stepOf (after b chars attrs f n) chars attrs f .board
+
+module _ (b : Board) (chars attrs : List ℕ) (f : Font) (ok : stepCheck b chars attrs f ≡ Done) where
+  pub fits : Fit b chars attrs f
+  fits = fit b chars attrs f ok
+
+  page-ok : pageCheck (b .page) ≡ Done
+  unfolding callCheck
+  page-ok = not-refused (pageCheck (b .page)) _ (passed (lentRefused chars attrs f) Size _ refl ok .1) .0
+
+  size-ok : lentRefused chars attrs f ≡ false
+  size-ok = call-passed b (lentRefused chars attrs f) false false ok .sized
+
+  -- the board at clock n, at once
+  abbrev pub boardAt : ℕ → Board
+  boardAt n = withPlace b (placeAt (b .page) chars n)
+
+  in-range : (n : ℕ) → InRange (boardAt n)
+  unfolding placeAt scanAt carriedBefore shapeOf
+  in-range n =
+      let h : 0 < htOf (b .page .irs) = omega arith in
+      let v : 0 < vtOf (b .page .irs) = omega arith in
+      let c = carried-small (b .page) chars (fits .page) (n % htOf (b .page .irs)) (n / htOf (b .page .irs) % vtOf (b .page .irs)) (n / htOf (b .page .irs) / vtOf (b .page .irs)) in
+      record {
+        line-lt = mod-lt (n / htOf (b .page .irs)) v;
+        clock-lt = mod-lt n h;
+        now-le = omega (arith, c .now-lt);
+        kept-le = omega (arith, c .kept-lt);
+        pointer-le = fits .state .pointer-le;
+      }
+
+  pub accepts : (n : ℕ) → stepCheck (boardAt n) chars attrs f ≡ Done
+  accepts n = call-ok (boardAt n) (lentRefused chars attrs f) size-ok page-ok (range-ok (boardAt n) (in-range n))
+
+  -- a step that nothing refuses
+  pub step-is : (n : ℕ) → stepOf (boardAt n) chars attrs f ≡ steppedOf (boardAt n) chars attrs f
+  unfolding stepOf
+  step-is n = rw (accepts n)
+
+  at-zero : withPlace b clockZero ≡ boardAt 0
+  unfolding placeAt scanAt carriedAt
+  at-zero = simp (zero-div, zero-mod)
+
+  step-on : (n : ℕ) → stepOf (boardAt n) chars attrs f .board ≡ boardAt (suc n)
+  unfolding steppedOf
+  step-on n = rw (step-is n) (ap (withPlace b) (next-place (b .page) chars (fits .page) n))
+
+  pub steps-are : (n : ℕ) → after b chars attrs f n ≡ boardAt n
+  unfolding after
+  steps-are zero = at-zero
+  steps-are (suc n) = ap (λ (x : Board). stepOf x chars attrs f .board) (steps-are n) ∙ step-on n
+
+  -- each of the n steps answers 0
+  pub step-answers : (n : ℕ) → stepOf (after b chars attrs f n) chars attrs f .refusal ≡ Done
+  unfolding steppedOf
+  step-answers n = rw (steps-are n, step-is n)
+
+  state-ok : stateCheck b chars attrs ≡ Done
+  state-ok =
+      call-ok b (not (eqb (length chars) 16384) || not (eqb (length attrs) 16384)) (rw (eq-eqb _ _ (fits .chars-all), eq-eqb _ _ (fits .attrs-all))) page-ok
+      (range-ok b (fits .state))
+
+  -- the state for clock n answers 0 and is the board after n single steps from clock 0
+  pub at-once : (n : ℕ) → (stateOf b chars attrs n .refusal ≡ Done) × (stateOf b chars attrs n .board ≡ after b chars attrs f n)
+  unfolding stateOf
+  at-once n = (state-ok, rw state-ok (sym (steps-are n)))

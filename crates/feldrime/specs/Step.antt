@@ -1,0 +1,32 @@
+-- The step for C: its answer in numbers.
+use Prim.Native.Nat.{ℕ}
+use mathlib.Core.Bool.{Bool}
+use mathlib.Core.List.{List}
+use Rattle.lists.specs.Choice.{pick}
+use Rattle.refusal.specs.Number.{numberOf}
+use Rattle.board.specs.declared.Board.{Board}
+use Rattle.shape.specs.Font.{fontOf}
+use Rattle.clock.specs.declared.Stepped.{Stepped}
+use Rattle.clock.specs.Step.{stepOf}
+use Rattle.feldrime.specs.declared.StepAnswer.{StepAnswer}
+use Rattle.feldrime.specs.declared.StepBy.{StepBy}
+
+-- the refusal's number, 0 beside it, the signals as 0 or 1, address and dots
+unfoldable pub numbered : Stepped → StepAnswer
+numbered s = record {
+  refusal = numberOf (s .refusal);
+  beside = 0;
+  hsync = pick (s .signals .hsync) 1 0;
+  vsync = pick (s .signals .vsync) 1 0;
+  blank = pick (s .signals .blank) 1 0;
+  cursor = pick (s .signals .cursor) 1 0;
+  blink = pick (s .signals .blink) 1 0;
+  address = s .address;
+  dots = s .dots;
+}
+
+abbrev pub stepNumbers : Board → (chars attrs words flags unshifted shifted : List ℕ) → StepBy
+stepNumbers b chars attrs words flags unshifted shifted = record {
+  answer = numbered (stepOf b chars attrs (fontOf words flags unshifted shifted));
+  board = stepOf b chars attrs (fontOf words flags unshifted shifted) .board;
+}
