@@ -1,13 +1,12 @@
 -- Promise 3 over promise 2's lines: the dots of a line's active clocks, end to end, are those of the line drawn whole. Assumes nothing.
 use Prim.Native.Nat.{ℕ, _+_, _*_, _/_, _%_, _≤_, _<_}
-use mathlib.Core.Path.{_≡_, refl, sym, ap, _∙_}
-use mathlib.Core.Bool.{true, _&&_}
+use mathlib.Core.Path.{_≡_, sym, ap, _∙_}
+use mathlib.Core.Bool.{true}
 use mathlib.Core.List.{List, _++_}
 use native.Mathlib.Omega.{arith}
 use borrow.Author.Tests.{lt-ltb, lt-leb, le-ltb}
 use lib.Arith.{digits-div, digits-mod}
-use lib.Dec.{ltb, leb}
-use lib.ListN.{length, take, drop, replicate}
+use lib.ListN.{length, take, drop}
 use lib.Seq.{take-at}
 use Rattle.lists.specs.Join.{joined, same-joined}
 use Rattle.refusal.specs.declared.Refusal.the-variants.{Done}
@@ -15,12 +14,11 @@ use Rattle.raster.specs.declared.Cell.{Cell}
 use Rattle.raster.specs.Moves.{cell}
 use Rattle.raster.specs.Raster.{Pair, pair, loaded, scanAt}
 use Rattle.raster.specs.Agree.{loaded-meets}
-use Rattle.raster.specs.Cells.{cells-lawful, cellOf, startOf}
+use Rattle.raster.specs.Cells.{cells-lawful}
 use Rattle.board.specs.declared.Page.{Page}
 use Rattle.board.specs.declared.Place.{Place}
 use Rattle.board.specs.declared.Board.{Board}
 use Rattle.timing.specs.Fields.{htOf, vtOf, hactOf, linesOf, visibleOf, shapeOf}
-use Rattle.timing.specs.Check.{callCheck}
 use Rattle.timing.specs.Laws.{accepted-good}
 use Rattle.fetch.specs.Rows.{feedIn, tallyIn, cellAt}
 use Rattle.fetch.specs.Laws.{fed, tallied}
@@ -28,7 +26,7 @@ use Rattle.shape.specs.Font.{Font}
 use Rattle.shape.specs.Laws.{word-of-small}
 use Rattle.video.specs.Scene.{sceneOf}
 use Rattle.video.specs.Width.{length-cell}
-use Rattle.line.specs.Line.{scanOf, dotsAt, columnDots, lineDots, lineLength, lentRefused, drawCheck, drawnOf}
+use Rattle.line.specs.Line.{dotsAt, columnDots, lineDots, lineLength, lentRefused, drawCheck, drawnOf}
 use Rattle.clock.specs.declared.Carried.{Carried}
 use Rattle.clock.specs.Place.{shapeIn, carrierIn, rowsIn, carriedOf, loadedIn, placeAt}
 use Rattle.clock.specs.Signals.{activeIn, padded, dotsOf}
@@ -97,6 +95,16 @@ module _ (b : Board) (chars attrs : List ℕ) (f : Font) (ok : stepCheck b chars
 
   -- ---- the line
 
+  -- a visible line and a buffer with room: nothing is refused, and the line's dots stand at the front of the buffer
+  pub draw-answers : (l : ℕ) → l < visibleOf (b .page .irs) .0 → (out : List ℕ) → lineLength b ≤ length out → drawCheck b (lentRefused chars attrs f) l (length out) ≡ Done
+  unfolding drawCheck
+  draw-answers l hl out room = rw (lt-leb (visibleOf (b .page .irs) .0) l hl, le-ltb (length out) (lineLength b) room) ok
+
+  pub draw-is : (l : ℕ) → l < visibleOf (b .page .irs) .0 → (field : ℕ) (out : List ℕ) → lineLength b ≤ length out
+      → drawnOf b chars attrs f l field out ≡ lineDots b chars attrs f l field ++ drop (lineLength b) out
+  unfolding drawnOf
+  draw-is l hl field out room = rw (draw-answers l hl out room)
+
   module _ (k l : ℕ) (hl : l < visibleOf (b .page .irs) .0) where
     -- the dots that the step at column c puts out, without the places past them
     abbrev stepDots : ℕ → List ℕ
@@ -114,11 +122,6 @@ module _ (b : Board) (chars attrs : List ℕ) (f : Font) (ok : stepCheck b chars
     unfolding lineDots
     stepped-line = same-joined 0 (hactOf (b .page .irs)) stepDots (columnDots b chars attrs f l (k % 256)) (λ c _ h. same-dots c (omega arith))
 
-    pub draw-answers : (out : List ℕ) → lineLength b ≤ length out → drawCheck b (lentRefused chars attrs f) l (length out) ≡ Done
-    unfolding drawCheck
-    draw-answers out room = rw (lt-leb (visibleOf (b .page .irs) .0) l hl, le-ltb (length out) (lineLength b) room) ok
-
     -- the line drawn whole with field count k modulo 256, into any buffer that has room
     pub same-line : (out : List ℕ) → lineLength b ≤ length out → drawnOf b chars attrs f l (k % 256) out ≡ joined 0 (hactOf (b .page .irs)) stepDots ++ drop (lineLength b) out
-    unfolding drawnOf
-    same-line out room = rw (draw-answers out room, stepped-line)
+    same-line out room = draw-is l hl (k % 256) out room ∙ ap (λ (d : List ℕ). d ++ drop (lineLength b) out) (sym stepped-line)

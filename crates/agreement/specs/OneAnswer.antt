@@ -32,6 +32,7 @@ use Rattle.feldrime.specs.declared.StepAnswer.{StepAnswer}
 use Rattle.feldrime.specs.Answers.{answerOf}
 use Rattle.feldrime.specs.LineDraw.{lineDrawCheck, lineDrawn}
 use Rattle.feldrime.specs.Step.{stepNumbers}
+use Rattle.feldrime.specs.State.{boardAnswer}
 use Rattle.registers.specs.Write.{writeOf}
 use Rattle.registers.specs.Read.{readOf}
 use Rattle.registers.specs.Video.{setVideoOf}
@@ -82,6 +83,10 @@ line-draw-one numbers chars attrs f line field out =
 pub step-numbers-one : (b : Board) (chars attrs words flags unshifted shifted : List ℕ)
     → OneAnswer (λ r. r ≡ stepNumbers b chars attrs words flags unshifted shifted)
 step-numbers-one b chars attrs words flags unshifted shifted = only (stepNumbers b chars attrs words flags unshifted shifted)
+
+pub state-for-c-one : (b : Board) (chars attrs : List ℕ) (n : ℕ)
+    → OneAnswer (λ r. r ≡ boardAnswer (stateOf b chars attrs n .refusal) (stateOf b chars attrs n .board))
+state-for-c-one b chars attrs n = only (boardAnswer (stateOf b chars attrs n .refusal) (stateOf b chars attrs n .board))
 
 -- the answer and the board
 pub step-in-place-one : (b : Board) (chars attrs words flags unshifted shifted : List ℕ)

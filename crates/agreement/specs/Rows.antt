@@ -2,25 +2,24 @@
 -- `draw_line` writes, are those that follow from the row's own table entry, whatever the rest of memory holds; with it off, those that follow from screen start 1.
 -- Assumes nothing.
 use Prim.Native.Nat.{ℕ, min, _+_, _*_, _/_, _%_, _≤_, _<_}
-use mathlib.Core.Path.{_≡_, refl, sym, ap, _∙_}
+use mathlib.Core.Path.{_≡_, sym, ap, _∙_}
 use mathlib.Core.Bool.{true, false}
-use mathlib.Core.List.{List}
-use native.Mathlib.Nat.{add-comm, suc-mul, mul-le-mul-right}
+use mathlib.Core.List.{List, _++_}
+use lib.ListN.{length, drop}
 use native.Mathlib.Omega.{arith}
 use lib.Arith.{digits-div, digits-mod, digits-lt}
 use Rattle.lists.specs.Join.{joined, same-joined}
 use Rattle.refusal.specs.declared.Refusal.the-variants.{Done}
-use Rattle.raster.specs.Moves.{advanceBy, advanceBy-add}
+use Rattle.raster.specs.Moves.{advanceBy}
 use Rattle.board.specs.declared.Board.{Board}
 use Rattle.timing.specs.Fields.{hactOf, linesOf, rowsOf, visibleOf, tableOf, bufferOf}
-use Rattle.timing.specs.Laws.{buffer-bounded}
 use Rattle.fetch.specs.Rows.{entryOf, rowStart, cellAt}
 use Rattle.fetch.specs.Laws.{cell-moved, start-table, start-sheet}
 use Rattle.shape.specs.Font.{Font}
-use Rattle.line.specs.Line.{scanOf, dotsAt, columnDots, lineDots}
+use Rattle.line.specs.Line.{scanOf, dotsAt, columnDots, lineDots, lineLength, drawnOf}
 use Rattle.clock.specs.Step.{stepCheck, stepOf}
-use Rattle.agreement.specs.Steps.{after, fits}
-use Rattle.agreement.specs.Lines.{clockOf, address-is}
+use Rattle.agreement.specs.Steps.{after}
+use Rattle.agreement.specs.Lines.{clockOf, address-is, draw-is}
 
 -- line l of row r
 abbrev pub lineOf : Board → (r l : ℕ) → ℕ
@@ -49,24 +48,31 @@ module _ (b : Board) (chars attrs : List ℕ) (f : Font) (ok : stepCheck b chars
     addresses : (k c : ℕ) → c < hactOf (b .page .irs) → stepOf (after b chars attrs f (clockOf b k (lineOf b r l) c)) chars attrs f .address ≡ follows b start c
     addresses k c h = address-is b chars attrs f ok k (lineOf b r l) c visible h ∙ rw (row-is, begins) (from-start c h)
 
-    cells : (field : ℕ) → lineDots b chars attrs f (lineOf b r l) field ≡ joined 0 (hactOf (b .page .irs)) (λ c. dotsAt b chars attrs f (scanOf l) field (follows b start c))
+    cells : (field : ℕ) (out : List ℕ) → lineLength b ≤ length out
+        → drawnOf b chars attrs f (lineOf b r l) field out
+        ≡ joined 0 (hactOf (b .page .irs)) (λ c. dotsAt b chars attrs f (scanOf l) field (follows b start c)) ++ drop (lineLength b) out
     unfolding lineDots columnDots
-    cells field =
-        same-joined 0 (hactOf (b .page .irs)) _ _
-        (λ c _ h. rw (row-is, within-row, begins) (ap (dotsAt b chars attrs f (scanOf l) field) (from-start c (omega arith))))
+    cells field out room =
+        draw-is b chars attrs f ok (lineOf b r l) visible field out room
+        ∙ ap (λ (d : List ℕ). d ++ drop (lineLength b) out)
+        (same-joined 0 (hactOf (b .page .irs)) _ _
+        (λ c _ h. rw (row-is, within-row, begins) (ap (dotsAt b chars attrs f (scanOf l) field) (from-start c (omega arith)))))
 
-  -- with the table on: from the row's entry
-  pub row-from-table : tableOf (b .page .irs) ≡ true
-      → ((k c : ℕ) → c < hactOf (b .page .irs) → stepOf (after b chars attrs f (clockOf b k (lineOf b r l) c)) chars attrs f .address ≡ follows b (entryOf (b .page) chars r) c)
-      × ((field : ℕ) → lineDots b chars attrs f (lineOf b r l) field ≡ joined 0 (hactOf (b .page .irs)) (λ c. dotsAt b chars attrs f (scanOf l) field (follows b (entryOf (b .page) chars r) c)))
+  -- what `step` puts out and what `draw_line` writes on line l of row r, where the row's cells follow from an address
+  pub record Shown (start : ℕ) : Type 0 where
+    pub stepped : (k c : ℕ) → c < hactOf (b .page .irs) → stepOf (after b chars attrs f (clockOf b k (lineOf b r l) c)) chars attrs f .address ≡ follows b start c
+    pub drawn : (field : ℕ) (out : List ℕ) → lineLength b ≤ length out
+        → drawnOf b chars attrs f (lineOf b r l) field out
+        ≡ joined 0 (hactOf (b .page .irs)) (λ c. dotsAt b chars attrs f (scanOf l) field (follows b start c)) ++ drop (lineLength b) out
+
+  -- with the table on: they follow from the row's entry
+  pub row-from-table : tableOf (b .page .irs) ≡ true → Shown (entryOf (b .page) chars r)
   row-from-table t =
       let s = start-table (b .page) chars r t in
-      (addresses (entryOf (b .page) chars r) s, cells (entryOf (b .page) chars r) s)
+      record { stepped = addresses (entryOf (b .page) chars r) s; drawn = cells (entryOf (b .page) chars r) s }
 
-  -- with it off: r x HACT cells on from screen start 1
-  pub row-from-start : tableOf (b .page .irs) ≡ false
-      → ((k c : ℕ) → c < hactOf (b .page .irs) → stepOf (after b chars attrs f (clockOf b k (lineOf b r l) c)) chars attrs f .address ≡ follows b (follows b (b .page .starts .start1) (r * hactOf (b .page .irs))) c)
-      × ((field : ℕ) → lineDots b chars attrs f (lineOf b r l) field ≡ joined 0 (hactOf (b .page .irs)) (λ c. dotsAt b chars attrs f (scanOf l) field (follows b (follows b (b .page .starts .start1) (r * hactOf (b .page .irs))) c)))
+  -- with it off: from the cell r x HACT moves after screen start 1
+  pub row-from-start : tableOf (b .page .irs) ≡ false → Shown (follows b (b .page .starts .start1) (r * hactOf (b .page .irs)))
   row-from-start t =
       let s = start-sheet (b .page) chars r t in
-      (addresses (follows b (b .page .starts .start1) (r * hactOf (b .page .irs))) s, cells (follows b (b .page .starts .start1) (r * hactOf (b .page .irs))) s)
+      record { stepped = addresses (follows b (b .page .starts .start1) (r * hactOf (b .page .irs))) s; drawn = cells (follows b (b .page .starts .start1) (r * hactOf (b .page .irs))) s }

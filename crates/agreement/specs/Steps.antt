@@ -1,32 +1,27 @@
 -- Promise 3: the state worked out at once for clock n is the state after n single steps. All of it speaks of the public `step` and `state_at`. Assumes nothing.
-use Prim.Native.Nat.{ℕ, zero, suc, _+_, _*_, _/_, _%_, _≤_, _<_}
+use Prim.Native.Nat.{ℕ, zero, suc, _/_, _%_, _<_}
 use mathlib.Core.Path.{_≡_, refl, sym, ap, _∙_}
-use mathlib.Core.Bool.{Bool, true, false, _||_, not}
-use mathlib.Core.List.{List, []}
+use mathlib.Core.Bool.{Bool, false, _||_, not}
+use mathlib.Core.List.{List}
 use native.Mathlib.Nat.{mod-lt, zero-div, zero-mod}
 use native.Mathlib.Decide.{decLt}
 use native.Mathlib.Omega.{arith}
 use borrow.Author.Tests.{lt-leb, le-ltb, eq-eqb}
 use lib.Dec.{eqb}
 use lib.ListN.{length}
-use Rattle.lists.specs.Choice.{pick}
-use Rattle.refusal.specs.declared.Refusal.{Refusal}
 use Rattle.refusal.specs.declared.Refusal.the-variants.{Done, Size}
-use Rattle.refusal.specs.Number.{doneOf}
 use Rattle.refusal.specs.Laws.{not-refused, passed}
 use Rattle.raster.specs.Moves.{cell}
 use Rattle.raster.specs.Raster.{carriedAt, scanAt}
 use Rattle.raster.specs.Agree.{step-meets}
 use Rattle.raster.specs.Cells.{cells-lawful}
 use Rattle.board.specs.declared.Page.{Page}
-use Rattle.board.specs.declared.Place.{Place}
 use Rattle.board.specs.declared.Board.{Board}
 use Rattle.board.specs.State.{clockZero}
-use Rattle.board.specs.Range.{cellsRefused, pointerRefused}
-use Rattle.timing.specs.Fields.{htOf, vtOf, rowsOf, visibleOf, shapeOf}
+use Rattle.timing.specs.Fields.{htOf, vtOf, visibleOf, shapeOf}
 use Rattle.timing.specs.Check.{pageCheck, stateRefused, callCheck}
-use Rattle.timing.specs.Laws.{Accepted, InRange, accepted, accepted-good, call-passed}
-use Rattle.fetch.specs.Rows.{feedIn, tallyIn, rowStart, cellAt}
+use Rattle.timing.specs.Laws.{Accepted, InRange, accepted-good, call-passed}
+use Rattle.fetch.specs.Rows.{feedIn, tallyIn}
 use Rattle.fetch.specs.Laws.{fed, tallied, cell-at-lt, row-start-lt}
 use Rattle.shape.specs.Font.{Font}
 use Rattle.line.specs.Line.{lentRefused}

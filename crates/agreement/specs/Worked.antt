@@ -12,7 +12,7 @@ use Rattle.shape.specs.Font.{Font, fontOf}
 use Rattle.clock.specs.Step.{stepCheck}
 use Rattle.agreement.specs.Cases.{page, board}
 use Rattle.agreement.specs.Steps.{after}
-use Rattle.agreement.specs.Frames.{frameClocks, frame-ends}
+use Rattle.agreement.specs.Frames.{frame-ends}
 
 -- A1's page, memories and font of zeros
 pub sheet : Board

@@ -1,5 +1,4 @@
 -- The board at power, and at clock 0 (01, "The board that is built").
-use Prim.Native.Nat.{ℕ}
 use lib.ListN.{replicate}
 use Rattle.units.specs.Units.{clocks, lines, dots}
 use Rattle.raster.specs.Moves.{cell}

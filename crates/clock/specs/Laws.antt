@@ -1,5 +1,5 @@
 -- The definitions as the code has them: one law for each way out of a function. Assumes nothing.
-use Prim.Native.Nat.{ℕ, zero, suc, pred, min, _+_, _-_, _*_, _/_, _%_, _≤_, _<_}
+use Prim.Native.Nat.{ℕ, zero, suc, _+_, _-_, _/_, _%_, _≤_, _<_}
 use mathlib.Core.Path.{_≡_, refl, sym, ap, _∙_}
 use mathlib.Core.Bool.{Bool, true, false, _&&_, _||_, not, true≢false}
 use mathlib.Core.List.{List, [], _∷_, _++_, map}
@@ -13,7 +13,7 @@ use Rattle.lists.specs.Choice.{pick, pick-lt, neither}
 use Rattle.refusal.specs.declared.Refusal.the-variants.{Done}
 use Rattle.raster.specs.declared.Cell.{Cell}
 use Rattle.raster.specs.Moves.{cell, advance}
-use Rattle.raster.specs.Raster.{L, R, Pair, pair, scan, loaded, beam, turn, step, tail, inLine, carriedAt, scanAt}
+use Rattle.raster.specs.Raster.{Pair, pair, loaded, beam, turn, step, tail, inLine, carriedAt, scanAt}
 use Rattle.raster.specs.Cells.{begins, movesOn}
 use Rattle.board.specs.declared.Page.{Page}
 use Rattle.board.specs.declared.Place.{Place}
@@ -36,7 +36,7 @@ use Rattle.video.specs.Width.{length-cell}
 use Rattle.clock.specs.declared.Carried.{Carried}
 use Rattle.clock.specs.declared.Signals.{Signals}
 use Rattle.clock.specs.declared.Stepped.{Stepped}
-use Rattle.clock.specs.Place.{shapeIn, carrierIn, rowsIn, carriedOf, loadedIn, movedIn, turnedIn, nextPlace, rowAt, lineAt, carriedBefore, placeAt}
+use Rattle.clock.specs.Place.{shapeIn, carrierIn, carriedOf, loadedIn, movedIn, turnedIn, nextPlace, rowAt, lineAt, carriedBefore, placeAt}
 use Rattle.clock.specs.Signals.{activeIn, scanIn, signalsOf, padded, dotsOf}
 use Rattle.clock.specs.Step.{withPlace, steppedOf, stateCheck, Fit}
 

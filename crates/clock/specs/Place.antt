@@ -1,16 +1,14 @@
 -- The board's place: the raster at a page and its character memory, one clock on and at once (01, "Clock and frame", "Which cell is fetched").
 use Prim.Native.Nat.{ℕ, _*_}
-use mathlib.Core.Path.{_≡_}
 use mathlib.Core.Bool.{_&&_}
 use mathlib.Core.List.{List}
 use lib.Dec.{ltb}
-use lib.ListN.{length}
 use Rattle.lists.specs.Choice.{pick}
 use Rattle.units.specs.Units.{clocks, lines}
 use Rattle.raster.specs.declared.Cell.{Cell}
 use Rattle.raster.specs.declared.Shape.{Shape}
 use Rattle.raster.specs.Moves.{cell, advance}
-use Rattle.raster.specs.Raster.{L, R, Carrier, Rows, Pair, pair, Scan, scan, loaded, beam, turn, step, inLine, carriedAt, scanAt}
+use Rattle.raster.specs.Raster.{L, R, Carrier, Rows, Pair, pair, Scan, scan, loaded, turn, step, inLine, carriedAt, scanAt}
 use Rattle.raster.specs.Cells.{carrier, rowsOf}
 use Rattle.board.specs.declared.Page.{Page}
 use Rattle.board.specs.declared.Place.{Place}

@@ -1,7 +1,7 @@
 -- The step, and the state for clock n.
 use Prim.Native.Nat.{ℕ}
 use mathlib.Core.Path.{_≡_}
-use mathlib.Core.Bool.{Bool, false, _||_, not}
+use mathlib.Core.Bool.{false, _||_, not}
 use mathlib.Core.List.{List}
 use lib.Dec.{eqb}
 use lib.ListN.{length, replicate}

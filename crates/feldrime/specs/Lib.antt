@@ -4,3 +4,4 @@ pub mod Answers
 pub mod LineDraw
 pub mod Laws
 pub mod Step
+pub mod State

@@ -1,6 +1,5 @@
 -- The step for C: its answer in numbers.
 use Prim.Native.Nat.{ℕ}
-use mathlib.Core.Bool.{Bool}
 use mathlib.Core.List.{List}
 use Rattle.lists.specs.Choice.{pick}
 use Rattle.refusal.specs.Number.{numberOf}

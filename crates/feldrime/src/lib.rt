@@ -7,6 +7,8 @@ ghost use Rattle.feldrime.specs.Answers.{answerOf};
 ghost use Rattle.feldrime.specs.LineDraw.{lineDrawCheck, lineDrawn};
 ghost use Rattle.lists.specs.Choice.{pick};
 ghost use Rattle.feldrime.specs.Step.{numbered, stepNumbers};
+ghost use Rattle.feldrime.specs.State.{boardAnswer};
+ghost use Rattle.clock.specs.Step.{stateOf};
 
 // The refusal's number, and a number beside it, which no refusal has yet.
 #[repr(C)]
@@ -164,4 +166,32 @@ pub extern "C" fn feldrime_step(
     let s = step_numbers(*b, chars, attrs, words, flags, unshifted, shifted);
     *b = s.board;
     s.answer
+}
+
+// An answer that carries a board.
+#[repr(C)]
+pub struct BoardAnswer {
+    pub refusal: u32,
+    pub beside: u32,
+    pub board: board::Board,
+}
+
+// The board at clock n, counted from clock 0.
+#[no_mangle]
+pub extern "C" fn feldrime_state_at(
+    b: board::Board,
+    chars: &[u8],
+    attrs: &[u8],
+    n: u32,
+) -> BoardAnswer
+    ensures { λ r. ⌜ r ≡ boardAnswer (stateOf b (now (chars .entry)) (now (attrs .entry)) n .refusal) (stateOf b (now (chars .entry)) (now (attrs .entry)) n .board) ⌝ }
+{
+    let s = clock::state_at(b, chars, attrs, n);
+    let refused = s.refusal;
+    let board = s.board;
+    BoardAnswer {
+        refusal: refusal::number(refused),
+        beside: 0,
+        board: board,
+    }
 }

@@ -1,6 +1,6 @@
 -- What callers use of the fetch: an accepted page's cells are the beam's, and a run is empty on a refusal and only there. Assumes nothing.
-use Prim.Native.Nat.{ℕ, suc, min, _+_, _-_, _*_, _^_, _≤_, _<_}
-use mathlib.Core.Path.{_≡_, refl, sym, ap, _∙_}
+use Prim.Native.Nat.{ℕ, min, _+_, _-_, _*_, _^_, _≤_, _<_}
+use mathlib.Core.Path.{_≡_, refl}
 use mathlib.Core.Bool.{Bool, true, false, not}
 use mathlib.Core.List.{List}
 use native.Mathlib.Nat.{mul-le-mul}
@@ -14,7 +14,7 @@ use Rattle.refusal.specs.declared.Refusal.{Refusal}
 use Rattle.refusal.specs.declared.Refusal.the-variants.{Done}
 use Rattle.refusal.specs.Number.{doneOf}
 use Rattle.refusal.specs.Laws.{done-is}
-use Rattle.raster.specs.Moves.{toLast, advanceBy, advanceBy-lt}
+use Rattle.raster.specs.Moves.{advanceBy, advanceBy-lt}
 use Rattle.raster.specs.Cells.{Fed, Tallied, startOf, cellOf, start-lt, cell-zero}
 use Rattle.board.specs.declared.Page.{Page}
 use Rattle.board.specs.declared.Board.{Board}

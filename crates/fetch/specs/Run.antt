@@ -1,7 +1,7 @@
 -- 01: the row's first run of cells, from the row start to the row's end, the last buffer address or 16383, whichever is first met.
-use Prim.Native.Nat.{ℕ, min, _+_, _-_, _*_}
-use mathlib.Core.Bool.{Bool, false, not}
-use mathlib.Core.List.{List, []}
+use Prim.Native.Nat.{ℕ, min, _+_, _-_}
+use mathlib.Core.Bool.{false, not}
+use mathlib.Core.List.{List}
 use lib.Dec.{eqb, leb}
 use lib.ListN.{length, take, drop}
 use Rattle.lists.specs.Choice.{pick}

@@ -4,7 +4,6 @@ ghost use Prim.Native.Nat.{min, _<_, _≤_, _+_};
 ghost use lib.ListN.{length};
 ghost use Rattle.raster.specs.Moves.{cell};
 ghost use Rattle.refusal.specs.Number.{numberOf};
-ghost use Rattle.timing.specs.Laws.{Accepted};
 ghost use Rattle.fetch.specs.Rows.{entryOf, rowStart, cellAt};
 ghost use Rattle.fetch.specs.Run.{runCheck, runCount, spanOf, runOf};
 

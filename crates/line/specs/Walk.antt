@@ -1,7 +1,7 @@
 -- The line as the drawer goes along it, and that this is the line of `Line.antt`. Assumes nothing.
 use Prim.Native.Nat.{ℕ, min, _+_, _*_, _/_, _%_, _≤_, _<_}
-use mathlib.Core.Path.{_≡_, refl, sym, ap, _∙_}
-use mathlib.Core.Bool.{Bool, true, false, _||_, not}
+use mathlib.Core.Path.{_≡_, sym, ap, _∙_}
+use mathlib.Core.Bool.{true, false, _||_, not}
 use mathlib.Core.List.{List, _++_}
 use native.Mathlib.Nat.{div-lt-iff-lt-mul}
 use native.Mathlib.Numerals.{add-one}
@@ -19,8 +19,8 @@ use Rattle.raster.specs.Moves.{cell, Bounded, advance, advanceBy, advanceBy-lt,
 use Rattle.board.specs.declared.Board.{Board}
 use Rattle.timing.specs.declared.Timing.{Timing}
 use Rattle.timing.specs.Fields.{hactOf, rowsOf, linesOf, visibleOf, bufferOf, timingOf, shapeOf}
-use Rattle.timing.specs.Laws.{Accepted, Passed, call-passed, buffer-bounded}
-use Rattle.fetch.specs.Rows.{rowStart, cellAt}
+use Rattle.timing.specs.Laws.{Accepted, call-passed, buffer-bounded}
+use Rattle.fetch.specs.Rows.{rowStart}
 use Rattle.fetch.specs.Laws.{cell-moved, row-start-lt}
 use Rattle.shape.specs.Font.{Font, Whole, fontRefused, positionOf, wordBy, wordOf}
 use Rattle.shape.specs.Laws.{font-whole, by-small}

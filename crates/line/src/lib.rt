@@ -4,7 +4,6 @@ ghost use mathlib.Core.List.{_++_};
 ghost use Prim.Native.Nat.{_*_, _≤_, _<_};
 ghost use lib.ListN.{length, drop};
 ghost use Rattle.lists.specs.Join.{joined};
-ghost use Rattle.raster.specs.Moves.{Bounded};
 ghost use Rattle.shape.specs.Font.{fontOf};
 ghost use Rattle.line.specs.Line.{lentRefused, drawCheck, drawnOf, lineDots, lineLength};
 ghost use Rattle.line.specs.Walk.{walkOf, cellBy, columnBy, Ready, Drawn};

@@ -5,12 +5,11 @@
 --     lent          what `&mut xs[a..]` leaves of the whole, in the form that `fill-part` takes
 use mathlib.Core.Path.{_≡_, refl, sym, ap, _∙_}
 use mathlib.Core.List.{List, [], _∷_, _++_, append-assoc, append-nil}
-use Prim.Native.Nat.{ℕ, zero, suc, _+_, _-_, _≤_, _<_}
+use Prim.Native.Nat.{ℕ, _+_, _-_, _≤_, _<_}
 use native.Mathlib.Numerals.{add-one}
-use native.Mathlib.Nat.{zero-add}
 use native.Mathlib.Omega.{arith}
 use lib.ListN.{length, take, drop, set, length-append, length-take, length-drop, length-set, take-append-drop, drop-of-length-le}
-use lib.Seq.{take-suc-set, drop-set-lt, drop-drop, take-at, drop-at, take-all, length-take-le}
+use lib.Seq.{take-suc-set, drop-set-lt, drop-drop, take-at, drop-at, take-all}
 
 -- out, of which the first k are done, becomes final when rest is put at k and what stood from e on (in out₀) stays
 pub record Filling (final out₀ : List ℕ) (e : ℕ) (out : List ℕ) (k : ℕ) (rest : List ℕ) : Type 0 where

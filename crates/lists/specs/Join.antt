@@ -3,7 +3,7 @@
 --     same-joined            stretches that agree one by one make the same list
 --     begins, turn, ends     the loop's proof, where every stretch is d long: what is left after c turns is `joined c (n - c) f`
 --     inside                 stretch c lies within the buffer
-use mathlib.Core.Path.{_≡_, refl, ap₂, _∙_}
+use mathlib.Core.Path.{_≡_, refl, ap₂}
 use mathlib.Core.List.{List, [], _++_}
 use Prim.Native.Nat.{ℕ, zero, suc, _+_, _*_, _-_, _≤_, _<_}
 use native.Mathlib.Nat.{zero-mul, add-mul, one-mul, sub-zero, mul-le-mul-right}

@@ -11,7 +11,7 @@ use native.Mathlib.Omega.{arith}
 use borrow.Author.Tests.{lt-ltb, le-ltb, eq-eqb, ne-eqb}
 use Rattle.raster.specs.declared.Shape.{Shape}
 use Rattle.raster.specs.Tick.{Tick, within, carry, tick}
-use Rattle.raster.specs.Raster.{HT, VT, L, R, Good, clocks-some, frame-some, Carrier, Pair, pair, Scan, scan, turn, loaded, beam, step, steps, origin, Rows, tail, inLine, carriedAt, scanAt}
+use Rattle.raster.specs.Raster.{HT, VT, L, R, Good, clocks-some, frame-some, Carrier, Pair, pair, scan, turn, loaded, beam, step, steps, origin, Rows, tail, inLine, carriedAt, scanAt}
 
 pub record Laws {D : Type 0} (g : Shape) (m : Carrier D) (w : Rows D) : Type 0 where
   pub walk-zero : (r : ℕ) → r < R g → w .walk r 0 ≡ w .start r

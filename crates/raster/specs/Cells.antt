@@ -7,7 +7,7 @@
 --     cells-inside  with the table off and an ordered buffer every cell is in the buffer
 use mathlib.Core.Path.{_≡_, refl, sym, ap, _∙_}
 use mathlib.Core.Bool.{Bool, true, false}
-use Prim.Native.Nat.{ℕ, zero, suc, min, _+_, _*_, _≤_, _<_}
+use Prim.Native.Nat.{ℕ, suc, min, _+_, _*_, _<_}
 use native.Mathlib.Nat.{zero-mul, suc-mul, add-comm}
 use native.Mathlib.Decide.{decLt}
 use native.Mathlib.Omega.{arith}

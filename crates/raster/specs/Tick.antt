@@ -1,11 +1,11 @@
 -- One more, by quotient and remainder: either the remainder goes up and the quotient stays, or the remainder goes to 0 and the quotient up.
 -- Assumes nothing.
-use mathlib.Core.Path.{_≡_, refl, sym, ap, _∙_}
-use Prim.Native.Nat.{ℕ, zero, suc, _+_, _-_, _*_, _/_, _%_, _≤_, _<_}
+use mathlib.Core.Path.{_≡_, sym, ap, _∙_}
+use Prim.Native.Nat.{ℕ, suc, _+_, _*_, _/_, _%_, _<_}
 use native.Mathlib.Nat.{div-add-mod', mod-lt, mod-eq-of-lt, div-eq-of-lt, div-div-eq-div-mul, mul-comm}
 use native.Mathlib.Decide.{decLt}
 use native.Mathlib.Omega.{arith}
-use lib.Arith.{digits-div, digits-mod, mod-mul, digits-lt}
+use lib.Arith.{digits-div, digits-mod, mod-mul}
 
 pub data Tick (m n : ℕ) : Type 0 where
   within : suc (n % m) < m → suc n % m ≡ suc (n % m) → suc n / m ≡ n / m → Tick m n

@@ -1,6 +1,6 @@
 -- A write at a register address (003 Tables 1, 4 and 6; 01, "Register fields").
 use Prim.Native.Nat.{ℕ, _+_, _-_, _*_, _/_, _%_}
-use mathlib.Core.Bool.{Bool, _&&_, not}
+use mathlib.Core.Bool.{_&&_, not}
 use mathlib.Core.List.{[], _∷_}
 use lib.ListN.{set}
 use lib.Dec.{eqb, ltb, leb}

@@ -1,9 +1,7 @@
 // The register calls: what the processor writes and reads (003 Tables 1, 4 and 6), and the board's own video setting.
 ghost use mathlib.Core.Path.{_≡_};
-ghost use mathlib.Core.Bool.{_||_};
 ghost use mathlib.Core.List.{[], _∷_};
 ghost use Prim.Native.Nat.{_≤_, _-_, _+_};
-ghost use lib.Dec.{eqb, ltb};
 ghost use Rattle.lists.specs.Choice.{pick, firstOf};
 ghost use Rattle.refusal.specs.declared.Refusal.{Refusal};
 ghost use Rattle.registers.specs.Write.{stateCheck, brokenOf, resetOf, pointedOf, nextPointer, loadedOf, lowerOf, upperOf, startsAfter, startedOf, switchesAfter, switchedOf, commandOf, activeOf, inactiveOf, writeOf};

@@ -2,7 +2,6 @@
 use Prim.Native.Nat.{ℕ, _<_}
 use mathlib.Core.Path.{refl}
 use native.Mathlib.Omega.{arith}
-use Rattle.raster.specs.Raster.{Good}
 use Rattle.raster.specs.Cells.{Feed, Fed, Tallied, everyClock, tallyOf, every-clock-tallied}
 use Rattle.board.specs.declared.Page.{Page}
 use Rattle.timing.specs.Fields.{bufferOf, tableOf, shapeOf}

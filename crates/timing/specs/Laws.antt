@@ -1,7 +1,7 @@
 -- What callers use of the definitions: bounds that hold of any registers, and what an accepted page gives. Assumes nothing.
-use Prim.Native.Nat.{ℕ, _+_, _*_, _/_, _%_, _≤_, _<_}
+use Prim.Native.Nat.{ℕ, _*_, _/_, _%_, _≤_, _<_}
 use mathlib.Core.Path.{_≡_, refl}
-use mathlib.Core.Bool.{Bool, false, _||_, not}
+use mathlib.Core.Bool.{Bool, false, _||_}
 use mathlib.Core.List.{List}
 use native.Mathlib.Nat.{mul-le-mul}
 use native.Mathlib.Omega.{arith}
@@ -10,8 +10,7 @@ use lib.Dec.{eqb, ltb, leb}
 use Rattle.lists.specs.Choice.{neither, pick-le}
 use Rattle.units.specs.Units.{clocksOf}
 use Rattle.refusal.specs.declared.Refusal.the-variants.{Done, Size, Reserved, Porch, Width, Range, Room, Address}
-use Rattle.refusal.specs.Number.{doneOf}
-use Rattle.refusal.specs.Laws.{passed, done-is, not-refused}
+use Rattle.refusal.specs.Laws.{passed, not-refused}
 use Rattle.raster.specs.Moves.{Bounded}
 use Rattle.raster.specs.Raster.{Good}
 use Rattle.board.specs.declared.Page.{Page}

@@ -1,11 +1,11 @@
--- The cell without a loop: six dots that every width has, and twice three that it may have. Assumes nothing.
-use mathlib.Core.Path.{_≡_, refl, sym, ap, _∙_}
+-- The cell without a loop: six dots and one that it may have, or eight and four that it may have. Assumes nothing.
+use mathlib.Core.Path.{_≡_, refl, sym}
 use mathlib.Core.Bool.{Bool, true, false}
-use mathlib.Core.List.{List, [], _∷_, _++_}
-use Prim.Native.Nat.{ℕ, zero, suc, _+_, _*_, _/_, _%_, _-_, _≤_, _<_}
-use native.Mathlib.Nat.{add-zero, add-suc}
+use mathlib.Core.List.{List, _∷_, _++_}
+use Prim.Native.Nat.{ℕ, zero, suc, _+_, _/_, _%_, _^_, _-_, _≤_, _<_}
+use native.Mathlib.Nat.{add-zero, mul-comm, pow-suc, div-one, div-div-eq-div-mul}
 use native.Mathlib.Omega.{arith}
-use borrow.Author.Tests.{ltb-true, ltb-false, lt-ltb}
+use borrow.Author.Tests.{ltb-true, ltb-false}
 use lib.Dec.{ltb}
 use lib.ListN.{length, drop, set}
 use Rattle.lists.specs.Choice.{pick}
@@ -13,21 +13,18 @@ use Rattle.lists.specs.Fill.{Filling, fill-start, fill-one, fill-end}
 use Rattle.video.specs.declared.Look.{Look}
 use Rattle.video.specs.Cell.{shadeOf, cellDots}
 use Rattle.video.specs.Stores.{wideOf, putIf, puts}
+use Rattle.video.specs.Bytes.{put-lt}
 use Rattle.video.specs.Width.{shades, cell-shades, shades-more, shades-none}
 
--- three stores, as the code makes them
-pub three-puts : (d symbol surround k w : ℕ) (o o1 o2 o3 : List ℕ)
-    → o1 ≡ putIf o k d (shadeOf symbol surround (w % 2)) → o2 ≡ putIf o1 (k + 1) d (shadeOf symbol surround (w / 2 % 2)) → o3 ≡ putIf o2 (k + 2) d (shadeOf symbol surround (w / 4 % 2))
-    → o3 ≡ puts d symbol surround 3 o k w
+-- the stores, as the code makes them
+pub four-puts : (d symbol surround w : ℕ) (o o1 o2 o3 o4 : List ℕ)
+    → o1 ≡ putIf o 8 d (shadeOf symbol surround (w % 2)) → o2 ≡ putIf o1 9 d (shadeOf symbol surround (w / 2 % 2)) → o3 ≡ putIf o2 10 d (shadeOf symbol surround (w / 4 % 2))
+    → o4 ≡ putIf o3 11 d (shadeOf symbol surround (w / 8 % 2)) → o4 ≡ puts d symbol surround 4 o 8 w
 unfolding puts
-three-puts d symbol surround k w o o1 o2 o3 p1 p2 p3 =
-    let a : k + 1 + 1 ≡ k + 2 = omega arith in
-    let f : w / 2 / 2 ≡ w / 4 = omega arith in
-    rw (a, f) (rw (p3, p2, p1))
-
-put-lt : (o : List ℕ) (k d v : ℕ) → k < d → putIf o k d v ≡ set o k v
-unfolding putIf
-put-lt o k d v h = rw (lt-ltb k d h)
+four-puts d symbol surround w o o1 o2 o3 o4 p1 p2 p3 p4 =
+    let y3 : w / 2 / 2 / 2 ≡ w / 8 = omega arith in
+    let y2 : w / 2 / 2 ≡ w / 4 = omega arith in
+    rw (y3, y2) (rw (p4, p3, p2, p1))
 
 pub six-puts : (d symbol surround w a b c e f g : ℕ) (o : List ℕ) → 6 ≤ d
     → a ≡ shadeOf symbol surround (w % 2) → b ≡ shadeOf symbol surround (w / 2 % 2) → c ≡ shadeOf symbol surround (w / 4 % 2)
@@ -81,36 +78,42 @@ module _ (final out₀ : List ℕ) (d symbol surround : ℕ) (room : d ≤ lengt
   unfolding putIf
   step out k w f = by-test (ltb k d) out k w refl f
 
-  threes : (out : List ℕ) (k w : ℕ) → Upto out k w → Upto (puts d symbol surround 3 out k w) (k + 3) (w / 8)
+  many : (n : ℕ) (out : List ℕ) (k w : ℕ) → Upto out k w → Upto (puts d symbol surround n out k w) (k + n) (w / 2 ^ n)
   unfolding puts
-  threes out k w f =
-      let a : k + 1 + 1 + 1 ≡ k + 3 = omega arith in
-      let e : w / 2 / 2 / 2 ≡ w / 8 = omega arith in
-      rw (← a, ← e) (step _ _ _ (step _ _ _ (step out k w f)))
+  many zero out k w f = rw (add-zero, div-one) f
+  many (suc n) out k w f =
+      let a : k + suc n ≡ k + 1 + n = omega arith in
+      let e : w / 2 ^ suc n ≡ w / 2 / 2 ^ n = rw (pow-suc 2 n, mul-comm (2 ^ n) 2) (sym (div-div-eq-div-mul w 2 (2 ^ n))) in
+      rw (a, e) (many n _ (k + 1) (w / 2) (step out k w f))
 
-  sixes : (out : List ℕ) (w : ℕ) → Upto out 0 w → Upto (puts d symbol surround 6 out 0 w) 6 (w / 64)
-  unfolding puts
-  sixes out w f =
-      let e : w / 2 / 2 / 2 / 2 / 2 / 2 ≡ w / 64 = omega arith in
-      rw (← e) (step _ _ _ (step _ _ _ (step _ _ _ (step _ _ _ (step _ _ _ (step out 0 w f))))))
-
-  all-done : (w : ℕ) (o1 o2 o3 : List ℕ) → Upto out₀ 0 w → d ≤ 12 → o1 ≡ puts d symbol surround 6 out₀ 0 w → o2 ≡ puts d symbol surround 3 o1 6 (w / 64) → o3 ≡ puts d symbol surround 3 o2 9 (w / 512) → o3 ≡ final
+  past : (k w : ℕ) (out : List ℕ) → d ≤ k → Upto out k w → out ≡ final
   unfolding Upto
-  all-done w o1 o2 o3 f m p1 p2 p3 =
-      let e : w / 64 / 8 ≡ w / 512 = omega arith in
-      let x : 12 - (12 - d) ≡ d = omega arith in
-      let f1 : Upto o1 6 (w / 64) = rw p1 (sixes out₀ w f) in
-      let f2 : Upto o2 9 (w / 512) = rw (p2, ← e) (threes o1 6 (w / 64) f1) in
-      let f3 : Upto o3 12 (w / 512 / 8) = rw p3 (threes o2 9 (w / 512) f2) in
-      fill-end (rw (x, shades-none symbol surround d 12 (w / 512 / 8) m) at f3)
+  past k w out h f =
+      let x : k - (k - d) ≡ d = omega arith in
+      fill-end (rw (x, shades-none symbol surround d k w h) at f)
 
--- the whole cell
-pub flat : (look : Look) (word d w : ℕ) (out o1 o2 o3 : List ℕ) → word < 1024 → d ≤ 12 → d ≤ length out → w ≡ wideOf (look .lit) word d
-    → o1 ≡ puts d (look .symbol) (look .surround) 6 out 0 w → o2 ≡ puts d (look .symbol) (look .surround) 3 o1 6 (w / 64)
-    → o3 ≡ puts d (look .symbol) (look .surround) 3 o2 9 (w / 512) → o3 ≡ cellDots look word d ++ drop d out
-unfolding Upto
-flat look word d w out o1 o2 o3 h m room e p1 p2 p3 =
-    let x : 0 - (0 - d) ≡ 0 = omega arith in
-    let f : Filling (cellDots look word d ++ drop d out) out d out (0 - (0 - d)) (shades (look .symbol) (look .surround) (d - 0) w) =
-    rw (x, cell-shades look word d w h m e) (fill-start out d (shades (look .symbol) (look .surround) (d - 0) w)) in
-    all-done (cellDots look word d ++ drop d out) out d (look .symbol) (look .surround) room w o1 o2 o3 f m p1 p2 p3
+-- the whole cell, by the ways that the code takes
+module _ (look : Look) (word d w : ℕ) (out : List ℕ) (h : word < 1024) (m : d ≤ 12) (room : d ≤ length out) (e : w ≡ wideOf (look .lit) word d) where
+  abbrev final : List ℕ
+  final = cellDots look word d ++ drop d out
+
+  abbrev Drawn : List ℕ → ℕ → ℕ → Type 0
+  Drawn o k bits = Upto final out d (look .symbol) (look .surround) room o k bits
+
+  begun : Drawn out 0 w
+  unfolding Upto
+  begun =
+      let x : 0 - (0 - d) ≡ 0 = omega arith in
+      rw (x, cell-shades look word d w h m e) (fill-start out d (shades (look .symbol) (look .surround) (d - 0) w))
+
+  pub narrow : (o1 o2 : List ℕ) → d < 8 → o1 ≡ puts d (look .symbol) (look .surround) 6 out 0 w → o2 ≡ putIf o1 6 d (shadeOf (look .symbol) (look .surround) (w / 64 % 2)) → o2 ≡ final
+  narrow o1 o2 l p1 p2 =
+      let f1 : Drawn o1 6 (w / 64) = rw p1 (many _ _ _ _ _ room 6 out 0 w begun) in
+      let f2 : Drawn o2 7 (w / 64 / 2) = rw p2 (step _ _ _ _ _ room o1 6 (w / 64) f1) in
+      past _ _ _ _ _ room _ _ _ (omega arith) f2
+
+  pub broad : (o1 o2 : List ℕ) → o1 ≡ puts d (look .symbol) (look .surround) 8 out 0 w → o2 ≡ puts d (look .symbol) (look .surround) 4 o1 8 (w / 256) → o2 ≡ final
+  broad o1 o2 p1 p2 =
+      let f1 : Drawn o1 8 (w / 256) = rw p1 (many _ _ _ _ _ room 8 out 0 w begun) in
+      let f2 : Drawn o2 12 (w / 256 / 16) = rw p2 (many _ _ _ _ _ room 4 o1 8 (w / 256) f1) in
+      past _ _ _ _ _ room _ _ _ m f2

@@ -1,6 +1,6 @@
 -- 000 Table 1, as 01 condenses it: black 0, gray 1, white 2.
 use Prim.Native.Nat.{ℕ}
-use mathlib.Core.Bool.{Bool, not, xor}
+use mathlib.Core.Bool.{Bool}
 use Rattle.lists.specs.Choice.{pick}
 
 -- T: white if highlighted, else gray

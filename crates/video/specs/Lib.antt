@@ -5,4 +5,5 @@ pub mod Look
 pub mod Cell
 pub mod Stores
 pub mod Width
+pub mod Bytes
 pub mod Flat

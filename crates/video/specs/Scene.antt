@@ -1,5 +1,5 @@
 -- 01, "From cell to dots": what is the same for all cells of a scan line. BLINK and the underline line are signals of a line in 003 too (DADD11, DADD10).
-use Prim.Native.Nat.{ℕ, _+_, _*_, _/_, _%_}
+use Prim.Native.Nat.{ℕ, _*_, _/_, _%_}
 use mathlib.Core.Bool.{Bool, _&&_, _||_, not}
 use lib.Dec.{eqb, ltb, leb}
 use Rattle.board.specs.declared.Board.{Board}

@@ -19,3 +19,13 @@ putIf out k d v = pick (ltb k d) (set out k v) out
 unfoldable pub puts : (d symbol surround n : ℕ) → List ℕ → (k w : ℕ) → List ℕ
 puts d symbol surround zero out k w = out
 puts d symbol surround (suc n) out k w = puts d symbol surround n (putIf out k d (shadeOf symbol surround (w % 2))) (k + 1) (w / 2)
+
+-- n bits of w, each in a byte of its own, lowest first
+unfoldable pub spreadOf : ℕ → ℕ → ℕ
+spreadOf zero w = 0
+spreadOf (suc n) w = w % 2 + 256 * spreadOf n (w / 2)
+
+-- n dots from the low bits of w, each in a byte of its own, lowest first
+unfoldable pub blendOf : (symbol surround n w : ℕ) → ℕ
+blendOf symbol surround zero w = 0
+blendOf symbol surround (suc n) w = shadeOf symbol surround (w % 2) + 256 * blendOf symbol surround n (w / 2)

@@ -1,14 +1,14 @@
 // The attributes controller (000): from a cell's attributes, the cursor gate and a font word to black, gray and white dots.
 ghost use mathlib.Core.Path.{_≡_};
-ghost use mathlib.Core.Bool.{Bool, xor};
+ghost use mathlib.Core.Bool.{xor};
 ghost use mathlib.Core.List.{_++_};
 ghost use Prim.Native.Nat.{_≤_, _<_};
 ghost use lib.ListN.{length, drop};
 ghost use Rattle.video.specs.Levels.{blankLevel, symbolLevel, surroundLevel};
-ghost use Rattle.video.specs.Scene.{switchOf, displayed, blinkAt, cursorGate, sceneOf, cursorAt};
-ghost use Rattle.video.specs.Look.{attribute, effective, nonDisplay, litOf, lookOf};
+ghost use Rattle.video.specs.Scene.{switchOf, blinkAt, cursorGate, sceneOf, cursorAt};
+ghost use Rattle.video.specs.Look.{attribute, effective, lookOf};
 ghost use Rattle.video.specs.Cell.{shadeOf, cellDots};
-ghost use Rattle.video.specs.Stores.{wideOf, putIf, puts};
+ghost use Rattle.video.specs.Stores.{wideOf, putIf, puts, spreadOf, blendOf};
 
 // What is the same for all cells of a scan line: whether the picture is shown, the blank level, BKGND, BLINK, whether this is the
 // underline line and the strike line, whether the cursor gate opens on this line, and at which address.
@@ -189,14 +189,46 @@ fn six(out: &mut [u8], d: usize, symbol: u8, surround: u8, w: u16)
     out[5] = shade(symbol, surround, w / 32 % 2);
 }
 
-// Three dots at k and on, of those that the cell has.
-fn three(out: &mut [u8], k: usize, d: usize, symbol: u8, surround: u8, w: u16)
-    requires { ⌜ (k ≤ 9) × (d ≤ length (now out)) ⌝ }
-    ensures { λ _. ⌜ now (out .exit) ≡ puts d symbol surround 3 (now (out .entry)) k w ⌝ }
+// Four bits, each in a byte of its own: the product has each at the lowest place of a byte, which the mask keeps.
+fn spread(w: u16) -> u64
+    ensures { λ r. ⌜ r ≡ spreadOf 4 w ⌝ }
 {
-    dot(out, k, d, symbol, surround, w % 2);
-    dot(out, k + 1, d, symbol, surround, w / 2 % 2);
-    dot(out, k + 2, d, symbol, surround, w / 4 % 2);
+    ((w % 16) as u64 * 0x20_4081) & 0x0101_0101
+}
+
+// Eight dots, each in a byte of its own: symbol times the bytes that are 1, and surround times those that are 0.
+fn blend(symbol: u8, surround: u8, w: u16) -> u64
+    ensures { λ r. ⌜ r ≡ blendOf symbol surround 8 w ⌝ }
+{
+    let s = spread(w) + spread(w / 16) * 0x1_0000_0000;
+    s * symbol as u64 + (0x0101_0101_0101_0101 - s) * surround as u64
+}
+
+// The first eight dots of a cell that has so many. They are bytes of one number, so that the compiler stores them at once.
+fn eight(out: &mut [u8], d: usize, symbol: u8, surround: u8, w: u16)
+    requires { ⌜ (8 ≤ d) × (d ≤ length (now out)) ⌝ }
+    ensures { λ _. ⌜ now (out .exit) ≡ puts d symbol surround 8 (now (out .entry)) 0 w ⌝ }
+{
+    let v = blend(symbol, surround, w);
+    out[0] = (v % 256) as u8;
+    out[1] = (v / 0x100 % 256) as u8;
+    out[2] = (v / 0x1_0000 % 256) as u8;
+    out[3] = (v / 0x100_0000 % 256) as u8;
+    out[4] = (v / 0x1_0000_0000 % 256) as u8;
+    out[5] = (v / 0x100_0000_0000 % 256) as u8;
+    out[6] = (v / 0x1_0000_0000_0000 % 256) as u8;
+    out[7] = (v / 0x100_0000_0000_0000 % 256) as u8;
+}
+
+// The dots after the first eight, of those that the cell has.
+fn four(out: &mut [u8], d: usize, symbol: u8, surround: u8, w: u16)
+    requires { ⌜ d ≤ length (now out) ⌝ }
+    ensures { λ _. ⌜ now (out .exit) ≡ puts d symbol surround 4 (now (out .entry)) 8 w ⌝ }
+{
+    dot(out, 8, d, symbol, surround, w % 2);
+    dot(out, 9, d, symbol, surround, w / 2 % 2);
+    dot(out, 10, d, symbol, surround, w / 4 % 2);
+    dot(out, 11, d, symbol, surround, w / 8 % 2);
 }
 
 // Writes a cell's dots to the front of the part it is lent.
@@ -205,7 +237,11 @@ pub fn draw_cell(out: &mut [u8], look: Look, word: u16, d: usize)
     ensures { λ _. ⌜ now (out .exit) ≡ cellDots look word d ++ drop d (now (out .entry)) ⌝ }
 {
     let w = wide(look.lit, word, d);
-    six(out, d, look.symbol, look.surround, w);
-    three(out, 6, d, look.symbol, look.surround, w / 64);
-    three(out, 9, d, look.symbol, look.surround, w / 512);
+    if d < 8 {
+        six(out, d, look.symbol, look.surround, w);
+        dot(out, 6, d, look.symbol, look.surround, w / 64 % 2);
+    } else {
+        eight(out, d, look.symbol, look.surround, w);
+        four(out, d, look.symbol, look.surround, w / 256);
+    }
 }

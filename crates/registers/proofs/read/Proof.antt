@@ -1,5 +1,4 @@
 use mathlib.Core.Path.{ap, ap₂, refl, _∙_}
-use Prim.Native.Nat.{ℕ}
 use borrow.Author.Tests.{lt-ltb, le-ltb}
 use borrow.Author.Needs.{needs}
 use Rattle.lists.specs.Choice.{stop, pass}

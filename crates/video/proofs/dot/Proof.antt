@@ -1,6 +1,5 @@
 use borrow.Author.Needs.{needs}
 use borrow.Author.Tests.{lt-ltb, le-ltb}
-use mathlib.Core.Path.{_∙_, sym, ap}
 use Rattle.video.specs.Stores.{putIf}
 use Rattle.video.proofs.dot.Statement.{statement}
 use Rattle.video.proofs.dot.Tie as tie

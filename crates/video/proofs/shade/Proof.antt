@@ -1,4 +1,4 @@
-use borrow.Author.Tests.{eq-eqb, ne-eqb, lt-ltb, le-ltb}
+use borrow.Author.Tests.{eq-eqb, ne-eqb}
 use Rattle.video.proofs.shade.Statement.{statement}
 use Rattle.video.proofs.shade.Tie as tie
 

@@ -1,0 +1,146 @@
+-- Eight dots as the bytes of one number. Assumes nothing.
+--     nibble, two-nibbles    a product and a mask put four bits into four bytes (all sixteen cases are tried), and two of them eight bits into eight
+--     blended                bytes of 0 and 1 become bytes of two levels
+--     eight-puts             the eight bytes, stored one by one, are eight dots
+use mathlib.Core.Path.{_≡_, refl, sym, _∙_}
+use mathlib.Core.Bool.{Bool, true, false, _&&_, true≢false}
+use mathlib.Core.List.{List}
+use Prim.Native.Nat.{ℕ, zero, suc, _+_, _*_, _/_, _%_, _^_, _-_, _≤_, _<_}
+use native.Mathlib.Nat.{pow-suc, not-suc-le-zero, le-of-suc-le-suc, zero-add, zero-mul, one-mul, add-mul, mul-assoc}
+use native.Mathlib.Omega.{arith}
+use borrow.Author.Tests.{eqb-true, lt-ltb}
+use lib.Bits.{bitAnd}
+use lib.Dec.{eqb}
+use lib.ListN.{set}
+use Rattle.lists.specs.Choice.{pick-lt}
+use Rattle.video.specs.Cell.{shadeOf}
+use Rattle.video.specs.Stores.{putIf, puts, spreadOf, blendOf}
+
+-- ---- bits to bytes
+
+-- every number below n passes
+tried : (ℕ → Bool) → ℕ → Bool
+tried p zero = true
+tried p (suc n) = p zero && tried (λ k. p (suc k)) n
+
+both : (a b : Bool) → (a && b) ≡ true → (a ≡ true) × (b ≡ true)
+both true b e = (refl, e)
+both false b e = absurd (true≢false (sym e))
+
+each : (p : ℕ → Bool) (n k : ℕ) → tried p n ≡ true → k < n → p k ≡ true
+unfolding tried
+each p zero k e h = absurd (not-suc-le-zero h)
+each p (suc n) zero e h = both (p zero) (tried (λ k. p (suc k)) n) e .0
+each p (suc n) (suc k) e h = each (λ i. p (suc i)) n k (both (p zero) (tried (λ i. p (suc i)) n) e .1) (le-of-suc-le-suc h)
+
+-- the low bits do not go by what is above them
+module _ (w : ℕ) where
+  half-of-16 : w % 16 / 2 ≡ w / 2 % 8
+  half-of-16 = omega arith
+
+  half-of-8 : w % 8 / 2 ≡ w / 2 % 4
+  half-of-8 = omega arith
+
+  half-of-4 : w % 4 / 2 ≡ w / 2 % 2
+  half-of-4 = omega arith
+
+  odd-16 : w % 16 % 2 ≡ w % 2
+  odd-16 = omega arith
+
+  odd-8 : w % 8 % 2 ≡ w % 2
+  odd-8 = omega arith
+
+  odd-4 : w % 4 % 2 ≡ w % 2
+  odd-4 = omega arith
+
+  odd-2 : w % 2 % 2 ≡ w % 2
+  odd-2 = omega arith
+
+low-four : (w : ℕ) → spreadOf 4 (w % 16) ≡ spreadOf 4 w
+unfolding spreadOf
+low-four w = rw (half-of-16 w, half-of-8 (w / 2), half-of-4 (w / 2 / 2), odd-16 w, odd-8 (w / 2), odd-4 (w / 2 / 2), odd-2 (w / 2 / 2 / 2))
+
+pub nibble : (w : ℕ) → bitAnd (w % 16 * 2113665) 16843009 ≡ spreadOf 4 w
+unfolding spreadOf tried
+nibble w = eqb-true _ _ (each (λ (k : ℕ). eqb (bitAnd (k * 2113665) 16843009) (spreadOf 4 k)) 16 (w % 16) refl (omega arith)) ∙ low-four w
+
+pub two-nibbles : (w : ℕ) → spreadOf 4 w + spreadOf 4 (w / 16) * 4294967296 ≡ spreadOf 8 w
+unfolding spreadOf
+two-nibbles w =
+    let e : w / 16 ≡ w / 2 / 2 / 2 / 2 = omega arith in
+    rw e (omega arith)
+
+-- ---- bytes of 0 and 1 to bytes of two levels
+
+-- n bytes of 1
+unfoldable pub onesOf : ℕ → ℕ
+onesOf zero = 0
+onesOf (suc n) = 1 + 256 * onesOf n
+
+pub spread-le : (n w : ℕ) → spreadOf n w ≤ onesOf n
+unfolding spreadOf onesOf
+spread-le zero w = omega arith
+spread-le (suc n) w = omega (arith, spread-le n (w / 2))
+
+module _ (symbol surround : ℕ) where
+  -- one byte more, by its bit
+  zero-first : (s o : ℕ) → s ≤ o → (0 + 256 * s) * symbol + (1 + 256 * o - (0 + 256 * s)) * surround ≡ surround + 256 * (s * symbol + (o - s) * surround)
+  zero-first s o h =
+      let e : 1 + 256 * o - 256 * s ≡ 1 + 256 * (o - s) = omega arith in
+      rw (zero-add, e) (omega (arith, mul-assoc 256 s symbol, add-mul 1 (256 * (o - s)) surround, one-mul surround, mul-assoc 256 (o - s) surround))
+
+  one-first : (s o : ℕ) → s ≤ o → (1 + 256 * s) * symbol + (1 + 256 * o - (1 + 256 * s)) * surround ≡ symbol + 256 * (s * symbol + (o - s) * surround)
+  one-first s o h =
+      let e : 1 + 256 * o - (1 + 256 * s) ≡ 256 * (o - s) = omega arith in
+      rw e (omega (arith, add-mul 1 (256 * s) symbol, one-mul symbol, mul-assoc 256 s symbol, mul-assoc 256 (o - s) surround))
+
+  by-bit : (b s o : ℕ) → b < 2 → s ≤ o → (b + 256 * s) * symbol + (1 + 256 * o - (b + 256 * s)) * surround ≡ shadeOf symbol surround b + 256 * (s * symbol + (o - s) * surround)
+  by-bit zero s o h l = zero-first s o l
+  by-bit (suc zero) s o h l = one-first s o l
+  by-bit (suc (suc b)) s o h l = absurd (not-suc-le-zero (le-of-suc-le-suc (le-of-suc-le-suc h)))
+
+  pub blended : (n w : ℕ) → spreadOf n w * symbol + (onesOf n - spreadOf n w) * surround ≡ blendOf symbol surround n w
+  unfolding spreadOf blendOf onesOf
+  blended zero w = omega (arith, zero-mul symbol, zero-mul surround)
+  blended (suc n) w = rw (← blended n (w / 2)) (by-bit (w % 2) _ _ (omega arith) (spread-le n (w / 2)))
+
+-- ---- the bytes of a number are stored
+
+pub put-lt : (o : List ℕ) (k d v : ℕ) → k < d → putIf o k d v ≡ set o k v
+unfolding putIf
+put-lt o k d v h = rw (lt-ltb k d h)
+
+-- n bytes of v put at k and on
+stored : ℕ → List ℕ → (k v : ℕ) → List ℕ
+stored zero out k v = out
+stored (suc n) out k v = stored n (set out k (v % 256)) (k + 1) (v / 256)
+
+module _ (symbol surround : ℕ) (small : symbol < 256) (small′ : surround < 256) where
+  shade-lt : (bit : ℕ) → shadeOf symbol surround bit < 256
+  shade-lt bit = pick-lt 256 (eqb bit 0) surround symbol small′ small
+
+  stored-puts : (d n k w : ℕ) (out : List ℕ) → k + n ≤ d → stored n out k (blendOf symbol surround n w) ≡ puts d symbol surround n out k w
+  unfolding stored blendOf puts
+  stored-puts d zero k w out h = refl
+  stored-puts d (suc n) k w out h =
+      let a : (shadeOf symbol surround (w % 2) + 256 * blendOf symbol surround n (w / 2)) % 256 ≡ shadeOf symbol surround (w % 2) = omega (arith, shade-lt (w % 2)) in
+      let b : (shadeOf symbol surround (w % 2) + 256 * blendOf symbol surround n (w / 2)) / 256 ≡ blendOf symbol surround n (w / 2) = omega (arith, shade-lt (w % 2)) in
+      rw (a, b, put-lt out k d (shadeOf symbol surround (w % 2)) (omega arith)) (stored-puts d n (k + 1) (w / 2) _ (omega arith))
+
+  pub blend-lt : (n w : ℕ) → blendOf symbol surround n w < 256 ^ n
+  unfolding blendOf
+  blend-lt zero w = omega arith
+  blend-lt (suc n) w = rw (pow-suc 256 n) (omega (arith, shade-lt (w % 2), blend-lt n (w / 2)))
+
+  pub eight-puts : (d w v : ℕ) (o : List ℕ) → 8 ≤ d → v ≡ blendOf symbol surround 8 w
+      → set (set (set (set (set (set (set (set o 0 (v % 256)) 1 (v / 256 % 256)) 2 (v / 65536 % 256)) 3 (v / 16777216 % 256)) 4 (v / 4294967296 % 256)) 5 (v / 1099511627776 % 256)) 6 (v / 281474976710656 % 256)) 7 (v / 72057594037927936 % 256)
+      ≡ puts d symbol surround 8 o 0 w
+  unfolding stored
+  eight-puts d w v o h e =
+      let y2 : v / 65536 ≡ v / 256 / 256 = omega arith in
+      let y3 : v / 16777216 ≡ v / 256 / 256 / 256 = omega arith in
+      let y4 : v / 4294967296 ≡ v / 256 / 256 / 256 / 256 = omega arith in
+      let y5 : v / 1099511627776 ≡ v / 256 / 256 / 256 / 256 / 256 = omega arith in
+      let y6 : v / 281474976710656 ≡ v / 256 / 256 / 256 / 256 / 256 / 256 = omega arith in
+      let y7 : v / 72057594037927936 ≡ v / 256 / 256 / 256 / 256 / 256 / 256 / 256 = omega arith in
+      rw (y7, y6, y5, y4, y3, y2, e) (stored-puts d 8 0 w o h)

@@ -1,0 +1,33 @@
+# Sourced: `cc` builds x86-64 programs and `"${runner[@]}"` runs them, natively or, on Arm, emulated. The library's archive is for x86-64 only.
+need() {  # need COMMAND PACKAGE..: installs the packages where the command is missing
+    local command=$1 root=()
+    shift
+    if ! command -v "$command" > /dev/null; then
+        echo "$command is missing, installing $*"
+        if [ "$(id -u)" -ne 0 ]; then
+            root=(sudo)
+        fi
+        "${root[@]}" apt-get update -q
+        "${root[@]}" apt-get install -y -q "$@"
+    fi
+}
+
+case $(uname -m) in
+x86_64)
+    machine="x86-64, native"
+    need gcc gcc libc6-dev
+    cc=gcc
+    runner=()
+    ;;
+aarch64)
+    machine="aarch64: built for x86-64 and emulated"
+    need x86_64-linux-gnu-gcc gcc-x86-64-linux-gnu libc6-dev-amd64-cross
+    need qemu-x86_64 qemu-user
+    cc=x86_64-linux-gnu-gcc
+    runner=(qemu-x86_64 -L /usr/x86_64-linux-gnu)
+    ;;
+*)
+    echo "no way is known here to run x86-64 programs on $(uname -m)" >&2
+    exit 1
+    ;;
+esac
