@@ -1,16 +1,21 @@
-/* Times the library's line drawer beside the two C drawers, in one run, and prints how their times compare.
- * First all drawers draw the same sheets; if one byte differs, it says so and exits 1. */
+/* Times the library's line drawer beside the two C drawers and its step beside the C step, and its state for a far clock
+ * beside that for clock 0, in one run, and prints how their times compare.
+ * First all draw and step through the same sheets; if one byte or number differs, it says so and exits 1. */
 #include <stdio.h>
 #include <string.h>
 #include <time.h>
 
 #include "drawer.h"
+#include "stepper.h"
 
 #define COLUMNS 80
 #define ROWS 24
 #define LINES 10
 #define MOST_DOTS 10
 #define SHEETS 2 /* row table off, row table on */
+#define FRAME (102 * 267) /* clocks in a frame: 102 a line, 267 lines */
+#define FAR 4294967295u
+#define STATES 20000 /* calls for a state in one measurement */
 #define ROUNDS 31
 #define COUNT(a) (sizeof(a) / sizeof(a)[0])
 
@@ -150,6 +155,162 @@ static void unrolled(const struct sheet *sheets)
     draw_all(unrolled_line_draw, sheets);
 }
 
+/* An active board at clock 0 of a sheet, at a field. */
+static feldrime_board board_of(const struct sheet *s, uint8_t field)
+{
+    const uint8_t *n = s->numbers;
+    feldrime_board b = { 0 };
+
+    memcpy(b.page.irs, n + 1, sizeof b.page.irs);
+    b.page.starts.start1 = n[16] << 8 | n[17];
+    b.page.starts.cursor = n[18] << 8 | n[19];
+    b.page.starts.start2 = n[20] << 8 | n[21];
+    b.page.switches = n[22];
+    b.page.video.dots = n[23];
+    b.page.video.strike = n[24];
+    b.place.field = field;
+    b.resets = 2;
+    return b;
+}
+
+static feldrime_step_answer step_once(stepper *step, const struct sheet *s, feldrime_board *b)
+{
+    return step(b, s->chars, COUNT(s->chars), s->attrs, COUNT(s->attrs),
+        font.words, COUNT(font.words), font.flags, COUNT(font.flags),
+        font.unshifted, COUNT(font.unshifted), font.shifted, COUNT(font.shifted));
+}
+
+static feldrime_board_answer state_at(const struct sheet *s, feldrime_board b, uint32_t n)
+{
+    return feldrime_state_at(b, s->chars, COUNT(s->chars), s->attrs, COUNT(s->attrs), n);
+}
+
+/* Says what differs, if it does. */
+static int differ(const char *what, uint32_t library, uint32_t plain)
+{
+    if (library != plain)
+        printf("step: %s is %u in the library and %u in plain C\n", what, (unsigned)library, (unsigned)plain);
+    return library != plain;
+}
+
+static int answers_differ(const feldrime_step_answer *a, const feldrime_step_answer *b)
+{
+    for (size_t i = 0; i < COUNT(a->dots); i++)
+        if (differ("a dot", a->dots[i], b->dots[i]))
+            return 1;
+    return differ("the refusal", a->refusal, b->refusal)
+        || differ("the number beside it", a->beside, b->beside)
+        || differ("HSYNC", a->hsync, b->hsync)
+        || differ("VSYNC", a->vsync, b->vsync)
+        || differ("BLANK", a->blank, b->blank)
+        || differ("CURSOR", a->cursor, b->cursor)
+        || differ("BLINK", a->blink, b->blink)
+        || differ("the address", a->address, b->address);
+}
+
+static int boards_differ(const feldrime_board *a, const feldrime_board *b)
+{
+    for (size_t i = 0; i < COUNT(a->page.irs); i++)
+        if (differ("an IR of the next board", a->page.irs[i], b->page.irs[i]))
+            return 1;
+    return differ("the next screen start 1", a->page.starts.start1, b->page.starts.start1)
+        || differ("the next cursor address", a->page.starts.cursor, b->page.starts.cursor)
+        || differ("the next screen start 2", a->page.starts.start2, b->page.starts.start2)
+        || differ("the next switches", a->page.switches, b->page.switches)
+        || differ("the next dots a cell", a->page.video.dots, b->page.video.dots)
+        || differ("the next strike line", a->page.video.strike, b->page.video.strike)
+        || differ("the next field", a->place.field, b->place.field)
+        || differ("the next line", a->place.line, b->place.line)
+        || differ("the next clock in the line", a->place.clock, b->place.clock)
+        || differ("the next address", a->place.now, b->place.now)
+        || differ("the next row start", a->place.kept, b->place.kept)
+        || differ("the next pointer", a->pointer, b->pointer)
+        || differ("the next count of resets", a->resets, b->resets);
+}
+
+/* Compares the steps on whole frames of all sheets and fields, clock by clock. */
+static int same_steps(const struct sheet *sheets)
+{
+    for (size_t s = 0; s < SHEETS; s++)
+        for (size_t f = 0; f < COUNT(fields); f++) {
+            feldrime_board library = board_of(&sheets[s], fields[f]);
+            feldrime_board plain = library;
+
+            for (unsigned n = 0; n < FRAME; n++) {
+                feldrime_step_answer a = step_once(feldrime_step, &sheets[s], &library);
+                feldrime_step_answer b = step_once(plain_step, &sheets[s], &plain);
+
+                if (b.refusal != 0 || answers_differ(&a, &b) || boards_differ(&library, &plain)) {
+                    printf("step: at clock %u of the frame, plain refusal %u, row table %s, field %u\n",
+                        n, (unsigned)b.refusal, s ? "on" : "off", fields[f]);
+                    return 0;
+                }
+            }
+            if (library.place.line != 0 || library.place.clock != 0) {
+                printf("step: a frame is not %u clocks\n", FRAME);
+                return 0;
+            }
+        }
+    return 1;
+}
+
+/* The states that are timed must not be refusals. */
+static int states_answer(const struct sheet *sheets)
+{
+    for (size_t s = 0; s < SHEETS; s++) {
+        feldrime_board b = board_of(&sheets[s], 0);
+        uint32_t zero = state_at(&sheets[s], b, 0).refusal;
+        uint32_t far = state_at(&sheets[s], b, FAR).refusal;
+
+        if (zero != 0 || far != 0) {
+            printf("state: refused %u for n = 0, %u for n = 2^32 - 1\n", (unsigned)zero, (unsigned)far);
+            return 0;
+        }
+    }
+    return 1;
+}
+
+static void step_all(stepper *step, const struct sheet *sheets)
+{
+    for (size_t s = 0; s < SHEETS; s++)
+        for (size_t f = 0; f < COUNT(fields); f++) {
+            feldrime_board b = board_of(&sheets[s], fields[f]);
+
+            for (unsigned n = 0; n < FRAME; n++)
+                step_once(step, &sheets[s], &b);
+        }
+}
+
+static void library_step(const struct sheet *sheets)
+{
+    step_all(feldrime_step, sheets);
+}
+
+static void c_step(const struct sheet *sheets)
+{
+    step_all(plain_step, sheets);
+}
+
+static void states(const struct sheet *sheets, uint32_t n)
+{
+    for (size_t s = 0; s < SHEETS; s++) {
+        feldrime_board b = board_of(&sheets[s], 0);
+
+        for (unsigned i = 0; i < STATES; i++)
+            state_at(&sheets[s], b, n);
+    }
+}
+
+static void far_state(const struct sheet *sheets)
+{
+    states(sheets, FAR);
+}
+
+static void zero_state(const struct sheet *sheets)
+{
+    states(sheets, 0);
+}
+
 static double now(void)
 {
     struct timespec t;
@@ -186,7 +347,9 @@ int main(void)
             || !same_as_plain("unrolled", unrolled_line_draw, sheets[w]))
             return 1;
     }
-    printf("All three drawers give the same bytes. Times compare as follows (below 1.00: the first is faster).\n");
+    if (!same_steps(sheets[0]) || !states_answer(sheets[0]))
+        return 1;
+    printf("All three drawers give the same bytes, both steps the same answers and boards. Times compare as follows (below 1.00: the first is faster).\n");
 
     for (size_t w = 0; w < COUNT(widths); w++) {
         void (*const contestants[])(const struct sheet *) = { library, plain, unrolled };
@@ -196,5 +359,15 @@ int main(void)
         printf("%2u dots: library/plain %.2f  unrolled/plain %.2f  library/unrolled %.2f\n",
             widths[w], best[0] / best[1], best[2] / best[1], best[0] / best[2]);
     }
+
+    void (*const steps[])(const struct sheet *) = { library_step, c_step };
+    double step_best[COUNT(steps)];
+    race(steps, COUNT(steps), sheets[0], step_best);
+    printf("step: library/plain %.2f\n", step_best[0] / step_best[1]);
+
+    void (*const clocks[])(const struct sheet *) = { far_state, zero_state };
+    double state_best[COUNT(clocks)];
+    race(clocks, COUNT(clocks), sheets[0], state_best);
+    printf("state: n = 2^32 - 1 / n = 0 %.2f\n", state_best[0] / state_best[1]);
     return 0;
 }

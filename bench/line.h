@@ -3,14 +3,7 @@
 #include <string.h>
 
 #include "drawer.h"
-
-#define MEMORY 16384u    /* bytes in each memory */
-#define CHARACTERS 128u  /* characters in the font */
-#define LIST 9u          /* words a character, line numbers in a list */
-
-enum { DISPLAY = 1, CURSOR = 2, BKGND = 4, RBLANK = 8 };                                                 /* switches */
-enum { REVERSE = 1, BLANK = 2, BLINK = 4, UNDERLINE = 8, HIGHLIGHT = 16, STRIKE = 32, AFLG = 128 };  /* attributes */
-enum { BLACK, GRAY, WHITE };
+#include "rules.h"
 
 static feldrime_answer answer(uint32_t number)
 {
@@ -31,16 +24,6 @@ static unsigned moved(unsigned at, unsigned k, unsigned first, unsigned last)
     if (k <= to_last)
         return (at + k) % MEMORY;
     return (first + (k - to_last - 1) % round) % MEMORY;
-}
-
-/* The first position in a list that equals the scan line, or LIST for none. */
-static unsigned position(const uint8_t *list, unsigned scan)
-{
-    unsigned i = 0;
-
-    while (i < LIST && (list[i] & 15u) != scan)
-        i++;
-    return i;
 }
 
 feldrime_answer LINE_DRAW(

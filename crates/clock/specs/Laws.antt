@@ -5,6 +5,7 @@ use mathlib.Core.Bool.{Bool, true, false, _&&_, _||_, not, true≢false}
 use mathlib.Core.List.{List, [], _∷_, _++_, map}
 use native.Mathlib.Nat.{div-lt-iff-lt-mul, sub-zero, not-suc-le-zero, le-of-suc-le-suc, suc-sub-suc}
 use native.Mathlib.Numerals.{sub-one}
+use native.Mathlib.Decide.{decLt}
 use native.Mathlib.Omega.{arith}
 use borrow.Author.Tests.{lt-ltb, le-ltb, eq-eqb, ne-eqb, ltb-true, eqb-true, not-false}
 use lib.Dec.{ltb, eqb}
@@ -35,8 +36,10 @@ use Rattle.video.specs.Cell.{shadeOf, litBits, cellDots}
 use Rattle.video.specs.Width.{length-cell}
 use Rattle.clock.specs.declared.Carried.{Carried}
 use Rattle.clock.specs.declared.Signals.{Signals}
+use Rattle.clock.specs.declared.Spot.{Spot}
 use Rattle.clock.specs.declared.Stepped.{Stepped}
 use Rattle.clock.specs.Place.{shapeIn, carrierIn, carriedOf, loadedIn, movedIn, turnedIn, nextPlace, rowAt, lineAt, carriedBefore, placeAt}
+use Rattle.clock.specs.Spot.{spotIn, spotBefore}
 use Rattle.clock.specs.Signals.{activeIn, scanIn, signalsOf, padded, dotsOf}
 use Rattle.clock.specs.Step.{withPlace, steppedOf, stateCheck, Fit}
 
@@ -72,6 +75,25 @@ pub row-of : (p : Page) (line l : ℕ) → l ≡ linesOf (p .irs) → line < vis
 row-of p line l el v =
     let some : 0 < linesOf (p .irs) = omega arith in
     rw el (omega (arith, div-lt-iff-lt-mul some .1 v))
+
+pub spot-row : (p : Page) (c line : ℕ) → spotBefore p c line .row < 8192
+unfolding spotBefore spotIn
+spot-row p c line = go (ltb 0 c) (ltb 0 line)
+  where
+    last : Spot
+    last = record { row = rowsOf (p .irs) - 1; clocks = record { 0 = htOf (p .irs) } }
+
+    one : (k l : ℕ) → spotIn p k l .row < 8192
+    one k l = by (decLt l (visibleOf (p .irs) .0))
+      where
+        by : Dec (l < visibleOf (p .irs) .0) → spotIn p k l .row < 8192
+        by (yes h) = rw (lt-ltb l (visibleOf (p .irs) .0) h) (row-of p l (linesOf (p .irs)) refl h)
+        by (no f) = rw (le-ltb l (visibleOf (p .irs) .0) (omega arith)) (omega arith)
+
+    go : (s t : Bool) → pick s (spotIn p c line) (pick t (spotIn p (htOf (p .irs)) (line - 1)) last) .row < 8192
+    go true t = one c line
+    go false true = one (htOf (p .irs)) (line - 1)
+    go false false = omega arith
 
 -- ---- what a clock works on
 
@@ -241,6 +263,37 @@ module _ (p : Page) (chars : List ℕ) where
   pub carried-zero : (c line frame : ℕ) → c ≡ 0 → line ≡ 0 → frame ≡ 0 → carriedOf (pair (cell 0) (cell 0)) ≡ carriedBefore p chars c line frame
   unfolding carriedBefore carriedAt
   carried-zero c line frame e d f = rw (e, d, f)
+
+  -- where the beam last moved gives what is carried, but at clock 0
+  spot-line : (c line : ℕ) → rowAt p chars (spotIn p c line .row) (spotIn p c line .clocks .0) ≡ lineAt p chars c line
+  unfolding spotIn
+  spot-line c line = go (decLt line (visibleOf (p .irs) .0))
+    where
+      go : Dec (line < visibleOf (p .irs) .0) → rowAt p chars (spotIn p c line .row) (spotIn p c line .clocks .0) ≡ lineAt p chars c line
+      go (yes h) = rw (lt-ltb line (visibleOf (p .irs) .0) h) (line-shown c line h)
+      go (no f) = rw (le-ltb line (visibleOf (p .irs) .0) (omega arith)) (line-idle c line (omega arith))
+
+  pub spot-carried : (c line frame : ℕ) → 0 < c + line + frame → rowAt p chars (spotBefore p c line .row) (spotBefore p c line .clocks .0) ≡ carriedBefore p chars c line frame
+  unfolding spotBefore
+  spot-carried (suc c) line frame h = rw (lt-ltb 0 (suc c) (omega arith)) (spot-line (suc c) line ∙ carried-on (suc c) line frame (omega arith))
+  spot-carried zero (suc line) frame h = rw (lt-ltb 0 (suc line) (omega arith)) (spot-line (htOf (p .irs)) (suc line - 1) ∙ carried-line 0 (suc line) frame refl (omega arith))
+  spot-carried zero zero frame h = carried-frame 0 0 frame refl refl (omega arith)
+
+  pub at-zero : (c line frame : ℕ) → ((eqb c 0 && eqb line 0) && eqb frame 0) ≡ true → carriedOf (pair (cell 0) (cell 0)) ≡ carriedBefore p chars c line frame
+  at-zero c line frame t =
+      let a = both (eqb c 0 && eqb line 0) (eqb frame 0) t in
+      let b = both (eqb c 0) (eqb line 0) (a .0) in
+      carried-zero c line frame (eqb-true _ _ (b .0)) (eqb-true _ _ (b .1)) (eqb-true _ _ (a .1))
+
+  pub past-zero : (c line frame : ℕ) → ((eqb c 0 && eqb line 0) && eqb frame 0) ≡ false → (s : Spot) → s ≡ spotBefore p c line
+      → (x : Carried) → x ≡ rowAt p chars (s .row) (s .clocks .0) → x ≡ carriedBefore p chars c line frame
+  past-zero c line frame t s e x q = q ∙ rw e (spot-carried c line frame (some c line frame t))
+    where
+      some : (c line frame : ℕ) → ((eqb c 0 && eqb line 0) && eqb frame 0) ≡ false → 0 < c + line + frame
+      some (suc c) line frame u = omega arith
+      some zero (suc line) frame u = omega arith
+      some zero zero (suc frame) u = omega arith
+      some zero zero zero u = absurd (true≢false u)
 
   pub place-at : (n ht vt : ℕ) → ht ≡ htOf (p .irs) → vt ≡ vtOf (p .irs) → (x : Carried) → x ≡ carriedBefore p chars (n % ht) (n / ht % vt) (n / ht / vt)
       → _≡_ {A = Place}

@@ -4,13 +4,13 @@ ghost use Prim.Native.Nat.{_≤_, _<_, _-_};
 ghost use lib.ListN.{length, replicate};
 ghost use Rattle.raster.specs.Moves.{cell};
 ghost use Rattle.raster.specs.Cells.{begins};
-ghost use Rattle.timing.specs.Fields.{rowsOf, htOf};
 ghost use Rattle.fetch.specs.Rows.{feedIn};
 ghost use Rattle.shape.specs.Font.{Whole, fontOf, wordOf};
 ghost use Rattle.video.specs.Scene.{sceneOf, cursorAt};
 ghost use Rattle.video.specs.Look.{effective, lookOf};
 ghost use Rattle.video.specs.Cell.{cellDots};
-ghost use Rattle.clock.specs.Place.{loadedIn, movedIn, turnedIn, rowAt, lineAt, carriedBefore, placeAt};
+ghost use Rattle.clock.specs.Place.{loadedIn, movedIn, turnedIn, rowAt, carriedBefore, placeAt};
+ghost use Rattle.clock.specs.Spot.{spotIn, spotBefore};
 ghost use Rattle.clock.specs.Signals.{during, activeIn, scanIn, hsyncIn, vsyncIn, signalsOf, padded, dotsOf};
 ghost use Rattle.clock.specs.Step.{withPlace, Fit, steppedOf, stepOf, stateOf};
 
@@ -374,50 +374,65 @@ fn row_at(p: board::Page, chars: &[u8], row: u32, c: u32) -> Carried
     }
 }
 
-// What is carried after the last row, until the next frame.
-fn tail_at(p: board::Page, chars: &[u8]) -> Carried
-    requires { ⌜ length (now chars) ≡ 16384 ⌝ }
-    ensures { λ r. ⌜ r ≡ rowAt p (now (chars .entry)) (rowsOf (p .irs) - 1) (htOf (p .irs)) ⌝ }
-{
-    let irs = p.irs;
-    let t = timing::timing_of(irs);
-    row_at(p, chars, t.shape.rows - 1, t.shape.ht.0)
+// A row, and how many clocks of it are over.
+pub struct Spot {
+    pub row: u32,
+    pub clocks: units::Clocks,
 }
 
-// What is carried after c clocks of a line.
-fn line_at(p: board::Page, chars: &[u8], c: u32, line: u32) -> Carried
-    requires { ⌜ length (now chars) ≡ 16384 ⌝ }
-    ensures { λ r. ⌜ r ≡ lineAt p (now (chars .entry)) c line ⌝ }
+// Where the beam last moved, c clocks into a line: in that line, or else at the end of the last row.
+fn spot_in(p: board::Page, c: u32, line: u32) -> Spot
+    ensures { λ r. ⌜ r ≡ spotIn p c line ⌝ }
 {
     let irs = p.irs;
     let t = timing::timing_of(irs);
     let shown = timing::visible_of(irs);
+    let ht = t.shape.ht;
     if line < shown.0 {
-        return row_at(p, chars, line / t.shape.lines.0, c);
+        return Spot {
+            row: line / t.shape.lines.0,
+            clocks: units::Clocks(c),
+        };
     }
-    tail_at(p, chars)
+    Spot {
+        row: t.shape.rows - 1,
+        clocks: ht,
+    }
 }
 
-// What is carried before clock c of a line of a frame.
+// The same before clock c of a line: before clock 0, what the line before it left.
+fn spot_before(p: board::Page, c: u32, line: u32) -> Spot
+    ensures { λ r. ⌜ r ≡ spotBefore p c line ⌝ }
+{
+    if 0 < c {
+        return spot_in(p, c, line);
+    }
+    let irs = p.irs;
+    let t = timing::timing_of(irs);
+    if 0 < line {
+        return spot_in(p, t.shape.ht.0, line - 1);
+    }
+    let ht = t.shape.ht;
+    Spot {
+        row: t.shape.rows - 1,
+        clocks: ht,
+    }
+}
+
+// What is carried before clock c of a line of a frame. The work is the same for every clock; at clock 0 it is not needed.
 fn carried_before(p: board::Page, chars: &[u8], c: u32, line: u32, frame: u32) -> Carried
     requires { ⌜ length (now chars) ≡ 16384 ⌝ }
     ensures { λ r. ⌜ r ≡ carriedBefore p (now (chars .entry)) c line frame ⌝ }
 {
-    if 0 < c {
-        return line_at(p, chars, c, line);
+    let spot = spot_before(p, c, line);
+    let carried = row_at(p, chars, spot.row, spot.clocks.0);
+    if (c == 0) & (line == 0) & (frame == 0) {
+        return Carried {
+            now: raster::Cell { at: 0 },
+            kept: raster::Cell { at: 0 },
+        };
     }
-    if 0 < line {
-        let irs = p.irs;
-        let t = timing::timing_of(irs);
-        return line_at(p, chars, t.shape.ht.0, line - 1);
-    }
-    if 0 < frame {
-        return tail_at(p, chars);
-    }
-    Carried {
-        now: raster::Cell { at: 0 },
-        kept: raster::Cell { at: 0 },
-    }
+    carried
 }
 
 // The place for clock n, by its quotients and remainders.

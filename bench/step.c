@@ -1,0 +1,161 @@
+/* The plain C step: one clock of a board that is altered where it stands. */
+#include "rules.h"
+#include "stepper.h"
+
+feldrime_step_answer plain_step(
+    feldrime_board *board,
+    const uint8_t *chars, size_t chars_count,
+    const uint8_t *attrs, size_t attrs_count,
+    const uint16_t *words, size_t words_count,
+    const uint8_t *flags, size_t flags_count,
+    const uint8_t *unshifted, size_t unshifted_count,
+    const uint8_t *shifted, size_t shifted_count)
+{
+    static const uint8_t vsyncs[] = { 3, 1, 5, 7 };
+
+    feldrime_step_answer a = { 0 };
+
+    if (chars_count != MEMORY || attrs_count != MEMORY || words_count != CHARACTERS * LIST || flags_count != CHARACTERS
+        || unshifted_count != LIST || shifted_count != LIST) {
+        a.refusal = 3;
+        return a;
+    }
+
+    unsigned start1 = board->page.starts.start1;
+    unsigned cursor = board->page.starts.cursor;
+    unsigned start2 = board->page.starts.start2;
+    unsigned switches = board->page.switches;
+    unsigned dots = board->page.video.dots;
+    unsigned strike = board->page.video.strike;
+
+    if (start1 >= MEMORY || cursor >= MEMORY || start2 >= MEMORY || switches > 15 || strike > 15) {
+        a.refusal = 12;
+        return a;
+    }
+
+    const uint8_t *ir = board->page.irs;
+    if ((ir[0] | ir[1]) & 128) {
+        a.refusal = 4;
+        return a;
+    }
+
+    unsigned hact = ir[5] + 1u;
+    unsigned hsync = 2u * (ir[2] >> 3 & 15) + 2;
+    unsigned hbp_code = ir[2] & 7;
+    unsigned hbp = 4 * hbp_code - 1;
+    unsigned ht = 2u * ((ir[1] & 127) + 1 + 2 * hsync);
+    if (hbp_code == 0 || ht < hact + hsync + hbp + 2) {
+        a.refusal = 5;
+        return a;
+    }
+
+    if (dots < 6 || dots > 12) {
+        a.refusal = 6;
+        return a;
+    }
+
+    unsigned lines = (ir[0] >> 3 & 15) + 1u;
+    unsigned rows = (ir[4] & 127) + 1u;
+    unsigned visible = rows * lines;
+    unsigned vfp = 4u * (ir[3] >> 5) + 4;
+    unsigned vsync = vsyncs[ir[7] >> 6];
+    unsigned vbp = 2u * (ir[3] & 31) + 4;
+    unsigned vt = visible + vfp + vsync + vbp;
+
+    unsigned line = board->place.line;
+    unsigned clock = board->place.clock;
+    unsigned at = board->place.now;
+    unsigned kept = board->place.kept;
+    unsigned field = board->place.field;
+    if (line >= vt || clock >= ht || at >= MEMORY || kept >= MEMORY || board->pointer > 14) {
+        a.refusal = 7;
+        return a;
+    }
+
+    /* An inactive board has its display off. Both blink periods are powers of two. */
+    unsigned bkgnd = (switches & BKGND) != 0;
+    unsigned shown = switches & DISPLAY && board->resets >= 2;
+    unsigned blink_period = ir[4] & 128 ? 128 : 64;
+    unsigned cursor_period = ir[7] & 16 ? 64 : 32;
+    unsigned active = line < visible && clock < hact;
+    unsigned hsync_begin = ht - hbp - hsync;
+    unsigned vsync_begin = visible + vfp;
+
+    a.hsync = clock >= hsync_begin && clock < hsync_begin + hsync;
+    a.vsync = line >= vsync_begin && line < vsync_begin + vsync;
+    a.blank = !active || !shown;
+    a.blink = (field & (blink_period - 1)) >= blink_period / 4 * 3;
+
+    unsigned bits = 0;
+    uint8_t surround = bkgnd && !(switches & RBLANK) ? GRAY : BLACK;
+    uint8_t symbol = surround;
+    unsigned next = at;
+
+    if (active) {
+        unsigned row = line / lines;
+        unsigned scan = line % lines;
+
+        if (clock == 0) {
+            if (scan != 0) {
+                at = kept;
+            } else if (ir[2] & 128) {
+                unsigned entry = start2 + 2 * row;
+                at = chars[entry % MEMORY] + (chars[(entry + 1) % MEMORY] & 63u) * 256;
+            } else if (row == 0) {
+                at = start1;
+            }
+            kept = at;
+        }
+
+        a.cursor = switches & CURSOR && at == cursor && ir[6] >> 4 <= scan && scan <= (ir[6] & 15u)
+            && (!(ir[7] & 32) || (field & (cursor_period - 1)) < cursor_period / 2);
+
+        if (shown) {
+            unsigned code = chars[at];
+            unsigned attr = attrs[at] & AFLG ? attrs[at] : 0;
+
+            if (code & 128) {
+                unsigned character = code & 127;
+                unsigned place = position(flags[character] ? shifted : unshifted, scan);
+                if (place < LIST)
+                    bits = words[character * LIST + place] & 1023;
+            }
+            if (dots > 10)
+                bits <<= 1; /* the zero before D0 */
+            if ((attr & UNDERLINE && (ir[7] & 15u) == scan) || (attr & STRIKE && strike == scan))
+                bits = 4095;
+
+            unsigned reverse = (attr & REVERSE) ^ a.cursor;
+            uint8_t tone = attr & HIGHLIGHT ? WHITE : GRAY;
+            symbol = bkgnd ^ reverse ? BLACK : tone;
+            surround = bkgnd ^ reverse ? tone : BLACK;
+            if (attr & BLANK || (attr & BLINK && a.blink))
+                symbol = surround;
+        }
+
+        unsigned first = (ir[9] & 15u) * 256 + ir[8];
+        unsigned last = ((ir[9] >> 4) + 1u) * 1024 - 1;
+        next = at == last ? first : (at + 1) % MEMORY;
+    }
+
+    a.address = at;
+    for (unsigned k = 0; k < dots; k++) {
+        a.dots[k] = bits & 1 ? symbol : surround;
+        bits >>= 1;
+    }
+
+    board->place.now = next;
+    board->place.kept = kept;
+    if (clock + 1 < ht) {
+        board->place.clock = clock + 1;
+        return a;
+    }
+    board->place.clock = 0;
+    if (line + 1 < vt) {
+        board->place.line = line + 1;
+        return a;
+    }
+    board->place.line = 0;
+    board->place.field = field + 1; /* from 255 to 0 */
+    return a;
+}

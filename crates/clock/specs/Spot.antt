@@ -1,0 +1,21 @@
+-- Where the beam last moved before a clock, as `state_at` works it out. `spot-carried` ties it to `carriedBefore`.
+use Prim.Native.Nat.{ℕ, _-_, _/_}
+use lib.Dec.{ltb}
+use Rattle.lists.specs.Choice.{pick}
+use Rattle.units.specs.Units.{clocks}
+use Rattle.board.specs.declared.Page.{Page}
+use Rattle.timing.specs.Fields.{htOf, rowsOf, linesOf, visibleOf}
+use Rattle.clock.specs.declared.Spot.{Spot}
+
+-- c clocks into a line: the row, and how many clocks of it are over; off the visible lines the end of the last row
+unfoldable pub spotIn : Page → (c line : ℕ) → Spot
+spotIn p c line =
+    pick (ltb line (visibleOf (p .irs) .0))
+    (record { row = line / linesOf (p .irs); clocks = clocks c })
+    (record { row = rowsOf (p .irs) - 1; clocks = clocks (htOf (p .irs)) })
+
+-- before clock c of a line
+unfoldable pub spotBefore : Page → (c line : ℕ) → Spot
+spotBefore p c line =
+    pick (ltb 0 c) (spotIn p c line)
+    (pick (ltb 0 line) (spotIn p (htOf (p .irs)) (line - 1)) (record { row = rowsOf (p .irs) - 1; clocks = clocks (htOf (p .irs)) }))
