@@ -10,7 +10,7 @@ use native.Mathlib.Omega.{arith}
 use borrow.Author.Tests.{lt-ltb, le-ltb, eq-eqb, ne-eqb, ltb-true, eqb-true, not-false}
 use lib.Dec.{ltb, eqb}
 use lib.ListN.{length, getD, replicate, drop, length-map}
-use Rattle.lists.specs.Choice.{pick, pick-lt, neither}
+use Rattle.lists.specs.Choice.{pick, pick-lt, both, neither}
 use Rattle.refusal.specs.declared.Refusal.the-variants.{Done}
 use Rattle.raster.specs.declared.Cell.{Cell}
 use Rattle.raster.specs.Moves.{cell, advance}
@@ -96,10 +96,6 @@ spot-row p c line = go (ltb 0 c) (ltb 0 line)
     go false false = omega arith
 
 -- ---- what a clock works on
-
-both : (s t : Bool) → (s && t) ≡ true → (s ≡ true) × (t ≡ true)
-both true t e = (refl, e)
-both false t e = absurd (true≢false (sym e))
 
 module _ (p : Page) (chars : List ℕ) (r a : ℕ) where
   pub begins-table : tableOf (p .irs) ≡ true → entryOf p chars r ≡ begins (feedIn p chars) r a

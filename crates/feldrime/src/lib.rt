@@ -2,7 +2,7 @@
 ghost use mathlib.Core.Path.{_≡_};
 ghost use lib.ListN.{length};
 ghost use Rattle.shape.specs.Font.{fontOf};
-ghost use Rattle.feldrime.specs.Numbers.{numbersRefused, boardOf};
+ghost use Rattle.feldrime.specs.Numbers.{numbersRefused};
 ghost use Rattle.feldrime.specs.Answers.{answerOf};
 ghost use Rattle.feldrime.specs.LineDraw.{lineDrawCheck, lineDrawn};
 ghost use Rattle.lists.specs.Choice.{pick};
@@ -36,19 +36,6 @@ fn numbers_refused(numbers: &[u8]) -> bool
     numbers[0] != 1
 }
 
-// "A board made from numbers is active, at clock 0, pointer at IR0."
-fn board_from(numbers: &[u8]) -> board::Board
-    requires { ⌜ length (now numbers) ≡ 32 ⌝ }
-    ensures { λ r. ⌜ r ≡ boardOf (now (numbers .entry)) ⌝ }
-{
-    board::Board {
-        page: files::page_at(numbers, 1),
-        place: board::clock_zero(),
-        pointer: 0,
-        resets: 2,
-    }
-}
-
 // Draws a visible line as it looks in a field, HACT x dots bytes at the front of out.
 #[no_mangle]
 pub extern "C" fn feldrime_line_draw(
@@ -69,7 +56,7 @@ pub extern "C" fn feldrime_line_draw(
     if numbers_refused(numbers) {
         return answered(refusal::Refusal::Size);
     }
-    let b = board_from(numbers);
+    let b = files::board_at(numbers, 1);
     let refused = line::draw_line(
         b,
         chars,

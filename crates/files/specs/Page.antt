@@ -6,6 +6,8 @@ use Rattle.units.specs.Units.{dots}
 use Rattle.board.specs.declared.Starts.{Starts}
 use Rattle.board.specs.declared.Video.{Video}
 use Rattle.board.specs.declared.Page.{Page}
+use Rattle.board.specs.declared.Board.{Board}
+use Rattle.board.specs.State.{clockZero}
 
 -- two bytes big-endian: the high byte first
 unfoldable pub wordAt : List ℕ → ℕ → ℕ
@@ -26,3 +28,7 @@ pageAt bytes at = record {
   switches = getD bytes (at + 21) 0;
   video = videoOf (getD bytes (at + 22) 0) (getD bytes (at + 23) 0);
 }
+
+-- a page read gives an active board at clock 0, pointer at IR0
+abbrev pub boardAt : List ℕ → ℕ → Board
+boardAt bytes at = record { page = pageAt bytes at; place = clockZero; pointer = 0; resets = 2 }

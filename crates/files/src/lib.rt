@@ -2,7 +2,7 @@
 ghost use mathlib.Core.Path.{_≡_};
 ghost use Prim.Native.Nat.{_+_, _*_, _≤_};
 ghost use lib.ListN.{length, take, drop};
-ghost use Rattle.files.specs.Page.{wordAt, startsAt, videoOf, pageAt};
+ghost use Rattle.files.specs.Page.{wordAt, startsAt, videoOf, pageAt, boardAt};
 
 fn word(high: u8, low: u8) -> u16
     ensures { λ r. ⌜ r ≡ high * 256 + low ⌝ }
@@ -73,5 +73,18 @@ pub fn page_at(bytes: &[u8], at: usize) -> board::Page
         starts: starts_at(bytes, at + 15),
         switches: bytes[at + 21],
         video: video(bytes[at + 22], bytes[at + 23]),
+    }
+}
+
+// "A page read gives an active board at clock 0, pointer at IR0."
+pub fn board_at(bytes: &[u8], at: usize) -> board::Board
+    requires { ⌜ at + 24 ≤ length (now bytes) ⌝ }
+    ensures { λ r. ⌜ r ≡ boardAt (now (bytes .entry)) at ⌝ }
+{
+    board::Board {
+        page: page_at(bytes, at),
+        place: board::clock_zero(),
+        pointer: 0,
+        resets: 2,
     }
 }

@@ -1,7 +1,7 @@
 -- Decisions: a choice by a test, the first of several tests that holds, and how a proof walks through them. Assumes nothing.
 use mathlib.Core.Bool.{Bool, true, false, _&&_, _||_, and-false, true≢false}
 use mathlib.Core.List.{List, [], _∷_}
-use mathlib.Core.Path.{_≡_, refl}
+use mathlib.Core.Path.{_≡_, refl, sym}
 use Prim.Native.Nat.{ℕ, _≤_, _<_}
 use lib.Dec.{leb}
 use borrow.Author.Tests.{le-leb, lt-leb}
@@ -36,6 +36,11 @@ under lo hi a p = simp (lt-leb lo a p)
 
 pub over : (lo hi a : ℕ) → hi < a → within lo hi a ≡ false
 over lo hi a p = simp (lt-leb a hi p, and-false)
+
+-- an `and` that holds: both sides do
+pub both : (s t : Bool) → (s && t) ≡ true → (s ≡ true) × (t ≡ true)
+both true t e = (refl, e)
+both false t e = absurd (true≢false (sym e))
 
 -- an `or` that does not hold: neither side does
 pub neither : (s t : Bool) → (s || t) ≡ false → (s ≡ false) × (t ≡ false)

@@ -3,7 +3,7 @@
 --     blended                bytes of 0 and 1 become bytes of two levels
 --     eight-puts             the eight bytes, stored one by one, are eight dots
 use mathlib.Core.Path.{_≡_, refl, sym, _∙_}
-use mathlib.Core.Bool.{Bool, true, false, _&&_, true≢false}
+use mathlib.Core.Bool.{Bool, true, _&&_}
 use mathlib.Core.List.{List}
 use Prim.Native.Nat.{ℕ, zero, suc, _+_, _*_, _/_, _%_, _^_, _-_, _≤_, _<_}
 use native.Mathlib.Nat.{pow-suc, not-suc-le-zero, le-of-suc-le-suc, zero-add, zero-mul, one-mul, add-mul, mul-assoc}
@@ -12,7 +12,7 @@ use borrow.Author.Tests.{eqb-true, lt-ltb}
 use lib.Bits.{bitAnd}
 use lib.Dec.{eqb}
 use lib.ListN.{set}
-use Rattle.lists.specs.Choice.{pick-lt}
+use Rattle.lists.specs.Choice.{pick-lt, both}
 use Rattle.video.specs.Cell.{shadeOf}
 use Rattle.video.specs.Stores.{putIf, puts, spreadOf, blendOf}
 
@@ -22,10 +22,6 @@ use Rattle.video.specs.Stores.{putIf, puts, spreadOf, blendOf}
 tried : (ℕ → Bool) → ℕ → Bool
 tried p zero = true
 tried p (suc n) = p zero && tried (λ k. p (suc k)) n
-
-both : (a b : Bool) → (a && b) ≡ true → (a ≡ true) × (b ≡ true)
-both true b e = (refl, e)
-both false b e = absurd (true≢false (sym e))
 
 each : (p : ℕ → Bool) (n k : ℕ) → tried p n ≡ true → k < n → p k ≡ true
 unfolding tried

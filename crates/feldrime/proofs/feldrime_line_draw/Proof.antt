@@ -1,4 +1,5 @@
 use mathlib.Core.Path.{sym, _∙_}
+use native.Mathlib.Omega.{arith}
 use borrow.Author.Needs.{needs}
 use Rattle.shape.specs.Font.{Font, fontOf}
 use Rattle.feldrime.specs.Laws.{numbers-all, draw-refused, draw-taken}
@@ -17,15 +18,15 @@ returns c =
     let then = c .before in
     draw-refused _ _ _ (font (then .before)) _ _ _ _ (sym (then .before .numbers-refused .ensures) ∙ then .if1 .taken) (c .answered .ensures)
 
-board-from-requires : tie.Need-board-from-requires
-board-from-requires c κs = numbers-all _ (sym (c .before .numbers-refused .ensures) ∙ c .if1 .left)
+board-at-requires : tie.Need-board-at-requires
+board-at-requires c κs = omega (arith, numbers-all (begin (c .before) .args .numbers .now) (sym (c .before .numbers-refused .ensures) ∙ c .if1 .left))
 
 returns-2 : tie.Need-returns-2
 returns-2 c =
     let draw = c .before .before .before in
     let made = draw .before .before in
     let left = made .before in
-    draw-taken _ _ _ (font (left .before)) _ _ _ _ (sym (left .before .numbers-refused .ensures) ∙ left .if1 .left) _ (made .board-from .ensures) _ _ (draw .draw-line .ensures) (c .answered2 .ensures)
+    draw-taken _ _ _ (font (left .before)) _ _ _ _ (sym (left .before .numbers-refused .ensures) ∙ left .if1 .left) _ (made .board-at .ensures) _ _ (draw .draw-line .ensures) (c .answered2 .ensures)
 
 pub feldrime-line-draw-spec : {M : Type 1} → statement M
 feldrime-line-draw-spec =
@@ -34,7 +35,7 @@ feldrime-line-draw-spec =
     (λ c κs. search needs)
     (λ c κs. search needs)
     returns
-    board-from-requires
+    board-at-requires
     (λ c κs. search needs)
     (λ c κs. search needs)
     (λ c. search needs)
