@@ -243,7 +243,7 @@ fn blank_dots(b: board::Board, level: u8) -> [u8; 12]
     out
 }
 
-// What the step works with once nothing is refused: the scene of the place's scan line, and what the clock has loaded.
+// The scene of the place's scan line.
 fn scene_in(b: board::Board) -> video::Scene
     ensures { λ r. ⌜ r ≡ sceneOf b (scanIn b) (b .place .field) ⌝ }
 {

@@ -2,7 +2,7 @@
 --     nibble, two-nibbles    a product and a mask put four bits into four bytes (all sixteen cases are tried), and two of them eight bits into eight
 --     blended                bytes of 0 and 1 become bytes of two levels
 --     eight-puts             the eight bytes, stored one by one, are eight dots
-use mathlib.Core.Path.{_≡_, refl, sym, _∙_}
+use mathlib.Core.Path.{_≡_, refl, _∙_}
 use mathlib.Core.Bool.{Bool, true, _&&_}
 use mathlib.Core.List.{List}
 use Prim.Native.Nat.{ℕ, zero, suc, _+_, _*_, _/_, _%_, _^_, _-_, _≤_, _<_}
