@@ -4,6 +4,7 @@ ghost use Prim.Native.Nat.{_≤_, _<_, _-_};
 ghost use lib.ListN.{length, replicate};
 ghost use Rattle.raster.specs.Moves.{cell};
 ghost use Rattle.raster.specs.Cells.{begins};
+ghost use Rattle.timing.specs.Fields.{tableOf};
 ghost use Rattle.fetch.specs.Rows.{feedIn};
 ghost use Rattle.shape.specs.Font.{Whole, fontOf, wordOf};
 ghost use Rattle.video.specs.Scene.{sceneOf, cursorAt};
@@ -42,13 +43,20 @@ pub struct StateAt {
     pub board: board::Board,
 }
 
+// The row table is fetched with the display off too.
+fn table_on(p: board::Page) -> bool
+    ensures { λ r. ⌜ r ≡ tableOf (p .irs) ⌝ }
+{
+    let irs = p.irs;
+    timing::table_of(irs)
+}
+
 // What a row begins with, where a cell is held.
 fn begun(p: board::Page, chars: &[u8], row: u32, held: raster::Cell) -> raster::Cell
     requires { ⌜ (length (now chars) ≡ 16384) × (row < 8192) ⌝ }
     ensures { λ r. ⌜ r ≡ cell (begins (feedIn p (now (chars .entry))) row (held .at)) ⌝ }
 {
-    let irs = p.irs;
-    if timing::table_of(irs) {
+    if table_on(p) {
         return fetch::entry(p, chars, row);
     }
     if row == 0 {

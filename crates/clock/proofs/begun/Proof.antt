@@ -6,13 +6,13 @@ use Rattle.clock.proofs.begun.Statement.{statement}
 use Rattle.clock.proofs.begun.Tie as tie
 
 returns : tie.Need-returns
-returns c = c .entry .ensures ∙ ap cell (begins-table _ _ _ _ (sym (c .before .before .table-of .ensures) ∙ c .before .if1 .taken))
+returns c = c .entry .ensures ∙ ap cell (begins-table _ _ _ _ (sym (c .before .before .table-on .ensures) ∙ c .before .if1 .taken))
 
 returns-2 : tie.Need-returns-2
-returns-2 c = ap cell (begins-first _ _ _ _ (sym (c .before .before .table-of .ensures) ∙ c .before .if1 .left) (c .if2 .taken))
+returns-2 c = ap cell (begins-first _ _ _ _ (sym (c .before .before .table-on .ensures) ∙ c .before .if1 .left) (c .if2 .taken))
 
 returns-3 : tie.Need-returns-3
-returns-3 c = ap cell (begins-on _ _ _ _ (sym (c .before .before .table-of .ensures) ∙ c .before .if1 .left) (c .if2 .left))
+returns-3 c = ap cell (begins-on _ _ _ _ (sym (c .before .before .table-on .ensures) ∙ c .before .if1 .left) (c .if2 .left))
 
 pub begun-spec : {M : Type 1} → statement M
 begun-spec = tie.close (tie.spec (λ c κs. search needs) (λ c κs. search needs) returns returns-2 returns-3)
