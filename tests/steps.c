@@ -1,44 +1,10 @@
 /* Draws a page in both ways through the archive, by single steps of one board altered where it stands and by whole lines, and
    compares every dot, address and signal that both show. It also sees the refusals leave board and buffer as they were.
    It prints "ok" and ends with 0, or says what differs and ends with 1. */
-#include <stdint.h>
 #include <stdio.h>
 #include <string.h>
 
-typedef struct {
-    uint32_t refusal, beside;
-} answer;
-
-typedef struct {
-    uint32_t refusal, beside, hsync, vsync, blank, cursor, blink, address;
-    uint8_t dots[12];
-} step_answer;
-
-typedef struct {
-    struct {
-        uint8_t irs[15];
-        struct {
-            uint16_t start1, cursor, start2;
-        } starts;
-        uint8_t switches;
-        struct {
-            uint32_t dots;
-            uint8_t strike;
-        } video;
-    } page;
-    struct {
-        uint8_t field;
-        uint32_t line, clock;
-        uint16_t now, kept;
-    } place;
-    uint8_t pointer, resets;
-} board;
-
-answer feldrime_line_draw(const uint8_t *, size_t, const uint8_t *, size_t, const uint8_t *, size_t, const uint16_t *, size_t,
-                          const uint8_t *, size_t, const uint8_t *, size_t, const uint8_t *, size_t, uint32_t, uint8_t, uint8_t *,
-                          size_t);
-step_answer feldrime_step(board *, const uint8_t *, size_t, const uint8_t *, size_t, const uint16_t *, size_t, const uint8_t *,
-                          size_t, const uint8_t *, size_t, const uint8_t *, size_t);
+#include "feldrime.h"
 
 enum { ROWS = 4, LINES = 5, HACT = 7, HSYNC = 4, HBP = 3, HFP = 4, HT = HACT + HFP + HSYNC + HBP, VFP = 4, VSYNC = 3, VBP = 4 };
 
@@ -100,9 +66,9 @@ static void make(uint8_t numbers[32], int table, uint8_t dots, uint8_t switches)
     numbers[24] = any(16);
 }
 
-static board made(const uint8_t numbers[32])
+static feldrime_board made(const uint8_t numbers[32])
 {
-    board b;
+    feldrime_board b;
     memset(&b, 0, sizeof b);
     memcpy(b.page.irs, numbers + 1, 15);
     b.page.starts.start1 = numbers[16] << 8 | numbers[17];
@@ -115,24 +81,24 @@ static board made(const uint8_t numbers[32])
     return b;
 }
 
-static step_answer step(board *b)
+static feldrime_step_answer step(feldrime_board *b)
 {
     return feldrime_step(b, chars, 16384, attrs, 16384, words, 1152, flags, 128, unshifted, 9, shifted, 9);
 }
 
-static answer draw(const uint8_t numbers[32], uint32_t line, uint8_t field, uint8_t *out, size_t room)
+static feldrime_answer draw(const uint8_t numbers[32], uint32_t line, uint8_t field, uint8_t *out, size_t room)
 {
     return feldrime_line_draw(numbers, 32, chars, 16384, attrs, 16384, words, 1152, flags, 128, unshifted, 9, shifted, 9, line,
                               field, out, room);
 }
 
 /* one frame, clock by clock, beside the same frame line by line */
-static int frame(board *b, const uint8_t numbers[32], uint8_t field)
+static int frame(feldrime_board *b, const uint8_t numbers[32], uint8_t field)
 {
     uint8_t dots = numbers[23], out[HACT * 12 + 4];
     for (uint32_t line = 0; line < ROWS * LINES + VFP + VSYNC + VBP; line++) {
         memset(out, 9, sizeof out);
-        answer a = draw(numbers, line, field, out, sizeof out);
+        feldrime_answer a = draw(numbers, line, field, out, sizeof out);
         int visible = line < ROWS * LINES;
         if (a.refusal != (visible ? 0u : 7u))
             return fail("refusal of a line", a.refusal, line);
@@ -142,7 +108,7 @@ static int frame(board *b, const uint8_t numbers[32], uint8_t field)
         for (uint32_t clock = 0; clock < HT; clock++) {
             if (b->place.line != line || b->place.clock != clock || b->place.field != field)
                 return fail("place", b->place.line, b->place.clock);
-            step_answer s = step(b);
+            feldrime_step_answer s = step(b);
             if (s.refusal)
                 return fail("refusal of a step", s.refusal, clock);
             if (s.hsync != (clock >= HACT + HFP && clock < HACT + HFP + HSYNC))
@@ -166,10 +132,10 @@ static int refusals(void)
 {
     uint8_t numbers[32], out[HACT * 12];
     make(numbers, 0, 8, 1);
-    board b = made(numbers), old;
+    feldrime_board b = made(numbers), old;
     b.place.line = 4000000000u;
     old = b;
-    step_answer s = step(&b);
+    feldrime_step_answer s = step(&b);
     if (s.refusal != 7 || s.address || memcmp(&b, &old, sizeof b))
         return fail("a step of a board out of range", s.refusal, 7);
     b.place.line = 0;
@@ -179,7 +145,7 @@ static int refusals(void)
     if (s.refusal != 5 || memcmp(&b, &old, sizeof b))
         return fail("a step of a refused page", s.refusal, 5);
     memset(out, 9, sizeof out);
-    answer a = draw(numbers, 0, 0, out, HACT * 8 - 1);
+    feldrime_answer a = draw(numbers, 0, 0, out, HACT * 8 - 1);
     if (a.refusal != 8)
         return fail("a short buffer", a.refusal, 8);
     for (unsigned i = 0; i < sizeof out; i++)
@@ -194,7 +160,7 @@ int main(void)
         uint8_t numbers[32];
         fill();
         make(numbers, round % 2, 6 + round % 7, any(16) | (round % 5 ? 1 : 0));
-        board b = made(numbers);
+        feldrime_board b = made(numbers);
         for (int k = 0; k < 3; k++)
             if (frame(&b, numbers, k))
                 return 1;

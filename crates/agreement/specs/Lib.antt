@@ -1,5 +1,6 @@
 -- The promises.
 pub mod Cases
+pub mod Files
 pub mod OneAnswer
 pub mod Steps
 pub mod Lines

@@ -1,11 +1,13 @@
 -- No second answer meets a public call's contract. Each contract names its answer, so each of these is `only`.
 use Prim.Native.Nat.{ℕ}
 use mathlib.Core.Path.{_≡_}
-use mathlib.Core.Bool.{Bool}
+use mathlib.Core.Bool.{Bool, not}
 use mathlib.Core.List.{List}
+use lib.Dec.{eqb}
 use lib.ListN.{length}
-use Rattle.lists.specs.Answer.{OneAnswer, only, only-both}
+use Rattle.lists.specs.Answer.{OneAnswer, only, only-both, only-three, only-four}
 use Rattle.units.specs.declared.Dots.{Dots}
+use Rattle.units.specs.Units.{dots}
 use Rattle.refusal.specs.declared.Refusal.{Refusal}
 use Rattle.refusal.specs.Number.{numberOf, doneOf}
 use Rattle.raster.specs.declared.Buffer.{Buffer}
@@ -27,12 +29,18 @@ use Rattle.video.specs.Scene.{sceneOf, cursorAt}
 use Rattle.video.specs.Look.{effective, lookOf}
 use Rattle.line.specs.Line.{lentRefused, drawCheck, drawnOf}
 use Rattle.clock.specs.Step.{stepOf, stateOf}
+use Rattle.files.specs.declared.PageRead.{PageRead}
+use Rattle.files.specs.File.{memoriesRefused, readCheck, charsRead, attrsRead, writeCheck, written}
+use Rattle.files.specs.File as page
+use Rattle.files.specs.FontFile.{fontCheck, fontRead, fontWriteCheck, fontWritten}
+use Rattle.listing_lines.specs.declared.Listed.{Listed}
+use Rattle.listing_lines.specs.Listing.{listingHead, listingLine, headCheck, lineCheck, listedOf, listedIn}
 use Rattle.feldrime.specs.declared.Answer.{Answer}
 use Rattle.feldrime.specs.declared.StepAnswer.{StepAnswer}
-use Rattle.feldrime.specs.Answers.{answerOf}
+use Rattle.feldrime.specs.Answers.{answerOf, boardAnswer, byteAnswer}
+use Rattle.feldrime.specs.Pages.{numbersCheck, sizeFor, pageReadSize, numbersRead, pageWriteCheck, pageWritten, runFor, boardFor}
 use Rattle.feldrime.specs.LineDraw.{lineDrawCheck, lineDrawn}
 use Rattle.feldrime.specs.Step.{stepNumbers}
-use Rattle.feldrime.specs.State.{boardAnswer}
 use Rattle.registers.specs.Write.{writeOf}
 use Rattle.registers.specs.Read.{readOf}
 use Rattle.registers.specs.Video.{setVideoOf}
@@ -73,7 +81,80 @@ step-one b chars attrs f = only (stepOf b chars attrs f)
 pub state-at-one : (b : Board) (chars attrs : List ℕ) (n : ℕ) → OneAnswer (λ r. r ≡ stateOf b chars attrs n)
 state-at-one b chars attrs n = only (stateOf b chars attrs n)
 
+-- the answer and both memories
+pub read-page-one : (file chars attrs : List ℕ)
+    → OneAnswer (λ (r : PageRead × List ℕ × List ℕ). (r .0 ≡ page.readOf file (memoriesRefused (length chars) (length attrs)))
+    × (r .1 ≡ charsRead file (memoriesRefused (length chars) (length attrs)) chars)
+    × (r .2 ≡ attrsRead file (memoriesRefused (length chars) (length attrs)) attrs))
+read-page-one file chars attrs =
+    let size = memoriesRefused (length chars) (length attrs) in
+    only-three (page.readOf file size) (charsRead file size chars) (attrsRead file size attrs)
+
+pub write-page-one : (b : Board) (chars attrs out : List ℕ)
+    → OneAnswer (λ (r : Refusal × List ℕ). (r .0 ≡ writeCheck b (length chars) (length attrs) (length out)) × (r .1 ≡ written b chars attrs out))
+write-page-one b chars attrs out = only-both (writeCheck b (length chars) (length attrs) (length out)) (written b chars attrs out)
+
+-- the refusal and the four parts
+pub read-font-one : (file : List ℕ) (f : Font) → OneAnswer (λ (r : Refusal × Font). (r .0 ≡ fontCheck file (fontRefused f)) × (r .1 ≡ fontRead file f))
+read-font-one file f = only-both (fontCheck file (fontRefused f)) (fontRead file f)
+
+pub write-font-one : (f : Font) (out : List ℕ) → OneAnswer (λ (r : Refusal × List ℕ). (r .0 ≡ fontWriteCheck f (length out)) × (r .1 ≡ fontWritten f out))
+write-font-one f out = only-both (fontWriteCheck f (length out)) (fontWritten f out)
+
+-- the answer and the buffer
+pub listing-head-one : (p : Page) (out : List ℕ)
+    → OneAnswer (λ (r : Listed × List ℕ). (r .0 ≡ listedOf (headCheck p (length out)) (listingHead p)) × (r .1 ≡ listedIn (headCheck p (length out)) (listingHead p) out))
+listing-head-one p out = only-both (listedOf (headCheck p (length out)) (listingHead p)) (listedIn (headCheck p (length out)) (listingHead p) out)
+
+pub listing-line-one : (b : Board) (chars attrs : List ℕ) (f : Font) (line field : ℕ) (out : List ℕ)
+    → OneAnswer (λ (r : Listed × List ℕ). (r .0 ≡ listedOf (lineCheck b (lentRefused chars attrs f) line (length out)) (listingLine b chars attrs f line field))
+    × (r .1 ≡ listedIn (lineCheck b (lentRefused chars attrs f) line (length out)) (listingLine b chars attrs f line field) out))
+listing-line-one b chars attrs f line field out =
+    let check = lineCheck b (lentRefused chars attrs f) line (length out) in
+    only-both (listedOf check (listingLine b chars attrs f line field)) (listedIn check (listingLine b chars attrs f line field) out)
+
 -- ---- the calls for C
+
+pub page-check-for-c-one : (numbers : List ℕ) → OneAnswer (λ r. r ≡ answerOf (numbersCheck numbers))
+page-check-for-c-one numbers = only (answerOf (numbersCheck numbers))
+
+pub page-size-for-c-one : (numbers : List ℕ) → OneAnswer (λ r. r ≡ sizeFor numbers)
+page-size-for-c-one numbers = only (sizeFor numbers)
+
+-- the answer, the numbers and both memories
+pub page-read-one : (file numbers chars attrs : List ℕ)
+    → OneAnswer (λ (r : Answer × List ℕ × List ℕ × List ℕ). (r .0 ≡ answerOf (readCheck file (pageReadSize (length numbers) (length chars) (length attrs))))
+    × (r .1 ≡ numbersRead file (pageReadSize (length numbers) (length chars) (length attrs)) numbers)
+    × (r .2 ≡ charsRead file (pageReadSize (length numbers) (length chars) (length attrs)) chars)
+    × (r .3 ≡ attrsRead file (pageReadSize (length numbers) (length chars) (length attrs)) attrs))
+page-read-one file numbers chars attrs =
+    let size = pageReadSize (length numbers) (length chars) (length attrs) in
+    only-four (answerOf (readCheck file size)) (numbersRead file size numbers) (charsRead file size chars) (attrsRead file size attrs)
+
+pub page-write-one : (numbers chars attrs out : List ℕ)
+    → OneAnswer (λ (r : Answer × List ℕ). (r .0 ≡ answerOf (pageWriteCheck numbers (length chars) (length attrs) (length out))) × (r .1 ≡ pageWritten numbers chars attrs out))
+page-write-one numbers chars attrs out = only-both (answerOf (pageWriteCheck numbers (length chars) (length attrs) (length out))) (pageWritten numbers chars attrs out)
+
+pub font-read-one : (file : List ℕ) (f : Font) → OneAnswer (λ (r : Answer × Font). (r .0 ≡ answerOf (fontCheck file (fontRefused f))) × (r .1 ≡ fontRead file f))
+font-read-one file f = only-both (answerOf (fontCheck file (fontRefused f))) (fontRead file f)
+
+pub row-run-for-c-one : (numbers chars : List ℕ) (row : ℕ) → OneAnswer (λ r. r ≡ runFor numbers chars row)
+row-run-for-c-one numbers chars row = only (runFor numbers chars row)
+
+pub board-of-one : (numbers : List ℕ) → OneAnswer (λ r. r ≡ boardFor numbers)
+board-of-one numbers = only (boardFor numbers)
+
+pub set-video-for-c-one : (b : Board) (d k bk rb : ℕ)
+    → OneAnswer (λ r. r ≡ boardAnswer (setVideoOf b (dots d) k (not (eqb bk 0)) (not (eqb rb 0)) .refusal) (setVideoOf b (dots d) k (not (eqb bk 0)) (not (eqb rb 0)) .board))
+set-video-for-c-one b d k bk rb =
+    let s = setVideoOf b (dots d) k (not (eqb bk 0)) (not (eqb rb 0)) in
+    only (boardAnswer (s .refusal) (s .board))
+
+pub write-for-c-one : (b : Board) (a v : ℕ) → OneAnswer (λ r. r ≡ boardAnswer (writeOf b a v .refusal) (writeOf b a v .board))
+write-for-c-one b a v = only (boardAnswer (writeOf b a v .refusal) (writeOf b a v .board))
+
+pub read-for-c-one : (b : Board) (a : ℕ) → OneAnswer (λ r. r ≡ byteAnswer (readOf b a .refusal) (readOf b a .byte))
+read-for-c-one b a = only (byteAnswer (readOf b a .refusal) (readOf b a .byte))
 
 pub line-draw-one : (numbers chars attrs : List ℕ) (f : Font) (line field : ℕ) (out : List ℕ)
     → OneAnswer (λ (r : Answer × List ℕ). (r .0 ≡ answerOf (lineDrawCheck numbers chars attrs f line (length out))) × (r .1 ≡ lineDrawn numbers chars attrs f line field out))
@@ -191,3 +272,6 @@ look-of-one s attributes cursor = only (lookOf s attributes cursor)
 
 pub lent-refused-one : (chars attrs : List ℕ) (f : Font) → OneAnswer (λ r. r ≡ lentRefused chars attrs f)
 lent-refused-one chars attrs f = only (lentRefused chars attrs f)
+
+pub read-check-one : (file : List ℕ) (size : Bool) → OneAnswer (λ r. r ≡ readCheck file size)
+read-check-one file size = only (readCheck file size)

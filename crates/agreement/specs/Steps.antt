@@ -32,13 +32,13 @@ use Rattle.clock.specs.Laws.{fit, line-shown, line-idle, carried-on, carried-li
 
 -- ---- a place in range is not refused
 
-range-ok : (b : Board) → InRange b → stateRefused b ≡ false
+pub range-ok : (b : Board) → InRange b → stateRefused b ≡ false
 unfolding stateRefused
 range-ok b i =
     rw
     (lt-leb (vtOf (b .page .irs)) (b .place .line .0) (i .line-lt), lt-leb (htOf (b .page .irs)) (b .place .clock .0) (i .clock-lt), le-ltb 16383 (b .place .now .at) (i .now-le), le-ltb 16383 (b .place .kept .at) (i .kept-le), le-ltb 14 (b .pointer) (i .pointer-le))
 
-call-ok : (b : Board) (size : Bool) → size ≡ false → pageCheck (b .page) ≡ Done → stateRefused b ≡ false → callCheck b size false false ≡ Done
+pub call-ok : (b : Board) (size : Bool) → size ≡ false → pageCheck (b .page) ≡ Done → stateRefused b ≡ false → callCheck b size false false ≡ Done
 unfolding callCheck
 call-ok b size s p r = rw (s, p, r)
 

@@ -1,7 +1,25 @@
--- What a call for C answers: the refusal's number of 01's table, and 0 beside it.
+-- What a call for C answers: the refusal's number of 01's table, 0 beside it, and the results.
+use Prim.Native.Nat.{ℕ}
 use Rattle.refusal.specs.declared.Refusal.{Refusal}
 use Rattle.refusal.specs.Number.{numberOf}
+use Rattle.board.specs.declared.Board.{Board}
 use Rattle.feldrime.specs.declared.Answer.{Answer}
+use Rattle.feldrime.specs.declared.SizeAnswer.{SizeAnswer}
+use Rattle.feldrime.specs.declared.RunAnswer.{RunAnswer}
+use Rattle.feldrime.specs.declared.BoardAnswer.{BoardAnswer}
+use Rattle.feldrime.specs.declared.ByteAnswer.{ByteAnswer}
 
 abbrev pub answerOf : Refusal → Answer
 answerOf r = record { refusal = numberOf r; beside = 0 }
+
+abbrev pub sizeAnswer : Refusal → (lines dots : ℕ) → SizeAnswer
+sizeAnswer r l d = record { refusal = numberOf r; beside = 0; lines = l; dots = d }
+
+abbrev pub runAnswer : Refusal → (first count : ℕ) → RunAnswer
+runAnswer r f n = record { refusal = numberOf r; beside = 0; first = f; count = n }
+
+abbrev pub boardAnswer : Refusal → Board → BoardAnswer
+boardAnswer r b = record { refusal = numberOf r; beside = 0; board = b }
+
+abbrev pub byteAnswer : Refusal → ℕ → ByteAnswer
+byteAnswer r v = record { refusal = numberOf r; beside = 0; byte = v }

@@ -1,33 +1,102 @@
--- What a drawing from numbers gives, where they are refused and where they are not. Assumes nothing.
-use Prim.Native.Nat.{ℕ}
-use mathlib.Core.Path.{_≡_}
-use mathlib.Core.Bool.{true, false}
-use mathlib.Core.List.{List}
+-- What the proofs of the calls for C use. Assumes nothing.
+use Prim.Native.Nat.{ℕ, _+_, _*_, _≤_, _<_}
+use mathlib.Core.Path.{_≡_, refl, sym, ap, _∙_}
+use mathlib.Core.Bool.{Bool, true, false, not}
+use mathlib.Core.List.{List, [], _∷_, _++_, append-nil}
+use native.Mathlib.Omega.{arith}
 use borrow.Author.Tests.{eqb-true, not-false}
-use lib.ListN.{length}
-use Rattle.lists.specs.Choice.{neither}
+use lib.Dec.{eqb}
+use lib.ListN.{length, getD, take, drop, replicate, List·getD-append}
+use lib.Seq.{drop-length, take-append-le, take-take, getD-take, getD-drop}
+use Rattle.lists.specs.Choice.{pick, neither}
 use Rattle.refusal.specs.declared.Refusal.{Refusal}
-use Rattle.refusal.specs.declared.Refusal.the-variants.{Size}
-use Rattle.board.specs.declared.Board.{Board}
-use Rattle.shape.specs.Font.{Font}
-use Rattle.line.specs.Line.{lentRefused, drawCheck, drawnOf}
+use Rattle.refusal.specs.declared.Refusal.the-variants.{Done, Size}
+use Rattle.refusal.specs.Number.{doneOf}
+use Rattle.refusal.specs.Laws.{passed}
+use Rattle.timing.specs.Check.{pageCheck}
+use Rattle.units.specs.Units.{dots}
+use Rattle.files.specs.Page.{wordAt, pageAt}
+use Rattle.files.specs.File.{memoriesRefused, readCheck}
+use Rattle.files.specs.Put.{putAt, laid-none, put-on}
+use Rattle.files.specs.Laws.{length-part, sized, FilePassed, file-passed}
 use Rattle.feldrime.specs.declared.Answer.{Answer}
-use Rattle.feldrime.specs.Numbers.{numbersRefused, boardOf}
+use Rattle.feldrime.specs.Numbers.{numbersRefused, numbersIn}
 use Rattle.feldrime.specs.Answers.{answerOf}
-use Rattle.feldrime.specs.LineDraw.{lineDrawCheck, lineDrawn}
+use Rattle.feldrime.specs.Pages.{numbersCheck, pageReadSize, numbersRead}
 
 pub numbers-all : (numbers : List ℕ) → numbersRefused numbers ≡ false → length numbers ≡ 32
 unfolding numbersRefused
 numbers-all numbers e = eqb-true _ _ (not-false _ (neither _ _ e .0))
 
-module _ (numbers chars attrs : List ℕ) (f : Font) (line field : ℕ) (out₀ : List ℕ) (a : Answer) where
-  pub draw-refused : numbersRefused numbers ≡ true → a ≡ answerOf Size
-      → (a ≡ answerOf (lineDrawCheck numbers chars attrs f line (length out₀))) × (out₀ ≡ lineDrawn numbers chars attrs f line field out₀)
-  unfolding lineDrawCheck lineDrawn
-  draw-refused t e = (rw t e, rw t)
+pub numbers-passed : (numbers : List ℕ) → numbersCheck numbers ≡ Done → numbersRefused numbers ≡ false
+unfolding numbersCheck
+numbers-passed numbers e = passed (numbersRefused numbers) Size _ refl e .0
 
-  pub draw-taken : numbersRefused numbers ≡ false → (b : Board) → b ≡ boardOf numbers → (r : Refusal) (out : List ℕ)
-      → (r ≡ drawCheck b (lentRefused chars attrs f) line (length out₀)) × (out ≡ drawnOf b chars attrs f line field out₀) → a ≡ answerOf r
-      → (a ≡ answerOf (lineDrawCheck numbers chars attrs f line (length out₀))) × (out ≡ lineDrawn numbers chars attrs f line field out₀)
-  unfolding lineDrawCheck lineDrawn
-  draw-taken t b p r out q e = rw (t, ← p, ← q .0) (e, q .1)
+-- a call that answers 3 where a test holds, and else what another call answers and leaves in a buffer
+module _ (t : Bool) (x : Refusal) (out₀ y : List ℕ) (a : Answer) where
+  pub three : t ≡ true → a ≡ answerOf Size → (a ≡ answerOf (pick t Size x)) × (out₀ ≡ pick t out₀ y)
+  three e q = rw e (q, refl)
+
+  pub taken : t ≡ false → (r : Refusal) (out : List ℕ) → (r ≡ x) × (out ≡ y) → a ≡ answerOf r → (a ≡ answerOf (pick t Size x)) × (out ≡ pick t out₀ y)
+  taken e r out q p = rw e (p ∙ ap answerOf (q .0), q .1)
+
+-- a page that is read: the sizes are right, and they are those that the memories are read by
+module _ (file : List ℕ) (n c a : ℕ) (ok : readCheck file (pageReadSize n c a) ≡ Done) where
+  page-read-passed : FilePassed file 32792 (pageReadSize n c a) (pageCheck (pageAt file 5))
+  unfolding readCheck
+  page-read-passed = file-passed file 32792 (pageReadSize n c a) (pageCheck (pageAt file 5)) ok
+
+  pub page-read-fits : (29 ≤ length file) × (n ≡ 32)
+  page-read-fits =
+      (omega (arith, sized file 32792 (page-read-passed .length-ok)), eqb-true _ _ (not-false _ (neither (memoriesRefused c a) (not (eqb n 32)) (page-read-passed .size-ok) .1)))
+
+  pub same-size : memoriesRefused c a ≡ pageReadSize n c a
+  same-size = neither (memoriesRefused c a) (not (eqb n 32)) (page-read-passed .size-ok) .0 ∙ sym (page-read-passed .size-ok)
+
+-- what such a read leaves
+module _ (file : List ℕ) (size : Bool) (numbers₀ : List ℕ) where
+  pub numbers-done : doneOf (readCheck file size) ≡ true → {numbers : List ℕ} → numbers ≡ numbersIn file → numbers ≡ numbersRead file size numbers₀
+  unfolding numbersRead
+  numbers-done t e = rw t e
+
+  pub numbers-kept : doneOf (readCheck file size) ≡ false → numbers₀ ≡ numbersRead file size numbers₀
+  unfolding numbersRead
+  numbers-kept t = rw t
+
+-- the numbers of a file, put part by part
+pub numbers-put : (file numbers : List ℕ) → 29 ≤ length file → length numbers ≡ 32 → {one two three : List ℕ}
+    → one ≡ putAt 0 (1 ∷ []) numbers → two ≡ putAt 1 (take 24 (drop 5 file)) one → three ≡ putAt 25 (replicate 7 0) two → three ≡ numbersIn file
+numbers-put file numbers l n e₁ e₂ e₃ =
+    let part = take 24 (drop 5 file) in
+    let l₁ = put-on [] (1 ∷ []) numbers 0 1 (laid-none numbers) refl e₁ in
+    let l₂ = put-on (1 ∷ []) part numbers 1 24 l₁ (length-part file 5 24 (omega (arith, l))) e₂ in
+    let l₃ = put-on ((1 ∷ []) ++ part) (replicate 7 0) numbers 25 7 l₂ refl e₃ in
+    l₃ .1 ∙ ends numbers n
+  where
+    ends : (xs : List ℕ) → length xs ≡ 32 → (((1 ∷ []) ++ take 24 (drop 5 file)) ++ replicate 7 0) ++ drop 32 xs ≡ numbersIn file
+    ends xs k = rw (sym k, drop-length xs) (append-nil _)
+
+-- the numbers of a file hold its page
+pub numbers-page : (file : List ℕ) → 29 ≤ length file → pageAt (numbersIn file) 1 ≡ pageAt file 5
+unfolding pageAt wordAt
+numbers-page file l = λ i. record {
+  irs = irs-same i;
+  starts = record { start1 = both 15 (omega arith) i; cursor = both 17 (omega arith) i; start2 = both 19 (omega arith) i };
+  switches = same 21 (omega arith) i;
+  video = record { dots = dots (same 22 (omega arith) i); strike = same 23 (omega arith) i };
+}
+  where
+    part : List ℕ
+    part = take 24 (drop 5 file)
+
+    all : length part ≡ 24
+    all = length-part file 5 24 (omega (arith, l))
+
+    same : (k : ℕ) → k < 24 → getD (part ++ replicate 7 0) k 0 ≡ getD file (5 + k) 0
+    same k h = List·getD-append part (replicate 7 0) 0 k (rw all h) ∙ getD-take 24 (drop 5 file) k 0 h ∙ getD-drop 5 file k 0
+
+    both : (k : ℕ) → k + 1 < 24 → getD (part ++ replicate 7 0) k 0 * 256 + getD (part ++ replicate 7 0) (k + 1) 0 ≡ getD file (5 + k) 0 * 256 + getD file (5 + (k + 1)) 0
+    both k h = rw (same k (omega (arith, h)), same (k + 1) h)
+
+    irs-same : take 15 (part ++ replicate 7 0) ≡ take 15 (drop 5 file)
+    irs-same = take-append-le 15 part (replicate 7 0) (omega (arith, all)) ∙ take-take 15 24 (drop 5 file) (omega arith)

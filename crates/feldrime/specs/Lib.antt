@@ -1,7 +1,7 @@
 -- The calls for C.
 pub mod Numbers
 pub mod Answers
+pub mod Pages
 pub mod LineDraw
 pub mod Laws
 pub mod Step
-pub mod State

@@ -1,14 +1,24 @@
 // What C calls. Only numbers and slices cross; every call checks what it is given, so none has a condition to meet.
 ghost use mathlib.Core.Path.{_≡_};
+ghost use Prim.Native.Nat.{_≤_};
 ghost use lib.ListN.{length};
-ghost use Rattle.shape.specs.Font.{fontOf};
-ghost use Rattle.feldrime.specs.Numbers.{numbersRefused};
-ghost use Rattle.feldrime.specs.Answers.{answerOf};
-ghost use Rattle.feldrime.specs.LineDraw.{lineDrawCheck, lineDrawn};
 ghost use Rattle.lists.specs.Choice.{pick};
-ghost use Rattle.feldrime.specs.Step.{numbered, stepNumbers};
-ghost use Rattle.feldrime.specs.State.{boardAnswer};
+ghost use lib.Dec.{eqb};
+ghost use mathlib.Core.Bool.{not};
+ghost use Rattle.units.specs.Units.{dots as width};
+ghost use Rattle.board.specs.State.{powerOf};
+ghost use Rattle.registers.specs.Write.{writeOf};
+ghost use Rattle.registers.specs.Read.{readOf};
+ghost use Rattle.registers.specs.Video.{setVideoOf};
+ghost use Rattle.shape.specs.Font.{fontOf, fontRefused};
 ghost use Rattle.clock.specs.Step.{stateOf};
+ghost use Rattle.files.specs.File.{readCheck, charsRead, attrsRead};
+ghost use Rattle.files.specs.FontFile.{fontCheck, fontRead};
+ghost use Rattle.feldrime.specs.Numbers.{numbersRefused, numbersIn};
+ghost use Rattle.feldrime.specs.Answers.{answerOf, boardAnswer, byteAnswer};
+ghost use Rattle.feldrime.specs.Pages.{numbersCheck, sizeFor, pageReadSize, numbersRead, pageWriteCheck, pageWritten, runFor, boardFor};
+ghost use Rattle.feldrime.specs.LineDraw.{lineDrawCheck, lineDrawn};
+ghost use Rattle.feldrime.specs.Step.{numbered, stepNumbers};
 
 // The refusal's number, and a number beside it, which no refusal has yet.
 #[repr(C)]
@@ -34,6 +44,125 @@ fn numbers_refused(numbers: &[u8]) -> bool
         return true;
     }
     numbers[0] != 1
+}
+
+// The page check: 3, 12, 4, 5, 6.
+fn numbers_check(numbers: &[u8]) -> refusal::Refusal
+    ensures { λ r. ⌜ r ≡ numbersCheck (now (numbers .entry)) ⌝ }
+{
+    if numbers_refused(numbers) {
+        return refusal::Refusal::Size;
+    }
+    timing::page_check(files::page_at(numbers, 1))
+}
+
+#[no_mangle]
+pub extern "C" fn feldrime_page_check(numbers: &[u8]) -> Answer
+    ensures { λ r. ⌜ r ≡ answerOf (numbersCheck (now (numbers .entry))) ⌝ }
+{
+    answered(numbers_check(numbers))
+}
+
+// Visible lines, and dots in a line.
+#[repr(C)]
+pub struct SizeAnswer {
+    pub refusal: u32,
+    pub beside: u32,
+    pub lines: u32,
+    pub dots: u32,
+}
+
+#[no_mangle]
+pub extern "C" fn feldrime_page_size(numbers: &[u8]) -> SizeAnswer
+    ensures { λ r. ⌜ r ≡ sizeFor (now (numbers .entry)) ⌝ }
+{
+    if numbers_refused(numbers) {
+        return SizeAnswer {
+            refusal: 3,
+            beside: 0,
+            lines: 0,
+            dots: 0,
+        };
+    }
+    let s = timing::page_size(files::page_at(numbers, 1));
+    let refused = s.refusal;
+    SizeAnswer {
+        refusal: refusal::number(refused),
+        beside: 0,
+        lines: s.lines.0,
+        dots: s.dots.0,
+    }
+}
+
+// The numbers of a page file.
+fn put_numbers(file: &[u8], numbers: &mut [u8])
+    requires { ⌜ (29 ≤ length (now file)) × (length (now numbers) ≡ 32) ⌝ }
+    ensures { λ _. ⌜ now (numbers .exit) ≡ numbersIn (now (file .entry)) ⌝ }
+{
+    let version = [1u8; 1];
+    let zeros = [0u8; 7];
+    files::put(&version, 0, numbers);
+    files::put(&file[5..29], 1, numbers);
+    files::put(&zeros, 25, numbers);
+}
+
+// Reads a page file: its numbers and the two memories. A refusal leaves them as they were.
+#[no_mangle]
+pub extern "C" fn feldrime_page_read(
+    file: &[u8],
+    numbers: &mut [u8],
+    chars: &mut [u8],
+    attrs: &mut [u8],
+) -> Answer
+    ensures { λ r. ⌜ (r ≡ answerOf (readCheck (now (file .entry)) (pageReadSize (length (now (numbers .entry))) (length (now (chars .entry))) (length (now (attrs .entry))))))
+        × (now (numbers .exit) ≡ numbersRead (now (file .entry)) (pageReadSize (length (now (numbers .entry))) (length (now (chars .entry))) (length (now (attrs .entry)))) (now (numbers .entry)))
+        × (now (chars .exit) ≡ charsRead (now (file .entry)) (pageReadSize (length (now (numbers .entry))) (length (now (chars .entry))) (length (now (attrs .entry)))) (now (chars .entry)))
+        × (now (attrs .exit) ≡ attrsRead (now (file .entry)) (pageReadSize (length (now (numbers .entry))) (length (now (chars .entry))) (length (now (attrs .entry)))) (now (attrs .entry))) ⌝ }
+{
+    let size = (chars.len() != 16384) | (attrs.len() != 16384) | (numbers.len() != 32);
+    let refused = files::read_check(file, size);
+    let answer = answered(refused);
+    if refusal::is_done(refused) {
+        files::read_page(file, chars, attrs);
+        put_numbers(file, numbers);
+    }
+    answer
+}
+
+// Writes a page file at the front of out.
+#[no_mangle]
+pub extern "C" fn feldrime_page_write(
+    numbers: &[u8],
+    chars: &[u8],
+    attrs: &[u8],
+    out: &mut [u8],
+) -> Answer
+    ensures { λ r. ⌜ (r ≡ answerOf (pageWriteCheck (now (numbers .entry)) (length (now (chars .entry))) (length (now (attrs .entry))) (length (now (out .entry)))))
+        × (now (out .exit) ≡ pageWritten (now (numbers .entry)) (now (chars .entry)) (now (attrs .entry)) (now (out .entry))) ⌝ }
+{
+    if numbers_refused(numbers) {
+        return answered(refusal::Refusal::Size);
+    }
+    let b = files::board_at(numbers, 1);
+    let refused = files::write_page(b, chars, attrs, out);
+    answered(refused)
+}
+
+// Reads a font file into the four parts. A refusal leaves them as they were.
+#[no_mangle]
+pub extern "C" fn feldrime_font_read(
+    file: &[u8],
+    words: &mut [u16],
+    flags: &mut [u8],
+    unshifted: &mut [u8],
+    shifted: &mut [u8],
+) -> Answer
+    ensures { λ r. ⌜ (r ≡ answerOf (fontCheck (now (file .entry)) (fontRefused (fontOf (now (words .entry)) (now (flags .entry)) (now (unshifted .entry)) (now (shifted .entry))))))
+        × (fontOf (now (words .exit)) (now (flags .exit)) (now (unshifted .exit)) (now (shifted .exit))
+        ≡ fontRead (now (file .entry)) (fontOf (now (words .entry)) (now (flags .entry)) (now (unshifted .entry)) (now (shifted .entry)))) ⌝ }
+{
+    let refused = files::read_font(file, words, flags, unshifted, shifted);
+    answered(refused)
 }
 
 // Draws a visible line as it looks in a field, HACT x dots bytes at the front of out.
@@ -70,6 +199,136 @@ pub extern "C" fn feldrime_line_draw(
         out,
     );
     answered(refused)
+}
+
+// A row's first run of cells: from an address on, so many.
+#[repr(C)]
+pub struct RunAnswer {
+    pub refusal: u32,
+    pub beside: u32,
+    pub first: u32,
+    pub count: u32,
+}
+
+#[no_mangle]
+pub extern "C" fn feldrime_row_run(numbers: &[u8], chars: &[u8], row: u32) -> RunAnswer
+    ensures { λ r. ⌜ r ≡ runFor (now (numbers .entry)) (now (chars .entry)) row ⌝ }
+{
+    if numbers_refused(numbers) {
+        return RunAnswer {
+            refusal: 3,
+            beside: 0,
+            first: 0,
+            count: 0,
+        };
+    }
+    let s = fetch::span_of(files::board_at(numbers, 1), chars, row);
+    let refused = s.refusal;
+    RunAnswer {
+        refusal: refusal::number(refused),
+        beside: 0,
+        first: s.start as u32,
+        count: s.count as u32,
+    }
+}
+
+// An answer that carries a board.
+#[repr(C)]
+pub struct BoardAnswer {
+    pub refusal: u32,
+    pub beside: u32,
+    pub board: board::Board,
+}
+
+fn with_board(r: refusal::Refusal, b: board::Board) -> BoardAnswer
+    ensures { λ a. ⌜ a ≡ boardAnswer r b ⌝ }
+{
+    BoardAnswer {
+        refusal: refusal::number(r),
+        beside: 0,
+        board: b,
+    }
+}
+
+#[no_mangle]
+pub extern "C" fn feldrime_power() -> board::Board
+    ensures { λ r. ⌜ r ≡ powerOf ⌝ }
+{
+    board::power()
+}
+
+// An active board at clock 0, pointer at IR0; on a refusal the board that power gives.
+#[no_mangle]
+pub extern "C" fn feldrime_board_of(numbers: &[u8]) -> BoardAnswer
+    ensures { λ r. ⌜ r ≡ boardFor (now (numbers .entry)) ⌝ }
+{
+    let refused = numbers_check(numbers);
+    if refusal::is_done(refused) {
+        return with_board(refused, files::board_at(numbers, 1));
+    }
+    with_board(refused, board::power())
+}
+
+#[no_mangle]
+pub extern "C" fn feldrime_set_video(
+    b: board::Board,
+    dots: u8,
+    strike: u8,
+    bkgnd: u8,
+    rblank: u8,
+) -> BoardAnswer
+    ensures { λ r. ⌜ r ≡ boardAnswer (setVideoOf b (width dots) strike (not (eqb bkgnd 0)) (not (eqb rblank 0)) .refusal) (setVideoOf b (width dots) strike (not (eqb bkgnd 0)) (not (eqb rblank 0)) .board) ⌝ }
+{
+    let s = registers::set_video(b, units::Dots(dots as u32), strike, bkgnd != 0, rblank != 0);
+    let refused = s.refusal;
+    let board = s.board;
+    with_board(refused, board)
+}
+
+#[no_mangle]
+pub extern "C" fn feldrime_write(b: board::Board, address: u8, byte: u8) -> BoardAnswer
+    ensures { λ r. ⌜ r ≡ boardAnswer (writeOf b address byte .refusal) (writeOf b address byte .board) ⌝ }
+{
+    let w = registers::write(b, address, byte);
+    let refused = w.refusal;
+    let board = w.board;
+    with_board(refused, board)
+}
+
+#[repr(C)]
+pub struct ByteAnswer {
+    pub refusal: u32,
+    pub beside: u32,
+    pub byte: u32,
+}
+
+#[no_mangle]
+pub extern "C" fn feldrime_read(b: board::Board, address: u8) -> ByteAnswer
+    ensures { λ r. ⌜ r ≡ byteAnswer (readOf b address .refusal) (readOf b address .byte) ⌝ }
+{
+    let read = registers::read(b, address);
+    let refused = read.refusal;
+    ByteAnswer {
+        refusal: refusal::number(refused),
+        beside: 0,
+        byte: read.byte as u32,
+    }
+}
+
+// The board at clock n, counted from clock 0.
+#[no_mangle]
+pub extern "C" fn feldrime_state_at(
+    b: board::Board,
+    chars: &[u8],
+    attrs: &[u8],
+    n: u32,
+) -> BoardAnswer
+    ensures { λ r. ⌜ r ≡ boardAnswer (stateOf b (now (chars .entry)) (now (attrs .entry)) n .refusal) (stateOf b (now (chars .entry)) (now (attrs .entry)) n .board) ⌝ }
+{
+    let s = clock::state_at(b, chars, attrs, n);
+    let refused = s.refusal;
+    let board = s.board;
+    with_board(refused, board)
 }
 
 // What a step answers: a signal is 0 or 1, the dots are bytes as in a drawn line.
@@ -153,32 +412,4 @@ pub extern "C" fn feldrime_step(
     let s = step_numbers(*b, chars, attrs, words, flags, unshifted, shifted);
     *b = s.board;
     s.answer
-}
-
-// An answer that carries a board.
-#[repr(C)]
-pub struct BoardAnswer {
-    pub refusal: u32,
-    pub beside: u32,
-    pub board: board::Board,
-}
-
-// The board at clock n, counted from clock 0.
-#[no_mangle]
-pub extern "C" fn feldrime_state_at(
-    b: board::Board,
-    chars: &[u8],
-    attrs: &[u8],
-    n: u32,
-) -> BoardAnswer
-    ensures { λ r. ⌜ r ≡ boardAnswer (stateOf b (now (chars .entry)) (now (attrs .entry)) n .refusal) (stateOf b (now (chars .entry)) (now (attrs .entry)) n .board) ⌝ }
-{
-    let s = clock::state_at(b, chars, attrs, n);
-    let refused = s.refusal;
-    let board = s.board;
-    BoardAnswer {
-        refusal: refusal::number(refused),
-        beside: 0,
-        board: board,
-    }
 }

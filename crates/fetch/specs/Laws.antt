@@ -92,17 +92,22 @@ unfolding runCount
 count-fits p s h = omega arith
 
 module _ (b : Board) (chars : List ℕ) (row : ℕ) where
-  -- the run lies in character memory
-  pub span-fits : spanOf b chars row .start + spanOf b chars row .count ≤ length chars
+  -- the run lies in 16,384 cells, and in character memory whatever its size
+  pub span-small : (spanOf b chars row .start + spanOf b chars row .count ≤ 16384) × (spanOf b chars row .start + spanOf b chars row .count ≤ length chars)
   unfolding spanOf
-  span-fits = go (doneOf (runCheck b (length chars) row)) refl
+  span-small = go (doneOf (runCheck b (length chars) row)) refl
     where
-      go : (t : Bool) → doneOf (runCheck b (length chars) row) ≡ t → spanOf b chars row .start + spanOf b chars row .count ≤ length chars
+      go : (t : Bool) → doneOf (runCheck b (length chars) row) ≡ t
+          → (spanOf b chars row .start + spanOf b chars row .count ≤ 16384) × (spanOf b chars row .start + spanOf b chars row .count ≤ length chars)
       go true q =
           let k : Run b (length chars) row = run-passed b (length chars) row (done-is _ q) in
           let l : rowStart (b .page) chars row < 16384 = row-start-lt (b .page) chars (k .page) row in
-          rw q (omega (arith, count-fits (b .page) (rowStart (b .page) chars row) l, k .whole))
-      go false q = rw q (omega arith)
+          let f = count-fits (b .page) (rowStart (b .page) chars row) l in
+          rw q (f, omega (arith, f, k .whole))
+      go false q = rw q (omega arith, omega arith)
+
+  pub span-fits : spanOf b chars row .start + spanOf b chars row .count ≤ length chars
+  span-fits = span-small .1
 
   -- the same, as the code has it
   pub run-part : (s : Span) → s ≡ spanOf b chars row → take (s .start + s .count - s .start) (drop (s .start) chars) ≡ runOf b chars row

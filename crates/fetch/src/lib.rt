@@ -90,7 +90,7 @@ fn run_check(b: board::Board, n: usize, row: u32) -> refusal::Refusal
 }
 
 pub fn span_of(b: board::Board, chars: &[u8], row: u32) -> Span
-    ensures { λ r. ⌜ (r ≡ spanOf b (now (chars .entry)) row) × (r .start + r .count ≤ length (now (chars .entry))) ⌝ }
+    ensures { λ r. ⌜ (r ≡ spanOf b (now (chars .entry)) row) × (r .start + r .count ≤ 16384) × (r .start + r .count ≤ length (now (chars .entry))) ⌝ }
 {
     let page = b.page;
     let refused = run_check(b, chars.len(), row);

@@ -1,2 +1,9 @@
--- Page files.
+-- Page and font files.
 pub mod Page
+pub mod File
+pub mod FontFile
+pub mod Put
+pub mod Laws
+pub mod FontLaws
+pub mod Round
+pub mod FontRound

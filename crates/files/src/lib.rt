@@ -1,8 +1,20 @@
-// What a page file holds beside the memories.
+// Page and font files, read and written.
 ghost use mathlib.Core.Path.{_≡_};
-ghost use Prim.Native.Nat.{_+_, _*_, _≤_};
+ghost use Prim.Native.Nat.{_+_, _*_, _/_, _%_, _≤_};
+ghost use mathlib.Core.List.{_++_};
 ghost use lib.ListN.{length, take, drop};
 ghost use Rattle.files.specs.Page.{wordAt, startsAt, videoOf, pageAt, boardAt};
+ghost use Rattle.files.specs.File.{longAt, versionRefused, lengthRefused, fileCheck, memoriesRefused, readCheck, readOf, charsRead, attrsRead, headOf, fileOf, writeCheck, written};
+ghost use Rattle.files.specs.FontFile.{wordsOf, byteOf, bytesIn, fontCheck, fontRead, fontFileOf, fontWriteCheck, fontWritten};
+ghost use Rattle.files.specs.Put.{putAt};
+ghost use Rattle.lists.specs.Tab.{tab};
+ghost use Rattle.refusal.specs.declared.Refusal.{Refusal};
+ghost use Rattle.shape.specs.Font.{fontOf, fontRefused, Whole};
+
+pub struct PageRead {
+    pub refusal: refusal::Refusal,
+    pub board: board::Board,
+}
 
 fn word(high: u8, low: u8) -> u16
     ensures { λ r. ⌜ r ≡ high * 256 + low ⌝ }
@@ -87,4 +99,291 @@ pub fn board_at(bytes: &[u8], at: usize) -> board::Board
         pointer: 0,
         resets: 2,
     }
+}
+
+// Four bytes big-endian.
+fn long_at(bytes: &[u8], i: usize) -> u32
+    requires { ⌜ i + 4 ≤ length (now bytes) ⌝ }
+    ensures { λ r. ⌜ r ≡ longAt (now (bytes .entry)) i ⌝ }
+{
+    word_at(bytes, i) as u32 * 65536 + word_at(bytes, i + 2) as u32
+}
+
+// 1.
+fn version_refused(file: &[u8]) -> bool
+    ensures { λ r. ⌜ r ≡ versionRefused (now (file .entry)) ⌝ }
+{
+    if file.len() == 0 {
+        return true;
+    }
+    file[0] != 1
+}
+
+// 2, where n bytes follow the length.
+fn length_refused(file: &[u8], n: u32) -> bool
+    requires { ⌜ n ≤ 65536 ⌝ }
+    ensures { λ r. ⌜ r ≡ lengthRefused (now (file .entry)) n ⌝ }
+{
+    if file.len() != n as usize + 5 {
+        return true;
+    }
+    long_at(file, 1) != n
+}
+
+// All of src into dst, which is as long.
+fn copy_all(src: &[u8], dst: &mut [u8])
+    requires { ⌜ length (now src) ≡ length (now dst) ⌝ }
+    ensures { λ _. ⌜ now (dst .exit) ≡ now (src .entry) ⌝ }
+{
+    bytes::copy(src, dst);
+}
+
+// As many bytes of src as dst has room for, from a place on.
+fn take_from(src: &[u8], at: usize, dst: &mut [u8])
+    requires { ⌜ at + length (now dst) ≤ length (now src) ⌝ }
+    ensures { λ _. ⌜ now (dst .exit) ≡ take (length (now (dst .entry))) (drop at (now (src .entry))) ⌝ }
+{
+    let end = at + dst.len();
+    copy_all(&src[at..end], dst);
+}
+
+// 1, 2, 3, where n bytes follow the length.
+fn file_check(file: &[u8], n: u32, size: bool) -> refusal::Refusal
+    requires { ⌜ n ≤ 65536 ⌝ }
+    ensures { λ r. ⌜ r ≡ fileCheck (now (file .entry)) n size Refusal.Done ⌝ }
+{
+    if version_refused(file) {
+        return refusal::Refusal::Version;
+    }
+    if length_refused(file, n) {
+        return refusal::Refusal::Length;
+    }
+    if size {
+        return refusal::Refusal::Size;
+    }
+    refusal::Refusal::Done
+}
+
+// 1, 2, 3, then the page's own; whether a lent part has a wrong size is the caller's to say.
+pub fn read_check(file: &[u8], size: bool) -> refusal::Refusal
+    ensures { λ r. ⌜ r ≡ readCheck (now (file .entry)) size ⌝ }
+{
+    let refused = file_check(file, 32792, size);
+    if refusal::is_done(refused) {
+        return timing::page_check(page_at(file, 5));
+    }
+    refused
+}
+
+// Reads a page file into the two memories. A refusal leaves both as they were.
+pub fn read_page(file: &[u8], chars: &mut [u8], attrs: &mut [u8]) -> PageRead
+    ensures { λ r. ⌜ (r ≡ readOf (now (file .entry)) (memoriesRefused (length (now (chars .entry))) (length (now (attrs .entry)))))
+        × (now (chars .exit) ≡ charsRead (now (file .entry)) (memoriesRefused (length (now (chars .entry))) (length (now (attrs .entry)))) (now (chars .entry)))
+        × (now (attrs .exit) ≡ attrsRead (now (file .entry)) (memoriesRefused (length (now (chars .entry))) (length (now (attrs .entry)))) (now (attrs .entry))) ⌝ }
+{
+    let size = (chars.len() != 16384) | (attrs.len() != 16384);
+    let answer = read_check(file, size);
+    if refusal::is_done(answer) {
+        take_from(file, 29, chars);
+        take_from(file, 16413, attrs);
+        return PageRead {
+            refusal: answer,
+            board: board_at(file, 5),
+        };
+    }
+    PageRead {
+        refusal: answer,
+        board: board::power(),
+    }
+}
+
+fn high(x: u16) -> u8
+    ensures { λ r. ⌜ r ≡ x / 256 ⌝ }
+{
+    (x / 256) as u8
+}
+
+fn low(x: u16) -> u8
+    ensures { λ r. ⌜ r ≡ x % 256 ⌝ }
+{
+    (x % 256) as u8
+}
+
+// The bytes before a page file's memories.
+fn head_of(p: board::Page) -> [u8; 29]
+    requires { ⌜ p .video .dots .0 ≤ 12 ⌝ }
+    ensures { λ r. ⌜ r ≡ headOf p ⌝ }
+{
+    let irs = p.irs;
+    let s = p.starts;
+    [
+        1,
+        0,
+        0,
+        128,
+        24,
+        irs[0],
+        irs[1],
+        irs[2],
+        irs[3],
+        irs[4],
+        irs[5],
+        irs[6],
+        irs[7],
+        irs[8],
+        irs[9],
+        irs[10],
+        irs[11],
+        irs[12],
+        irs[13],
+        irs[14],
+        high(s.start1),
+        low(s.start1),
+        high(s.cursor),
+        low(s.cursor),
+        high(s.start2),
+        low(s.start2),
+        p.switches,
+        p.video.dots.0 as u8,
+        p.video.strike,
+    ]
+}
+
+// All of src into out, from a place on.
+pub fn put(src: &[u8], at: usize, out: &mut [u8])
+    requires { ⌜ at + length (now src) ≤ length (now out) ⌝ }
+    ensures { λ _. ⌜ now (out .exit) ≡ putAt at (now (src .entry)) (now (out .entry)) ⌝ }
+{
+    let end = at + src.len();
+    copy_all(src, &mut out[at..end]);
+}
+
+// A page's file into the front of out; bytes beyond it stay.
+fn put_file(p: board::Page, chars: &[u8], attrs: &[u8], out: &mut [u8])
+    requires { ⌜ (p .video .dots .0 ≤ 12) × (length (now chars) ≡ 16384) × (length (now attrs) ≡ 16384) × (32797 ≤ length (now out)) ⌝ }
+    ensures { λ _. ⌜ now (out .exit) ≡ fileOf p (now (chars .entry)) (now (attrs .entry)) ++ drop 32797 (now (out .entry)) ⌝ }
+{
+    let head = head_of(p);
+    put(&head, 0, out);
+    put(chars, 29, out);
+    put(attrs, 16413, out);
+}
+
+// 3, 12, 4, 5, 6, 7.
+fn write_check(b: board::Board, chars: usize, attrs: usize, out: usize) -> refusal::Refusal
+    ensures { λ r. ⌜ r ≡ writeCheck b chars attrs out ⌝ }
+{
+    timing::call_check(
+        b,
+        (chars != 16384) | (attrs != 16384) | (out < 32797),
+        false,
+        false,
+    )
+}
+
+// Writes a board's page and its memories as a page file. A refusal leaves out as it was.
+pub fn write_page(b: board::Board, chars: &[u8], attrs: &[u8], out: &mut [u8]) -> refusal::Refusal
+    ensures { λ r. ⌜ (r ≡ writeCheck b (length (now (chars .entry))) (length (now (attrs .entry))) (length (now (out .entry))))
+        × (now (out .exit) ≡ written b (now (chars .entry)) (now (attrs .entry)) (now (out .entry))) ⌝ }
+{
+    let refused = write_check(b, chars.len(), attrs.len(), out.len());
+    if refusal::is_done(refused) {
+        put_file(b.page, chars, attrs, out);
+    }
+    refused
+}
+
+// As many words as dst has room for.
+fn read_words(src: &[u8], dst: &mut [u16])
+    requires { ⌜ 2 * length (now dst) ≤ length (now src) ⌝ }
+    ensures { λ _. ⌜ now (dst .exit) ≡ wordsOf (length (now (dst .entry))) (now (src .entry)) ⌝ }
+{
+    let mut i = 0;
+    while i < dst.len() {
+        dst[i] = word_at(src, 2 * i);
+        i += 1;
+    }
+}
+
+fn byte_of(words: &[u16], k: usize) -> u8
+    requires { ⌜ k + 1 ≤ 2 * length (now words) ⌝ }
+    ensures { λ r. ⌜ r ≡ byteOf (now (words .entry)) k ⌝ }
+{
+    let w = words[k / 2];
+    if k % 2 == 0 { high(w) } else { low(w) }
+}
+
+// As many bytes of the words as dst has room for.
+fn write_words(src: &[u16], dst: &mut [u8])
+    requires { ⌜ length (now dst) ≤ 2 * length (now src) ⌝ }
+    ensures { λ _. ⌜ now (dst .exit) ≡ tab (length (now (dst .entry))) (byteOf (now (src .entry))) ⌝ }
+{
+    let mut i = 0;
+    while i < dst.len() {
+        dst[i] = byte_of(src, i);
+        i += 1;
+    }
+}
+
+// Reads a font file into the four parts. A refusal leaves them as they were.
+pub fn read_font(
+    file: &[u8],
+    words: &mut [u16],
+    flags: &mut [u8],
+    unshifted: &mut [u8],
+    shifted: &mut [u8],
+) -> refusal::Refusal
+    ensures { λ r. ⌜ (r ≡ fontCheck (now (file .entry)) (fontRefused (fontOf (now (words .entry)) (now (flags .entry)) (now (unshifted .entry)) (now (shifted .entry)))))
+        × (fontOf (now (words .exit)) (now (flags .exit)) (now (unshifted .exit)) (now (shifted .exit))
+        ≡ fontRead (now (file .entry)) (fontOf (now (words .entry)) (now (flags .entry)) (now (unshifted .entry)) (now (shifted .entry)))) ⌝ }
+{
+    let size = shape::font_refused(words, flags, unshifted, shifted);
+    let refused = file_check(file, 2450, size);
+    if refusal::is_done(refused) {
+        read_words(&file[5..2309], words);
+        take_from(file, 2309, flags);
+        take_from(file, 2437, unshifted);
+        take_from(file, 2446, shifted);
+    }
+    refused
+}
+
+// The words of a font into a font file, from a place on.
+fn put_words(words: &[u16], at: usize, out: &mut [u8])
+    requires { ⌜ (length (now words) ≡ 1152) × (at + 2304 ≤ length (now out)) ⌝ }
+    ensures { λ _. ⌜ now (out .exit) ≡ putAt at (bytesIn (now (words .entry))) (now (out .entry)) ⌝ }
+{
+    let end = at + 2304;
+    write_words(words, &mut out[at..end]);
+}
+
+// A font's file into the front of out; bytes beyond it stay.
+fn put_font(words: &[u16], flags: &[u8], unshifted: &[u8], shifted: &[u8], out: &mut [u8])
+    requires { ⌜ (Whole (fontOf (now words) (now flags) (now unshifted) (now shifted))) × (2455 ≤ length (now out)) ⌝ }
+    ensures { λ _. ⌜ now (out .exit) ≡ fontFileOf (fontOf (now (words .entry)) (now (flags .entry)) (now (unshifted .entry)) (now (shifted .entry))) ++ drop 2455 (now (out .entry)) ⌝ }
+{
+    let head = [1, 0, 0, 9, 146];
+    put(&head, 0, out);
+    put_words(words, 5, out);
+    put(flags, 2309, out);
+    put(unshifted, 2437, out);
+    put(shifted, 2446, out);
+}
+
+// Writes a font as a font file. A refusal leaves out as it was.
+pub fn write_font(
+    words: &[u16],
+    flags: &[u8],
+    unshifted: &[u8],
+    shifted: &[u8],
+    out: &mut [u8],
+) -> refusal::Refusal
+    ensures { λ r. ⌜ (r ≡ fontWriteCheck (fontOf (now (words .entry)) (now (flags .entry)) (now (unshifted .entry)) (now (shifted .entry))) (length (now (out .entry))))
+        × (now (out .exit) ≡ fontWritten (fontOf (now (words .entry)) (now (flags .entry)) (now (unshifted .entry)) (now (shifted .entry))) (now (out .entry))) ⌝ }
+{
+    if shape::font_refused(words, flags, unshifted, shifted) | (out.len() < 2455) {
+        return refusal::Refusal::Size;
+    }
+    put_font(words, flags, unshifted, shifted, out);
+    refusal::Refusal::Done
 }

@@ -1,32 +1,31 @@
 use mathlib.Core.Path.{sym, _∙_}
 use native.Mathlib.Omega.{arith}
 use borrow.Author.Needs.{needs}
-use Rattle.shape.specs.Font.{Font, fontOf}
-use Rattle.feldrime.specs.Laws.{numbers-all, draw-refused, draw-taken}
+use Rattle.feldrime.specs.LineDraw.{lineDrawCheck, lineDrawn}
+use Rattle.feldrime.specs.Laws.{numbers-all, three, taken}
 use Rattle.feldrime.proofs.feldrime_line_draw.Statement.{statement}
 use Rattle.feldrime.proofs.feldrime_line_draw.Tie as tie
 
--- where the function begins, from the place where the numbers are known, and the font that it was lent
+-- where the function begins, from the place where the numbers are known
 abbrev begin : tie.After-numbers-refused → tie.Start
 begin c = c .before .before .before .before .before .before .before .before .before
 
-abbrev font : tie.After-numbers-refused → Font
-font c = fontOf (begin c .args .words .now) (begin c .args .flags .now) (begin c .args .unshifted .now) (begin c .args .shifted .now)
-
 returns : tie.Need-returns
+unfolding lineDrawCheck lineDrawn
 returns c =
     let then = c .before in
-    draw-refused _ _ _ (font (then .before)) _ _ _ _ (sym (then .before .numbers-refused .ensures) ∙ then .if1 .taken) (c .answered .ensures)
+    three _ _ _ _ _ (sym (then .before .numbers-refused .ensures) ∙ then .if1 .taken) (c .answered .ensures)
 
 board-at-requires : tie.Need-board-at-requires
 board-at-requires c κs = omega (arith, numbers-all (begin (c .before) .args .numbers .now) (sym (c .before .numbers-refused .ensures) ∙ c .if1 .left))
 
 returns-2 : tie.Need-returns-2
+unfolding lineDrawCheck lineDrawn
 returns-2 c =
     let draw = c .before .before .before in
     let made = draw .before .before in
     let left = made .before in
-    draw-taken _ _ _ (font (left .before)) _ _ _ _ (sym (left .before .numbers-refused .ensures) ∙ left .if1 .left) _ (made .board-at .ensures) _ _ (draw .draw-line .ensures) (c .answered2 .ensures)
+    taken _ _ _ _ _ (sym (left .before .numbers-refused .ensures) ∙ left .if1 .left) _ _ (rw (made .board-at .ensures) at (draw .draw-line .ensures)) (c .answered2 .ensures)
 
 pub feldrime-line-draw-spec : {M : Type 1} → statement M
 feldrime-line-draw-spec =

@@ -16,12 +16,12 @@ use Rattle.board.specs.declared.Board.{Board}
 use Rattle.fetch.specs.declared.Span.{Span}
 use Rattle.fetch.specs.Rows.{rowStart}
 use Rattle.fetch.specs.Run.{runCheck, runCount, span, spanOf}
-use Rattle.fetch.specs.Laws.{Run, run-passed, row-start-lt, span-fits}
+use Rattle.fetch.specs.Laws.{Run, run-passed, row-start-lt, span-small}
 use Rattle.fetch.proofs.span_of.Statement.{statement}
 use Rattle.fetch.proofs.span_of.Tie as tie
 
-fits : (b : Board) (chars : List ℕ) (row : ℕ) (s : Span) → s ≡ spanOf b chars row → s .start + s .count ≤ length chars
-fits b chars row s e = rw e (span-fits b chars row)
+fits : (b : Board) (chars : List ℕ) (row : ℕ) (s : Span) → s ≡ spanOf b chars row → (s .start + s .count ≤ 16384) × (s .start + s .count ≤ length chars)
+fits b chars row s e = rw e (span-small b chars row)
 
 shown : (b : Board) (chars : List ℕ) (row : ℕ) (x : Refusal) (a : Cell) (n : ℕ) → x ≡ runCheck b (length chars) row → doneOf (runCheck b (length chars) row) ≡ true
     → a ≡ cell (rowStart (b .page) chars row) → n ≡ runCount (b .page) (a .at) → span x (a .at) n ≡ spanOf b chars row
@@ -44,13 +44,13 @@ returns c =
     let then = c .before .before .before in
     let check = then .before .before .run-check .ensures in
     let same = shown _ _ _ _ _ _ check (checked check (then .before .is-done .ensures) (then .if1 .taken)) (c .before .before .row-start .ensures) (c .run-count .ensures) in
-    (same, fits _ _ _ _ same)
+    (same, fits _ _ _ _ same .0, fits _ _ _ _ same .1)
 
 returns-2 : tie.Need-returns-2
 unfolding spanOf
 returns-2 c =
     let check = c .before .before .run-check .ensures in
-    (pass _ (checked check (c .before .is-done .ensures) (c .if1 .left)) (rw check), omega arith)
+    (pass _ (checked check (c .before .is-done .ensures) (c .if1 .left)) (rw check), omega arith, omega arith)
 
 pub span-of-spec : {M : Type 1} → statement M
 span-of-spec =

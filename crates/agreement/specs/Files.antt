@@ -1,0 +1,166 @@
+-- Promise 2: a page file accepted and written again is the same bytes, from Rattle and from C; likewise a font; and a board written and read again is that page at clock 0.
+-- All of it speaks of the public calls that read and write. A file is a list of bytes. Assumes nothing.
+use Prim.Native.Nat.{ℕ, _+_, _*_, _≤_}
+use mathlib.Core.Path.{_≡_, refl, sym, _∙_}
+use mathlib.Core.Bool.{Bool, false, _||_, not}
+use mathlib.Core.List.{List, _++_}
+use native.Mathlib.Omega.{arith}
+use borrow.Author.Tests.{eqb-true, le-ltb, not-false}
+use lib.Dec.{eqb, ltb}
+use lib.ListN.{length, getD, take, drop, replicate, length-append}
+use lib.Seq.{take-all, take-at, drop-at, drop-drop}
+use Rattle.lists.specs.Choice.{neither}
+use Rattle.lists.specs.Tab.{length-tab}
+use Rattle.refusal.specs.declared.Refusal.the-variants.{Done, Size}
+use Rattle.refusal.specs.Laws.{not-refused, passed}
+use Rattle.board.specs.declared.Page.{Page}
+use Rattle.board.specs.declared.Board.{Board}
+use Rattle.board.specs.State.{clockZero}
+use Rattle.timing.specs.Check.{pageCheck, stateRefused, callCheck}
+use Rattle.shape.specs.Font.{Font, fontRefused}
+use Rattle.files.specs.Page.{wordAt, pageAt}
+use Rattle.files.specs.File.{longAt, versionRefused, lengthRefused, fileCheck, memoriesRefused, readCheck, pageRead, readOf, charsRead, attrsRead, headOf, fileOf, writeCheck, written}
+use Rattle.files.specs.FontFile.{fontCheck, fontIn, fontRead, fontWriteCheck, fontWritten}
+use Rattle.files.specs.Laws.{sized, length-part, FilePassed, file-passed, head-all, write-passed}
+use Rattle.files.specs.Round.{Bytes, page-again, page-kept}
+use Rattle.files.specs.FontRound.{font-again}
+use Rattle.feldrime.specs.Numbers.{numbersRefused, numbersIn}
+use Rattle.feldrime.specs.Pages.{pageReadSize, numbersRead, pageWriteCheck, pageWritten}
+use Rattle.feldrime.specs.Laws.{numbers-page}
+use Rattle.agreement.specs.Steps.{range-ok, call-ok}
+
+-- an accepted file's version and length
+version-is : (file : List ℕ) → versionRefused file ≡ false → getD file 0 0 ≡ 1
+version-is file e = eqb-true _ _ (not-false _ e)
+
+length-is : (file : List ℕ) (n : ℕ) → lengthRefused file n ≡ false → longAt file 1 ≡ n
+unfolding lengthRefused
+length-is file n e = eqb-true _ _ (not-false _ (neither (not (eqb (length file) (n + 5))) (not (eqb (longAt file 1) n)) e .1))
+
+-- a page at clock 0
+abbrev pub atZero : Page → Board
+atZero p = record { page = p; place = clockZero; pointer = 0; resets = 2 }
+
+zero-ok : (p : Page) → stateRefused (atZero p) ≡ false
+zero-ok p = range-ok (atZero p) (record { line-lt = omega arith; clock-lt = omega arith; now-le = omega arith; kept-le = omega arith; pointer-le = omega arith })
+
+write-ok : (p : Page) (n : ℕ) → pageCheck p ≡ Done → 32797 ≤ n → writeCheck (atZero p) 16384 16384 n ≡ Done
+unfolding writeCheck
+write-ok p n ok l = call-ok (atZero p) (ltb n 32797) (le-ltb n 32797 l) ok (zero-ok p)
+
+-- ---- a page file, read and written again
+
+module _ (file : List ℕ) (bytes : Bytes file) (size : Bool) (ok : readCheck file size ≡ Done) where
+  file-ok : FilePassed file 32792 size (pageCheck (pageAt file 5))
+  unfolding readCheck
+  file-ok = file-passed file 32792 size (pageCheck (pageAt file 5)) ok
+
+  whole : length file ≡ 32797
+  whole = sized file 32792 (file-ok .length-ok)
+
+  same-bytes : fileOf (pageAt file 5) (take 16384 (drop 29 file)) (take 16384 (drop 16413 file)) ≡ file
+  same-bytes = page-again file bytes whole (version-is file (file-ok .version-ok)) (length-is file 32792 (file-ok .length-ok))
+
+  again : (chars attrs out : List ℕ) → 32797 ≤ length out
+      → (writeCheck (atZero (pageAt file 5)) (length (charsRead file size chars)) (length (attrsRead file size attrs)) (length out) ≡ Done)
+      × (written (atZero (pageAt file 5)) (charsRead file size chars) (attrsRead file size attrs) out ≡ file ++ drop 32797 out)
+  unfolding charsRead attrsRead written
+  again chars attrs out l = rw (ok, length-part file 29 16384 (omega (arith, whole)), length-part file 16413 16384 (omega (arith, whole)), fine) (refl, rw same-bytes)
+    where
+      fine : writeCheck (atZero (pageAt file 5)) 16384 16384 (length out) ≡ Done
+      fine = write-ok (pageAt file 5) (length out) (file-ok .rest-ok) l
+
+  -- the write answers 0, and out begins with the file
+  pub page-same : (chars attrs out : List ℕ) → 32797 ≤ length out
+      → (writeCheck (readOf file size .board) (length (charsRead file size chars)) (length (attrsRead file size attrs)) (length out) ≡ Done)
+      × (written (readOf file size .board) (charsRead file size chars) (attrsRead file size attrs) out ≡ file ++ drop 32797 out)
+  unfolding readOf
+  page-same chars attrs out l = rw ok (again chars attrs out l)
+
+-- ---- the same from C
+
+module _ (file : List ℕ) (bytes : Bytes file) (n c a : ℕ) (ok : readCheck file (pageReadSize n c a) ≡ Done) where
+  -- a page's numbers are refused by nothing, and are the file's page
+  numbers-fine : numbersRefused (numbersIn file) ≡ false
+  unfolding numbersRefused
+  numbers-fine = rw (length-append (take 24 (drop 5 file)) (replicate 7 0), length-part file 5 24 (omega (arith, whole file bytes (pageReadSize n c a) ok)))
+
+  -- the write answers 0, and out begins with the file
+  pub page-same-from-c : (numbers chars attrs out : List ℕ) → 32797 ≤ length out
+      → (pageWriteCheck (numbersRead file (pageReadSize n c a) numbers) (length (charsRead file (pageReadSize n c a) chars)) (length (attrsRead file (pageReadSize n c a) attrs)) (length out) ≡ Done)
+      × (pageWritten (numbersRead file (pageReadSize n c a) numbers) (charsRead file (pageReadSize n c a) chars) (attrsRead file (pageReadSize n c a) attrs) out ≡ file ++ drop 32797 out)
+  unfolding numbersRead pageWriteCheck pageWritten
+  page-same-from-c numbers chars attrs out l = rw (ok, numbers-fine, numbers-page file (omega (arith, whole file bytes (pageReadSize n c a) ok))) (again file bytes (pageReadSize n c a) ok chars attrs out l)
+
+-- ---- a board, written and read again
+
+file-all : (p : Page) (chars attrs : List ℕ) → length (p .irs) ≡ 15 → length chars ≡ 16384 → length attrs ≡ 16384 → length (fileOf p chars attrs) ≡ 32797
+unfolding fileOf
+file-all p chars attrs n c a = length-append (headOf p) (chars ++ attrs) ∙ rw (head-all p n, length-append chars attrs, c, a)
+
+-- a board has fifteen IRs
+module _ (b : Board) (irs-all : length (b .page .irs) ≡ 15) (chars attrs out : List ℕ) (ok : writeCheck b (length chars) (length attrs) (length out) ≡ Done) where
+  memories : (length chars ≡ 16384) × (length attrs ≡ 16384)
+  memories = (write-passed b (length chars) (length attrs) (length out) ok .1, write-passed b (length chars) (length attrs) (length out) ok .2)
+
+  page-ok : pageCheck (b .page) ≡ Done
+  unfolding writeCheck callCheck
+  page-ok = not-refused (pageCheck (b .page)) _ (passed (memoriesRefused (length chars) (length attrs) || ltb (length out) 32797) Size _ refl ok .1) .0
+
+  file-is : take 32797 (written b chars attrs out) ≡ fileOf (b .page) chars attrs
+  unfolding written
+  file-is = rw ok (take-at (fileOf (b .page) chars attrs) (drop 32797 out) 32797 (file-all (b .page) chars attrs irs-all (memories .0) (memories .1)))
+
+  page-is : pageAt (fileOf (b .page) chars attrs) 5 ≡ b .page
+  unfolding fileOf
+  page-is = page-kept (b .page) (chars ++ attrs) irs-all
+
+  version : versionRefused (fileOf (b .page) chars attrs) ≡ false
+  unfolding fileOf headOf
+  version = refl
+
+  long : longAt (fileOf (b .page) chars attrs) 1 ≡ 32792
+  unfolding fileOf headOf longAt wordAt
+  long = refl
+
+  read-ok : readCheck (fileOf (b .page) chars attrs) false ≡ Done
+  unfolding readCheck fileCheck lengthRefused
+  read-ok = rw (version, file-all (b .page) chars attrs irs-all (memories .0) (memories .1), long, page-is) page-ok
+
+  chars-are : take 16384 (drop 29 (fileOf (b .page) chars attrs)) ≡ chars
+  unfolding fileOf
+  chars-are = rw (drop-at (headOf (b .page)) (chars ++ attrs) 29 (head-all (b .page) irs-all)) (take-at chars attrs 16384 (memories .0))
+
+  attrs-are : take 16384 (drop 16413 (fileOf (b .page) chars attrs)) ≡ attrs
+  unfolding fileOf
+  attrs-are =
+      rw (sym (drop-drop 16384 29 (headOf (b .page) ++ (chars ++ attrs))), drop-at (headOf (b .page)) (chars ++ attrs) 29 (head-all (b .page) irs-all), drop-at chars attrs 16384 (memories .0))
+      (take-all 16384 attrs (omega (arith, memories .1)))
+
+  -- the file is read as that page at clock 0, and its memories are those that were written
+  pub board-same : (c a file : List ℕ) → file ≡ take 32797 (written b chars attrs out)
+      → (readOf file false ≡ pageRead Done (atZero (b .page))) × (charsRead file false c ≡ chars) × (attrsRead file false a ≡ attrs)
+  unfolding readOf charsRead attrsRead
+  board-same c a file e = rw (e ∙ file-is, read-ok) (rw page-is, chars-are, attrs-are)
+
+-- ---- a font file, read and written again
+
+module _ (file : List ℕ) (bytes : Bytes file) (f : Font) (ok : fontCheck file (fontRefused f) ≡ Done) where
+  font-ok : FilePassed file 2450 (fontRefused f) Done
+  font-ok = file-passed file 2450 (fontRefused f) Done ok
+
+  font-file : length file ≡ 2455
+  font-file = sized file 2450 (font-ok .length-ok)
+
+  parts-fine : fontRefused (fontIn file) ≡ false
+  unfolding fontIn
+  parts-fine =
+      rw
+      (length-tab 1152 (λ (i : ℕ). wordAt (take 2304 (drop 5 file)) (2 * i)), length-part file 2309 128 (omega (arith, font-file)), length-part file 2437 9 (omega (arith, font-file)), length-part file 2446 9 (omega (arith, font-file)))
+
+  -- the write answers 0, and out begins with the file
+  pub font-same : (out : List ℕ) → 2455 ≤ length out → (fontWriteCheck (fontRead file f) (length out) ≡ Done) × (fontWritten (fontRead file f) out ≡ file ++ drop 2455 out)
+  unfolding fontRead fontWriteCheck fontWritten
+  font-same out l =
+      rw (ok, parts-fine, le-ltb (length out) 2455 l)
+      (refl, rw (font-again file bytes font-file (version-is file (font-ok .version-ok)) (length-is file 2450 (font-ok .length-ok))))

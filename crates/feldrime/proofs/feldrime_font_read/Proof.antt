@@ -1,0 +1,22 @@
+use mathlib.Core.Path.{ap, _∙_}
+use borrow.Author.Needs.{needs}
+use Rattle.feldrime.specs.Answers.{answerOf}
+use Rattle.feldrime.proofs.feldrime_font_read.Statement.{statement}
+use Rattle.feldrime.proofs.feldrime_font_read.Tie as tie
+
+returns : tie.Need-returns
+returns c =
+    let read = c .before .before .before .before .before .before .before .before .before .read-font .ensures in
+    (c .answered .ensures ∙ ap answerOf (read .0), read .1)
+
+pub feldrime-font-read-spec : {M : Type 1} → statement M
+feldrime-font-read-spec =
+    tie.close
+    (tie.spec
+    (λ c κs. search needs)
+    (λ c κs. search needs)
+    (λ c. search needs)
+    (λ c. search needs)
+    (λ c. search needs)
+    (λ c. search needs)
+    returns)

@@ -1,0 +1,32 @@
+use mathlib.Core.Path.{refl, sym, _∙_}
+use native.Mathlib.Omega.{arith}
+use borrow.Author.Needs.{needs}
+use Rattle.lists.specs.Choice.{stop, pass}
+use Rattle.feldrime.specs.Pages.{sizeFor}
+use Rattle.feldrime.specs.Laws.{numbers-all}
+use Rattle.feldrime.proofs.feldrime_page_size.Statement.{statement}
+use Rattle.feldrime.proofs.feldrime_page_size.Tie as tie
+
+returns : tie.Need-returns
+unfolding sizeFor
+returns c = stop _ (sym (c .before .numbers-refused .ensures) ∙ c .if1 .taken) refl
+
+page-at-requires : tie.Need-page-at-requires
+page-at-requires c κs = omega (arith, numbers-all (c .before .before .before .args .numbers .now) (sym (c .before .numbers-refused .ensures) ∙ c .if1 .left))
+
+returns-2 : tie.Need-returns-2
+unfolding sizeFor
+returns-2 c =
+    let left = c .before .before .before in
+    pass _ (sym (left .before .numbers-refused .ensures) ∙ left .if1 .left) cc
+
+pub feldrime-page-size-spec : {M : Type 1} → statement M
+feldrime-page-size-spec =
+    tie.close
+    (tie.spec
+    (λ c κs. search needs)
+    returns
+    page-at-requires
+    (λ c κs. search needs)
+    (λ c κs. search needs)
+    returns-2)

@@ -1,0 +1,34 @@
+use mathlib.Core.Path.{refl, sym, _∙_}
+use native.Mathlib.Omega.{arith}
+use borrow.Author.Needs.{needs}
+use Rattle.lists.specs.Choice.{stop, pass}
+use Rattle.feldrime.specs.Pages.{runFor}
+use Rattle.feldrime.specs.Laws.{numbers-all}
+use Rattle.feldrime.proofs.feldrime_row_run.Statement.{statement}
+use Rattle.feldrime.proofs.feldrime_row_run.Tie as tie
+
+returns : tie.Need-returns
+unfolding runFor
+returns c = stop _ (sym (c .before .numbers-refused .ensures) ∙ c .if1 .taken) refl
+
+board-at-requires : tie.Need-board-at-requires
+board-at-requires c κs = omega (arith, numbers-all (c .before .before .before .before .args .numbers .now) (sym (c .before .numbers-refused .ensures) ∙ c .if1 .left))
+
+returns-2 : tie.Need-returns-2
+unfolding runFor
+returns-2 c =
+    let left = c .before .before .before .before .before in
+    pass _ (sym (left .before .numbers-refused .ensures) ∙ left .if1 .left) cc
+
+pub feldrime-row-run-spec : {M : Type 1} → statement M
+feldrime-row-run-spec =
+    tie.close
+    (tie.spec
+    (λ c κs. search needs)
+    returns
+    board-at-requires
+    (λ c κs. search needs)
+    (λ c κs. search needs)
+    (λ c. search needs)
+    (λ c. search needs)
+    returns-2)

@@ -1,0 +1,11 @@
+use borrow.Author.Needs.{needs}
+use Rattle.files.specs.File.{writeCheck}
+use Rattle.files.proofs.write_check.Statement.{statement}
+use Rattle.files.proofs.write_check.Tie as tie
+
+returns : tie.Need-returns
+unfolding writeCheck
+returns c = c .call-check .ensures
+
+pub write-check-spec : {M : Type 1} → statement M
+write-check-spec = tie.close (tie.spec (λ c κs. search needs) returns)

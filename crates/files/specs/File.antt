@@ -1,0 +1,83 @@
+-- 01, "Files": the page file. A file is exactly its size.
+use Prim.Native.Nat.{ℕ, _+_, _*_, _/_, _%_}
+use mathlib.Core.Bool.{Bool, false, _||_, not}
+use mathlib.Core.List.{List, [], _∷_, _++_}
+use lib.ListN.{length, getD, take, drop}
+use lib.Dec.{eqb, ltb}
+use Rattle.lists.specs.Choice.{pick, firstOf}
+use Rattle.refusal.specs.declared.Refusal.{Refusal}
+use Rattle.refusal.specs.declared.Refusal.the-variants.{Version, Length, Size}
+use Rattle.refusal.specs.Number.{doneOf}
+use Rattle.board.specs.declared.Page.{Page}
+use Rattle.board.specs.declared.Board.{Board}
+use Rattle.board.specs.State.{powerOf}
+use Rattle.timing.specs.Check.{pageCheck, callCheck}
+use Rattle.files.specs.declared.PageRead.{PageRead}
+use Rattle.files.specs.Page.{wordAt, pageAt, boardAt}
+
+-- four bytes big-endian
+unfoldable pub longAt : List ℕ → ℕ → ℕ
+longAt bytes i = wordAt bytes i * 65536 + wordAt bytes (i + 2)
+
+-- 1: version byte missing or not 1
+abbrev pub versionRefused : List ℕ → Bool
+versionRefused file = not (eqb (getD file 0 0) 1)
+
+-- 2: length field or bytes present wrong, where n bytes follow the length
+unfoldable pub lengthRefused : List ℕ → ℕ → Bool
+lengthRefused file n = not (eqb (length file) (n + 5)) || not (eqb (longAt file 1) n)
+
+-- 1, 2, 3 in this order, then the rest; n bytes follow the length, and size says that a lent part has a wrong size
+unfoldable pub fileCheck : List ℕ → (n : ℕ) → (size : Bool) → Refusal → Refusal
+fileCheck file n size rest = firstOf ((versionRefused file, Version) ∷ (lengthRefused file n, Length) ∷ (size, Size) ∷ []) rest
+
+-- 3: a memory of wrong size
+abbrev pub memoriesRefused : (chars attrs : ℕ) → Bool
+memoriesRefused chars attrs = not (eqb chars 16384) || not (eqb attrs 16384)
+
+-- 1, 2, 3, then the page's own 12, 4, 5, 6
+unfoldable pub readCheck : List ℕ → (size : Bool) → Refusal
+readCheck file size = fileCheck file 32792 size (pageCheck (pageAt file 5))
+
+abbrev pub pageRead : Refusal → Board → PageRead
+pageRead r b = record { refusal = r; board = b }
+
+-- a refused read gives the board that power gives
+unfoldable pub readOf : List ℕ → (size : Bool) → PageRead
+readOf file size = pageRead (readCheck file size) (pick (doneOf (readCheck file size)) (boardAt file 5) powerOf)
+
+-- the memories afterwards: those of the file, and on a refusal as they were
+unfoldable pub charsRead : List ℕ → (size : Bool) → List ℕ → List ℕ
+charsRead file size chars = pick (doneOf (readCheck file size)) (take 16384 (drop 29 file)) chars
+
+unfoldable pub attrsRead : List ℕ → (size : Bool) → List ℕ → List ℕ
+attrsRead file size attrs = pick (doneOf (readCheck file size)) (take 16384 (drop 16413 file)) attrs
+
+-- ---- writing
+
+-- two bytes big-endian
+abbrev pub bytesOf : ℕ → List ℕ
+bytesOf x = (x / 256) ∷ (x % 256) ∷ []
+
+-- what stands before the memories: version 1, the length 32,792 in four bytes, and the page's numbers
+unfoldable pub headOf : Page → List ℕ
+headOf p =
+    (1 ∷ 0 ∷ 0 ∷ 128 ∷ 24 ∷ [])
+    ++ (p .irs
+    ++ (bytesOf (p .starts .start1)
+    ++ (bytesOf (p .starts .cursor)
+    ++ (bytesOf (p .starts .start2)
+    ++ (p .switches ∷ p .video .dots .0 ∷ p .video .strike ∷ [])))))
+
+-- a page's file
+unfoldable pub fileOf : Page → (chars attrs : List ℕ) → List ℕ
+fileOf p chars attrs = headOf p ++ (chars ++ attrs)
+
+-- 3, the page's own 12, 4, 5, 6, then 7 for the state
+unfoldable pub writeCheck : Board → (chars attrs out : ℕ) → Refusal
+writeCheck b chars attrs out = callCheck b (memoriesRefused chars attrs || ltb out 32797) false false
+
+-- the buffer afterwards: the file, and what stood beyond it; on a refusal as it was
+unfoldable pub written : Board → (chars attrs out : List ℕ) → List ℕ
+written b chars attrs out =
+    pick (doneOf (writeCheck b (length chars) (length attrs) (length out))) (fileOf (b .page) chars attrs ++ drop 32797 out) out

@@ -1,0 +1,166 @@
+-- What the proofs of the file calls use. Assumes nothing.
+use Prim.Native.Nat.{ℕ, _+_, _/_, _%_, _≤_}
+use mathlib.Core.Path.{_≡_, refl, sym, _∙_}
+use mathlib.Core.Bool.{Bool, true, false, _||_, not, true≢false}
+use mathlib.Core.List.{List, [], _∷_, _++_, append-nil, append-assoc}
+use native.Mathlib.Omega.{arith}
+use borrow.Author.Tests.{eqb-true, ltb-false, not-false}
+use lib.Dec.{eqb, ltb}
+use lib.ListN.{length, getD, take, drop, length-drop, length-append}
+use lib.Seq.{take-length, drop-length, length-take-le, ext-getD}
+use Rattle.lists.specs.Choice.{firstOf, neither}
+use Rattle.lists.specs.Tab.{tab, length-tab, getD-tab}
+use Rattle.refusal.specs.declared.Refusal.{Refusal}
+use Rattle.refusal.specs.declared.Refusal.the-variants.{Done, Version, Length, Size}
+use Rattle.refusal.specs.Number.{doneOf}
+use Rattle.refusal.specs.Laws.{done-is, passed}
+use Rattle.board.specs.declared.Page.{Page}
+use Rattle.board.specs.declared.Board.{Board}
+use Rattle.board.specs.State.{powerOf}
+use Rattle.timing.specs.Check.{pageCheck}
+use Rattle.timing.specs.Laws.{call-passed}
+use Rattle.files.specs.Page.{pageAt, boardAt}
+use Rattle.files.specs.Put.{putAt, laid-none, put-on}
+use Rattle.files.specs.File.{longAt, versionRefused, lengthRefused, fileCheck, memoriesRefused, readCheck, pageRead, readOf, charsRead, attrsRead, bytesOf, headOf, fileOf, writeCheck, written}
+
+-- a copy of all of s over a list of its length
+pub whole : (s d x : List ℕ) → length s ≡ length d → x ≡ take (length s) s ++ drop (length s) d → x ≡ s
+whole s d x l e = e ∙ rw (take-length s, l, drop-length d) (append-nil s)
+
+-- an empty file has no version
+pub no-version : (file : List ℕ) → length file ≡ 0 → true ≡ versionRefused file
+no-version [] e = refl
+no-version (x ∷ file) e = absurd (omega arith)
+
+-- a file of the right length
+pub sized : (file : List ℕ) (n : ℕ) → lengthRefused file n ≡ false → length file ≡ n + 5
+unfolding lengthRefused
+sized file n e = eqb-true _ _ (not-false _ (neither (not (eqb (length file) (n + 5))) (not (eqb (longAt file 1) n)) e .0))
+
+pub length-part : (xs : List ℕ) (a n : ℕ) → a + n ≤ length xs → length (take n (drop a xs)) ≡ n
+length-part xs a n l = length-take-le n (drop a xs) (rw (length-drop a xs) (omega arith))
+
+-- a file that 1, 2 and 3 pass
+pub record FilePassed (file : List ℕ) (n : ℕ) (size : Bool) (rest : Refusal) : Type 0 where
+  pub version-ok : versionRefused file ≡ false
+  pub length-ok : lengthRefused file n ≡ false
+  pub size-ok : size ≡ false
+  pub rest-ok : rest ≡ Done
+
+pub file-passed : (file : List ℕ) (n : ℕ) (size : Bool) (rest : Refusal) → fileCheck file n size rest ≡ Done → FilePassed file n size rest
+unfolding fileCheck
+file-passed file n size rest e =
+    let v = passed (versionRefused file) Version _ refl e in
+    let l = passed (lengthRefused file n) Length _ refl (v .1) in
+    let s = passed size Size _ refl (l .1) in
+    record { version-ok = v .0; length-ok = l .0; size-ok = s .0; rest-ok = s .1 }
+
+-- the rest counts where 1, 2 and 3 pass, and only there
+module _ (file : List ℕ) (n : ℕ) (size : Bool) (rest : Refusal) where
+  pub file-rest : doneOf (fileCheck file n size Done) ≡ true → rest ≡ fileCheck file n size rest
+  unfolding fileCheck
+  file-rest e =
+      let p = file-passed file n size Done (done-is _ e) in
+      rw (p .version-ok, p .length-ok, p .size-ok)
+
+  pub file-first : doneOf (fileCheck file n size Done) ≡ false → fileCheck file n size Done ≡ fileCheck file n size rest
+  unfolding fileCheck
+  file-first = go (versionRefused file) (lengthRefused file n) size
+    where
+      order : (v l s : Bool) → Refusal → Refusal
+      order v l s last = firstOf ((v, Version) ∷ (l, Length) ∷ (s, Size) ∷ []) last
+
+      go : (v l s : Bool) → doneOf (order v l s Done) ≡ false → order v l s Done ≡ order v l s rest
+      go true l s q = refl
+      go false true s q = refl
+      go false false true q = refl
+      go false false false q = absurd (true≢false q)
+
+pub memories-all : (chars attrs : ℕ) → memoriesRefused chars attrs ≡ false → (chars ≡ 16384) × (attrs ≡ 16384)
+memories-all chars attrs e =
+    let n = neither (not (eqb chars 16384)) (not (eqb attrs 16384)) e in
+    (eqb-true _ _ (not-false _ (n .0)), eqb-true _ _ (not-false _ (n .1)))
+
+-- a page file that nothing refuses, and the memories that it goes to
+pub record Taken (file : List ℕ) (chars attrs : ℕ) : Type 0 where
+  pub file-all : length file ≡ 32797
+  pub chars-all : chars ≡ 16384
+  pub attrs-all : attrs ≡ 16384
+
+pub read-passed : (file : List ℕ) (chars attrs : ℕ) → readCheck file (memoriesRefused chars attrs) ≡ Done → Taken file chars attrs
+unfolding readCheck
+read-passed file chars attrs e =
+    let p = file-passed file 32792 (memoriesRefused chars attrs) (pageCheck (pageAt file 5)) e in
+    let m = memories-all chars attrs (p .size-ok) in
+    record { file-all = sized file 32792 (p .length-ok); chars-all = m .0; attrs-all = m .1 }
+
+-- what a read gives and leaves
+module _ (file : List ℕ) (size : Bool) (chars attrs : List ℕ) (x : Refusal) (e : x ≡ readCheck file size) where
+  pub read-done : doneOf (readCheck file size) ≡ true → (b : Board) → b ≡ boardAt file 5 → (c a : List ℕ)
+      → c ≡ take 16384 (drop 29 file) → a ≡ take 16384 (drop 16413 file)
+      → (pageRead x b ≡ readOf file size) × (c ≡ charsRead file size chars) × (a ≡ attrsRead file size attrs)
+  unfolding readOf charsRead attrsRead
+  read-done t b eb c a ec ea = (rw (t, e, eb), rw t ec, rw t ea)
+
+  pub read-refused : doneOf (readCheck file size) ≡ false → (b : Board) → b ≡ powerOf
+      → (pageRead x b ≡ readOf file size) × (chars ≡ charsRead file size chars) × (attrs ≡ attrsRead file size attrs)
+  unfolding readOf charsRead attrsRead
+  read-refused t b eb = (rw (t, e, eb), rw t, rw t)
+
+tab-all : (xs : List ℕ) (n : ℕ) → length xs ≡ n → tab n (λ i. getD xs i 0) ≡ xs
+tab-all xs n e = ext-getD 0 (tab n f) xs (length-tab n f ∙ sym e) (λ i h. getD-tab n f i (rw (length-tab n f) at h))
+  where
+    f : ℕ → ℕ
+    f i = getD xs i 0
+
+-- what stands before the memories, byte by byte
+pub head-is : (p : Page) → length (p .irs) ≡ 15 → (h₁ l₁ h₂ l₂ h₃ l₃ : ℕ)
+    → h₁ ≡ p .starts .start1 / 256 → l₁ ≡ p .starts .start1 % 256
+    → h₂ ≡ p .starts .cursor / 256 → l₂ ≡ p .starts .cursor % 256
+    → h₃ ≡ p .starts .start2 / 256 → l₃ ≡ p .starts .start2 % 256
+    → (1 ∷ 0 ∷ 0 ∷ 128 ∷ 24 ∷ [])
+    ++ (tab 15 (λ i. getD (p .irs) i 0)
+    ++ (h₁ ∷ l₁ ∷ h₂ ∷ l₂ ∷ h₃ ∷ l₃ ∷ p .switches ∷ p .video .dots .0 ∷ p .video .strike ∷ []))
+    ≡ headOf p
+unfolding headOf
+head-is p n h₁ l₁ h₂ l₂ h₃ l₃ a b c d e f = rw (tab-all (p .irs) 15 n, a, b, c, d, e, f)
+
+pub head-all : (p : Page) → length (p .irs) ≡ 15 → length (headOf p) ≡ 29
+unfolding headOf
+head-all p n =
+    let all : length (p .irs ++ numbers) ≡ 24 = length-append (p .irs) numbers ∙ rw n in
+    length-append (1 ∷ 0 ∷ 0 ∷ 128 ∷ 24 ∷ []) (p .irs ++ numbers) ∙ rw all
+  where
+    numbers : List ℕ
+    numbers = bytesOf (p .starts .start1) ++ (bytesOf (p .starts .cursor) ++ (bytesOf (p .starts .start2) ++ (p .switches ∷ p .video .dots .0 ∷ p .video .strike ∷ [])))
+
+-- a page file put into a buffer part by part
+pub page-put : (p : Page) → length (p .irs) ≡ 15 → (chars attrs out : List ℕ) → length chars ≡ 16384 → length attrs ≡ 16384
+    → {head one two three : List ℕ} → head ≡ headOf p → one ≡ putAt 0 head out → two ≡ putAt 29 chars one → three ≡ putAt 16413 attrs two
+    → three ≡ fileOf p chars attrs ++ drop 32797 out
+unfolding fileOf
+page-put p n chars attrs out nc na h e₁ e₂ e₃ =
+    let l₁ = put-on [] (headOf p) out 0 29 (laid-none out) (head-all p n) (rw h at e₁) in
+    let l₂ = put-on (headOf p) chars out 29 16384 l₁ nc e₂ in
+    put-on (headOf p ++ chars) attrs out 16413 16384 l₂ na e₃ .1 ∙ rw (append-assoc (headOf p) chars attrs)
+
+-- a write that nothing refuses
+pub write-passed : (b : Board) (chars attrs out : ℕ) → writeCheck b chars attrs out ≡ Done
+    → (b .page .video .dots .0 ≤ 12) × (chars ≡ 16384) × (attrs ≡ 16384) × (32797 ≤ out)
+unfolding writeCheck
+write-passed b chars attrs out e =
+    let q = call-passed b (memoriesRefused chars attrs || ltb out 32797) false false e in
+    let s = neither (memoriesRefused chars attrs) (ltb out 32797) (q .sized) in
+    let m = memories-all chars attrs (s .0) in
+    (q .page .most, m .0, m .1, ltb-false _ _ (s .1))
+
+-- what a write leaves
+module _ (b : Board) (chars attrs out₀ : List ℕ) where
+  pub write-done : doneOf (writeCheck b (length chars) (length attrs) (length out₀)) ≡ true
+      → (out : List ℕ) → out ≡ fileOf (b .page) chars attrs ++ drop 32797 out₀ → out ≡ written b chars attrs out₀
+  unfolding written
+  write-done t out e = rw t e
+
+  pub write-refused : doneOf (writeCheck b (length chars) (length attrs) (length out₀)) ≡ false → out₀ ≡ written b chars attrs out₀
+  unfolding written
+  write-refused t = rw t

@@ -1,0 +1,39 @@
+-- Parts put into a buffer one after the other. Assumes nothing.
+--     putAt          a part put at a place
+--     put-back       a lent stretch that came back is such a part
+--     Laid           what stands at the front so far
+--     put-on         one part more, behind it
+use Prim.Native.Nat.{ℕ, _+_, _-_}
+use mathlib.Core.Path.{_≡_, refl, sym, _∙_}
+use mathlib.Core.List.{List, [], _++_, append-assoc}
+use native.Mathlib.Omega.{arith}
+use lib.ListN.{length, take, drop, length-append}
+use lib.Seq.{take-at, drop-at, drop-drop}
+
+-- all of part over what stands from a place on; the rest stays
+abbrev pub putAt : (at : ℕ) (part out : List ℕ) → List ℕ
+putAt at part out = take at out ++ (part ++ drop (at + length part) out)
+
+pub put-back : (at k : ℕ) (part out : List ℕ) {ys : List ℕ} → ys ≡ part → length part ≡ k → take at out ++ (ys ++ drop (at + k - at) (drop at out)) ≡ putAt at part out
+put-back at k part out e n =
+    let j : at + (at + k - at) ≡ at + length part = omega (arith, n) in
+    rw (e, drop-drop (at + k - at) at out, j)
+
+-- a buffer that begins with n bytes of front and beyond them is as it was
+abbrev pub Laid : (front : List ℕ) (n : ℕ) (out₀ out : List ℕ) → Type 0
+Laid front n out₀ out = (length front ≡ n) × (out ≡ front ++ drop n out₀)
+
+pub laid-none : (out : List ℕ) → Laid [] 0 out out
+laid-none out = (refl, refl)
+
+pub put-on : (front part out₀ : List ℕ) (at k : ℕ) {out out′ : List ℕ} → Laid front at out₀ out → length part ≡ k → out′ ≡ putAt at part out → Laid (front ++ part) (at + k) out₀ out′
+put-on front part out₀ at k l n e = (length-append front part ∙ rw (l .0, n), e ∙ rw (l .1, n, rest) body)
+  where
+    d : List ℕ
+    d = drop at out₀
+
+    rest : drop (at + k) (front ++ d) ≡ drop (at + k) out₀
+    rest = sym (drop-drop k at (front ++ d)) ∙ rw (drop-at front d at (l .0)) (drop-drop k at out₀)
+
+    body : take at (front ++ d) ++ (part ++ drop (at + k) out₀) ≡ (front ++ part) ++ drop (at + k) out₀
+    body = rw (take-at front d at (l .0)) (sym (append-assoc front part (drop (at + k) out₀)))

@@ -1,0 +1,34 @@
+-- The listing of an accepted page file, line by line, fits 3,073 bytes: nothing that the listing program calls for is refused. Assumes nothing.
+use Prim.Native.Nat.{ℕ, _+_, _*_, _≤_, _<_}
+use mathlib.Core.Path.{_≡_}
+use mathlib.Core.Bool.{false}
+use mathlib.Core.List.{List}
+use native.Mathlib.Omega.{arith}
+use borrow.Author.Tests.{lt-leb, le-ltb}
+use lib.ListN.{length, length-append}
+use Rattle.refusal.specs.declared.Refusal.the-variants.{Done}
+use Rattle.board.specs.declared.Page.{Page}
+use Rattle.timing.specs.Fields.{rowsOf, linesOf, hactOf, htOf, vtOf, visibleOf}
+use Rattle.timing.specs.Check.{pageCheck, sizeOf, stateRefused, callCheck}
+use Rattle.timing.specs.Laws.{accepted, visible-bound, dots-bound}
+use Rattle.files.specs.Page.{pageAt, boardAt}
+use Rattle.line.specs.Line.{lineLength}
+use Rattle.listing_lines.specs.Decimal.{decimal, length-decimal}
+use Rattle.listing_lines.specs.Listing.{listingHead, headCheck, lineCheck}
+use Rattle.listing_lines.specs.Head.{head-fits}
+
+pub head-answers : (p : Page) → pageCheck p ≡ Done → headCheck p 3073 ≡ Done
+unfolding listingHead sizeOf
+head-answers p e =
+    let lines = rowsOf (p .irs) * linesOf (p .irs) in
+    let dots = hactOf (p .irs) * p .video .dots .0 in
+    let l : length (decimal lines) ≤ 4 = length-decimal 3 lines (omega (arith, visible-bound (p .irs))) in
+    let d : length (decimal dots) ≤ 4 = length-decimal 3 dots (omega (arith, dots-bound p (accepted p e))) in
+    head-fits p 3073 e (rw e (simp length-append (omega arith)))
+
+pub line-answers : (file : List ℕ) → pageCheck (pageAt file 5) ≡ Done → (line : ℕ) → line < visibleOf (pageAt file 5 .irs) .0 → lineCheck (boardAt file 5) false line 3073 ≡ Done
+unfolding lineCheck callCheck stateRefused
+line-answers file e line h =
+    let p = pageAt file 5 in
+    let n = lineLength (boardAt file 5) in
+    rw (e, lt-leb (vtOf (p .irs)) 0 (omega arith), lt-leb (htOf (p .irs)) 0 (omega arith), lt-leb (visibleOf (p .irs) .0) line h, le-ltb 3073 (n + 1) (omega (arith, dots-bound p (accepted p e))))

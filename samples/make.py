@@ -1,0 +1,174 @@
+#!/usr/bin/env python3
+"""Makes the sample font and pages from the texts beside it.
+
+With --check it writes nothing, names each file that is not what it would make, and ends with 1 if there is one."""
+import configparser
+import pathlib
+import sys
+
+HERE = pathlib.Path(__file__).resolve().parent
+MEMORY = 16384
+LANGUAGES = "en", "de", "fr", "it", "sl"
+LOOKS = {"r": 1, "x": 2, "b": 4, "u": 8, "h": 16, "s": 32}
+AFLG = 128
+SWITCHES = {"display": 1, "cursor": 2, "bkgnd": 4, "rblank": 8}
+VSYNCS = [3, 1, 5, 7]
+
+
+def text(name):
+    """A source. A letter that the board does not have ends the run."""
+    return (HERE / name).read_text(encoding="ascii")
+
+
+def ini(name):
+    parser = configparser.ConfigParser(delimiters="=", interpolation=None)
+    parser.read_string(text(name), name)
+    return parser
+
+
+def look(letters):
+    return sum(LOOKS[letter] for letter in letters)
+
+
+def padded(row, columns):
+    if len(row) > columns:
+        sys.exit(f"make: no room for: {row}")
+    return row.ljust(columns)
+
+
+def phrase(words, columns):
+    """A phrase's cells: a margin of one cell, then the words."""
+    return padded(f" {words}", columns)
+
+
+class Memory:
+    """Both memories, written in the order in which the board fetches cells."""
+
+    def __init__(self, page):
+        self.chars, self.attrs = bytearray(MEMORY), bytearray(MEMORY)
+        self.first, self.last = page.getint("first"), page.getint("last")
+
+    def take(self, at, byte):
+        if self.chars[at]:
+            sys.exit(f"make: cell {at} is taken twice")
+        self.chars[at] = byte
+
+    def put(self, at, letters, attributes):
+        """Writes cells from an address on. Gives the address after them."""
+        for letter in letters:
+            self.take(at, 0x80 | ord(letter))
+            self.attrs[at] = attributes and AFLG | attributes
+            at = self.first if at == self.last else (at + 1) % MEMORY
+        return at
+
+    def table(self, at, starts):
+        for i, byte in enumerate(b"".join(start.to_bytes(2, "little") for start in starts)):
+            self.take((at + i) % MEMORY, byte)
+
+
+def numbers(page, rows, cursor):
+    """What a page file holds between its length and character memory, by document 01's register table."""
+    n = {key: int(page[key]) for key in page if page[key].isdigit()}
+    cursor_first, cursor_last = map(int, page["cursor lines"].split())
+    irs = [
+        n["lines"] - 1 << 3,
+        n["ec"] - 1,
+        ("sheet" not in page) << 7 | (n["hsync"] - 2) // 2 << 3 | (n["hbp"] + 1) // 4,
+        (n["vfp"] - 4) // 4 << 5 | (n["vbp"] - 4) // 2,
+        rows - 1,
+        n["columns"] - 1,
+        cursor_first << 4 | cursor_last,
+        VSYNCS.index(n["vsync"]) << 6 | 1 << 5 | n["underline"],
+        n["first"] & 255,
+        n["last"] // 1024 << 4 | n["first"] >> 8,
+    ]
+    addresses = b"".join(at.to_bytes(2, "big") for at in (n["start 1"], cursor, n["start 2"]))
+    switches = sum(SWITCHES[name] for name in page["switches"].split())
+    return bytes(irs).ljust(15, b"\0") + addresses + bytes([switches, n["dots"], n["strike"]])
+
+
+def typed(page, memory):
+    """Types a sheet: a line with | is a row, and lines with : below it give its cells attributes, by letter, or the
+    cursor, by c. Gives the number of rows and the cursor's address."""
+    columns = page.getint("columns")
+    rows = []
+    for line in text(page["sheet"]).splitlines():
+        if line[0] == "|":
+            rows.append((padded(line[1:], columns), []))
+        else:
+            rows[-1][1].append(padded(line[1:], columns))
+    at = page.getint("start 1")
+    cursor = 0
+    for row, marks in rows:
+        for letter, *letters in zip(row, *marks):
+            if "c" in letters:
+                cursor = at
+            at = memory.put(at, letter, look(set(letters) - {" ", "c"}))
+    return len(rows), cursor
+
+
+def phrases(page, memory, catalogue):
+    """Writes the catalogue. Gives the first cell of each phrase of each language."""
+    columns = page.getint("columns")
+    at = page.getint("catalogue")
+    places = {}
+    for name in catalogue.sections():
+        for language in LANGUAGES:
+            places[language, name] = at
+            at = memory.put(at, phrase(catalogue[name][language], columns), look(catalogue[name]["look"]))
+    return places
+
+
+def composed(page, memory, catalogue):
+    """Composes a page from the catalogue. Gives the number of rows and the cursor's address."""
+    places = phrases(page, memory, catalogue)
+    if "remark" in page:
+        name, at = page["remark for"], page.getint("remark at")
+        memory.put(at, phrase(page["remark"], page.getint("columns")), look(catalogue[name]["look"]))
+        places[page.name, name] = at
+    starts = [places[page.name, name] for name in page["rows"].split()]
+    memory.table(page.getint("start 2"), starts)
+    return len(starts), places.get((page.name, page.get("cursor")), 0)
+
+
+def page_file(page, catalogue):
+    memory = Memory(page)
+    if "sheet" in page:
+        rows, cursor = typed(page, memory)
+    else:
+        rows, cursor = composed(page, memory, catalogue)
+    body = numbers(page, rows, cursor) + memory.chars + memory.attrs
+    return b"\1" + len(body).to_bytes(4, "big") + body
+
+
+def font_file(deck):
+    """The cards are by paper 002: the line numbers of both lists, then a character, N or S, and nine words."""
+    lists, *cards = [line.split() for line in deck.splitlines()]
+    if [int(card[0], 16) for card in cards] != list(range(128)) or {len(card) for card in cards} != {11}:
+        sys.exit("make: the deck is not 128 cards of nine words, in order")
+    words = b"".join(int(word, 16).to_bytes(2, "big") for card in cards for word in card[2:])
+    flags = bytes(card[1] == "S" for card in cards)
+    numbered = bytes(int(number, 16) for part in lists for number in part.split("=")[1].split(","))
+    body = words + flags + numbered
+    return b"\1" + len(body).to_bytes(4, "big") + body
+
+
+def main(arguments):
+    if arguments not in ([], ["--check"]):
+        sys.exit("usage: make.py [--check]")
+    catalogue, pages = ini("catalogue.ini"), ini("pages.ini")
+    made = {f"{name}.page": page_file(pages[name], catalogue) for name in pages.sections()}
+    made["deck.font"] = font_file(text("deck.txt"))
+    if not arguments:
+        for name, content in made.items():
+            (HERE / name).write_bytes(content)
+        return 0
+    found = {path.name: path.read_bytes() for ending in ("page", "font") for path in HERE.glob(f"*.{ending}")}
+    wrong = sorted(name for name in made.keys() | found.keys() if made.get(name) != found.get(name))
+    for name in wrong:
+        print(f"make: {name} is not what make.py makes")
+    return 1 if wrong else 0
+
+
+if __name__ == "__main__":
+    sys.exit(main(sys.argv[1:]))
