@@ -18,15 +18,14 @@ use Rattle.board.specs.declared.Board.{Board}
 use Rattle.board.specs.State.{clockZero}
 use Rattle.timing.specs.Check.{pageCheck, stateRefused, callCheck}
 use Rattle.shape.specs.Font.{Font, fontRefused}
-use Rattle.files.specs.Page.{wordAt, pageAt}
+use Rattle.files.specs.Page.{wordAt, pageAt, numbersIn}
 use Rattle.files.specs.File.{longAt, versionRefused, lengthRefused, fileCheck, memoriesRefused, readCheck, pageRead, readOf, charsRead, attrsRead, headOf, fileOf, writeCheck, written}
 use Rattle.files.specs.FontFile.{fontCheck, fontIn, fontRead, fontWriteCheck, fontWritten}
 use Rattle.files.specs.Laws.{sized, length-part, FilePassed, file-passed, head-all, write-passed}
-use Rattle.files.specs.Round.{Bytes, page-again, page-kept}
+use Rattle.files.specs.Round.{Bytes, page-again, page-kept, numbers-page}
 use Rattle.files.specs.FontRound.{font-again}
-use Rattle.feldrime.specs.Numbers.{numbersRefused, numbersIn}
+use Rattle.feldrime.specs.Numbers.{numbersRefused}
 use Rattle.feldrime.specs.Pages.{pageReadSize, numbersRead, pageWriteCheck, pageWritten}
-use Rattle.feldrime.specs.Laws.{numbers-page}
 use Rattle.agreement.specs.Steps.{range-ok, call-ok}
 
 -- an accepted file's version and length

@@ -1,8 +1,8 @@
 -- A page's numbers in one buffer: the version byte, then the bytes of that version's page file between the length and the character memory, then zeros, which are ignored.
 use Prim.Native.Nat.{ℕ}
 use mathlib.Core.Bool.{Bool, _||_, not}
-use mathlib.Core.List.{List, _∷_, _++_}
-use lib.ListN.{length, getD, take, drop, replicate}
+use mathlib.Core.List.{List}
+use lib.ListN.{length, getD}
 use lib.Dec.{eqb}
 use Rattle.board.specs.declared.Board.{Board}
 use Rattle.files.specs.Page.{boardAt}
@@ -14,7 +14,3 @@ numbersRefused numbers = not (eqb (length numbers) 32) || not (eqb (getD numbers
 -- an active board at clock 0, pointer at IR0
 abbrev pub boardOf : List ℕ → Board
 boardOf numbers = boardAt numbers 1
-
--- the numbers of a page file
-abbrev pub numbersIn : List ℕ → List ℕ
-numbersIn file = 1 ∷ (take 24 (drop 5 file) ++ replicate 7 0)

@@ -10,12 +10,12 @@ use Rattle.refusal.specs.Number.{doneOf}
 use Rattle.board.specs.State.{powerOf}
 use Rattle.timing.specs.Check.{pageCheck, sizeOf}
 use Rattle.fetch.specs.Run.{spanOf}
-use Rattle.files.specs.Page.{pageAt}
+use Rattle.files.specs.Page.{pageAt, numbersIn}
 use Rattle.files.specs.File.{memoriesRefused, readCheck, writeCheck, written}
 use Rattle.feldrime.specs.declared.SizeAnswer.{SizeAnswer}
 use Rattle.feldrime.specs.declared.RunAnswer.{RunAnswer}
 use Rattle.feldrime.specs.declared.BoardAnswer.{BoardAnswer}
-use Rattle.feldrime.specs.Numbers.{numbersRefused, boardOf, numbersIn}
+use Rattle.feldrime.specs.Numbers.{numbersRefused, boardOf}
 use Rattle.feldrime.specs.Answers.{sizeAnswer, runAnswer, boardAnswer}
 
 -- 3 for the numbers, then the page's own 12, 4, 5, 6

@@ -1,6 +1,5 @@
 // What C calls. Only numbers and slices cross; every call checks what it is given, so none has a condition to meet.
 ghost use mathlib.Core.Path.{_≡_};
-ghost use Prim.Native.Nat.{_≤_};
 ghost use lib.ListN.{length};
 ghost use Rattle.lists.specs.Choice.{pick};
 ghost use lib.Dec.{eqb};
@@ -14,7 +13,7 @@ ghost use Rattle.shape.specs.Font.{fontOf, fontRefused};
 ghost use Rattle.clock.specs.Step.{stateOf};
 ghost use Rattle.files.specs.File.{readCheck, charsRead, attrsRead};
 ghost use Rattle.files.specs.FontFile.{fontCheck, fontRead};
-ghost use Rattle.feldrime.specs.Numbers.{numbersRefused, numbersIn};
+ghost use Rattle.feldrime.specs.Numbers.{numbersRefused};
 ghost use Rattle.feldrime.specs.Answers.{answerOf, boardAnswer, byteAnswer};
 ghost use Rattle.feldrime.specs.Pages.{numbersCheck, sizeFor, pageReadSize, numbersRead, pageWriteCheck, pageWritten, runFor, boardFor};
 ghost use Rattle.feldrime.specs.LineDraw.{lineDrawCheck, lineDrawn};
@@ -94,18 +93,6 @@ pub extern "C" fn feldrime_page_size(numbers: &[u8]) -> SizeAnswer
     }
 }
 
-// The numbers of a page file.
-fn put_numbers(file: &[u8], numbers: &mut [u8])
-    requires { ⌜ (29 ≤ length (now file)) × (length (now numbers) ≡ 32) ⌝ }
-    ensures { λ _. ⌜ now (numbers .exit) ≡ numbersIn (now (file .entry)) ⌝ }
-{
-    let version = [1u8; 1];
-    let zeros = [0u8; 7];
-    files::put(&version, 0, numbers);
-    files::put(&file[5..29], 1, numbers);
-    files::put(&zeros, 25, numbers);
-}
-
 // Reads a page file: its numbers and the two memories. A refusal leaves them as they were.
 #[no_mangle]
 pub extern "C" fn feldrime_page_read(
@@ -124,7 +111,7 @@ pub extern "C" fn feldrime_page_read(
     let answer = answered(refused);
     if refusal::is_done(refused) {
         files::read_page(file, chars, attrs);
-        put_numbers(file, numbers);
+        files::put_numbers(file, numbers);
     }
     answer
 }

@@ -6,7 +6,7 @@ use mathlib.Core.List.{List, [], _∷_, _++_, append-nil, append-assoc}
 use native.Mathlib.Omega.{arith}
 use borrow.Author.Tests.{eqb-true, ltb-false, not-false}
 use lib.Dec.{eqb, ltb}
-use lib.ListN.{length, getD, take, drop, length-drop, length-append}
+use lib.ListN.{length, getD, take, drop, replicate, length-drop, length-append}
 use lib.Seq.{take-length, drop-length, length-take-le, ext-getD}
 use Rattle.lists.specs.Choice.{firstOf, neither}
 use Rattle.lists.specs.Tab.{tab, length-tab, getD-tab}
@@ -19,7 +19,7 @@ use Rattle.board.specs.declared.Board.{Board}
 use Rattle.board.specs.State.{powerOf}
 use Rattle.timing.specs.Check.{pageCheck}
 use Rattle.timing.specs.Laws.{call-passed}
-use Rattle.files.specs.Page.{pageAt, boardAt}
+use Rattle.files.specs.Page.{pageAt, boardAt, numbersIn}
 use Rattle.files.specs.Put.{putAt, laid-none, put-on}
 use Rattle.files.specs.File.{longAt, versionRefused, lengthRefused, fileCheck, memoriesRefused, readCheck, pageRead, readOf, charsRead, attrsRead, bytesOf, headOf, fileOf, writeCheck, written}
 
@@ -143,6 +143,19 @@ page-put p n chars attrs out nc na h e₁ e₂ e₃ =
     let l₁ = put-on [] (headOf p) out 0 29 (laid-none out) (head-all p n) (rw h at e₁) in
     let l₂ = put-on (headOf p) chars out 29 16384 l₁ nc e₂ in
     put-on (headOf p ++ chars) attrs out 16413 16384 l₂ na e₃ .1 ∙ rw (append-assoc (headOf p) chars attrs)
+
+-- the numbers of a file, put part by part
+pub numbers-put : (file numbers : List ℕ) → 29 ≤ length file → length numbers ≡ 32 → {one two three : List ℕ}
+    → one ≡ putAt 0 (1 ∷ []) numbers → two ≡ putAt 1 (take 24 (drop 5 file)) one → three ≡ putAt 25 (replicate 7 0) two → three ≡ numbersIn file
+numbers-put file numbers l n e₁ e₂ e₃ =
+    let part = take 24 (drop 5 file) in
+    let l₁ = put-on [] (1 ∷ []) numbers 0 1 (laid-none numbers) refl e₁ in
+    let l₂ = put-on (1 ∷ []) part numbers 1 24 l₁ (length-part file 5 24 (omega (arith, l))) e₂ in
+    let l₃ = put-on ((1 ∷ []) ++ part) (replicate 7 0) numbers 25 7 l₂ refl e₃ in
+    l₃ .1 ∙ ends numbers n
+  where
+    ends : (xs : List ℕ) → length xs ≡ 32 → (((1 ∷ []) ++ take 24 (drop 5 file)) ++ replicate 7 0) ++ drop 32 xs ≡ numbersIn file
+    ends xs k = rw (sym k, drop-length xs) (append-nil _)
 
 -- a write that nothing refuses
 pub write-passed : (b : Board) (chars attrs out : ℕ) → writeCheck b chars attrs out ≡ Done

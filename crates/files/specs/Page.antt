@@ -1,7 +1,7 @@
 -- 01, "Files": what a page file holds between its length and its character memory.
 use Prim.Native.Nat.{ℕ, _+_, _*_}
-use mathlib.Core.List.{List}
-use lib.ListN.{getD, take, drop}
+use mathlib.Core.List.{List, _∷_, _++_}
+use lib.ListN.{getD, take, drop, replicate}
 use Rattle.units.specs.Units.{dots}
 use Rattle.board.specs.declared.Starts.{Starts}
 use Rattle.board.specs.declared.Video.{Video}
@@ -32,3 +32,7 @@ pageAt bytes at = record {
 -- a page read gives an active board at clock 0, pointer at IR0
 abbrev pub boardAt : List ℕ → ℕ → Board
 boardAt bytes at = record { page = pageAt bytes at; place = clockZero; pointer = 0; resets = 2 }
+
+-- for C: the version byte, these bytes, then zeros to 32
+abbrev pub numbersIn : List ℕ → List ℕ
+numbersIn file = 1 ∷ (take 24 (drop 5 file) ++ replicate 7 0)

@@ -3,7 +3,7 @@ ghost use mathlib.Core.Path.{_≡_};
 ghost use Prim.Native.Nat.{_+_, _*_, _/_, _%_, _≤_};
 ghost use mathlib.Core.List.{_++_};
 ghost use lib.ListN.{length, take, drop};
-ghost use Rattle.files.specs.Page.{wordAt, startsAt, videoOf, pageAt, boardAt};
+ghost use Rattle.files.specs.Page.{wordAt, startsAt, videoOf, pageAt, boardAt, numbersIn};
 ghost use Rattle.files.specs.File.{longAt, versionRefused, lengthRefused, fileCheck, memoriesRefused, readCheck, readOf, charsRead, attrsRead, headOf, fileOf, writeCheck, written};
 ghost use Rattle.files.specs.FontFile.{wordsOf, byteOf, bytesIn, fontCheck, fontRead, fontFileOf, fontWriteCheck, fontWritten};
 ghost use Rattle.files.specs.Put.{putAt};
@@ -250,7 +250,7 @@ fn head_of(p: board::Page) -> [u8; 29]
 }
 
 // All of src into out, from a place on.
-pub fn put(src: &[u8], at: usize, out: &mut [u8])
+fn put(src: &[u8], at: usize, out: &mut [u8])
     requires { ⌜ at + length (now src) ≤ length (now out) ⌝ }
     ensures { λ _. ⌜ now (out .exit) ≡ putAt at (now (src .entry)) (now (out .entry)) ⌝ }
 {
@@ -267,6 +267,18 @@ fn put_file(p: board::Page, chars: &[u8], attrs: &[u8], out: &mut [u8])
     put(&head, 0, out);
     put(chars, 29, out);
     put(attrs, 16413, out);
+}
+
+// The numbers of a page file, as C has them.
+pub fn put_numbers(file: &[u8], numbers: &mut [u8])
+    requires { ⌜ (29 ≤ length (now file)) × (length (now numbers) ≡ 32) ⌝ }
+    ensures { λ _. ⌜ now (numbers .exit) ≡ numbersIn (now (file .entry)) ⌝ }
+{
+    let version = [1u8; 1];
+    let zeros = [0u8; 7];
+    put(&version, 0, numbers);
+    put(&file[5..29], 1, numbers);
+    put(&zeros, 25, numbers);
 }
 
 // 3, 12, 4, 5, 6, 7.
