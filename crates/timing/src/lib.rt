@@ -1,10 +1,10 @@
 // The initialization registers decoded into counts (003 Table 2), the page check, and the size of a page's picture.
 ghost use mathlib.Core.Path.{_≡_};
 ghost use mathlib.Core.List.{[], _∷_};
-ghost use Prim.Native.Nat.{_-_, _*_, _≤_};
+ghost use Prim.Native.Nat.{_-_, _/_, _%_, _≤_};
 ghost use Rattle.lists.specs.Choice.{firstOf};
 ghost use Rattle.refusal.specs.declared.Refusal.{Refusal};
-ghost use Rattle.timing.specs.Fields.{vsyncOf, timingOf, visibleOf, bufferOf, tableOf, cursorOf, underlineOf, blinkOf};
+ghost use Rattle.timing.specs.Fields.{ir, linesOf, ecOf, tableOf, hsyncOf, hbpOf, vfpOf, vbpOf, blinkOf, rowsOf, hactOf, cursorOf, vsyncOf, underlineOf, bufferOf, htOf, hfpOf, visibleOf, vtOf, shapeOf, timingOf};
 ghost use Rattle.timing.specs.Check.{reservedRefused, porchRefused, widthRefused, pageCheck, sizeOf, stateRefused, callCheck};
 
 // A line's and a frame's parts, and the counts that the beam goes by.
@@ -34,18 +34,6 @@ pub struct Size {
     pub dots: units::Dots,
 }
 
-// VSYNC by its code.
-fn vsync_of(n: u32) -> u32
-    ensures { λ r. ⌜ (r ≡ vsyncOf n) × (r ≤ 7) ⌝ }
-{
-    match n {
-        0 => 3,
-        1 => 1,
-        2 => 5,
-        _ => 7,
-    }
-}
-
 // a - b, and 0 where b is more.
 fn minus(a: u32, b: u32) -> u32
     ensures { λ r. ⌜ r ≡ a - b ⌝ }
@@ -53,52 +41,123 @@ fn minus(a: u32, b: u32) -> u32
     if b <= a { a - b } else { 0 }
 }
 
-// The visible lines: at most 128 rows of at most 16.
-fn visible(rows: u32, lines: u32) -> u32
-    requires { ⌜ (rows ≤ 128) × (lines ≤ 16) ⌝ }
-    ensures { λ r. ⌜ (r ≡ rows * lines) × (r ≤ 2048) ⌝ }
+// Each count is decoded by a function of its own: one function for them all is costly to prove.
+
+fn lines_of(irs: [u8; 15]) -> units::Lines
+    ensures { λ r. ⌜ r .0 ≡ linesOf irs ⌝ }
 {
-    rows * lines
+    units::Lines(irs[0] as u32 / 8 % 16 + 1)
 }
 
-pub fn timing_of(irs: [u8; 15]) -> Timing
-    ensures { λ r. ⌜ r ≡ timingOf irs ⌝ }
+fn ec_of(irs: [u8; 15]) -> units::Clocks
+    ensures { λ r. ⌜ r .0 ≡ ecOf irs ⌝ }
 {
-    let lines = irs[0] as u32 / 8 % 16 + 1;
-    let ec = irs[1] as u32 % 128 + 1;
-    let hsync = 2 * (irs[2] as u32 / 8 % 16) + 2;
-    let hbp = minus(4 * (irs[2] as u32 % 8), 1);
-    let vfp = 4 * (irs[3] as u32 / 32 % 8) + 4;
-    let vbp = 2 * (irs[3] as u32 % 32) + 4;
-    let rows = irs[4] as u32 % 128 + 1;
-    let hact = irs[5] as u32 % 256 + 1;
-    let vsync = vsync_of(irs[7] as u32 / 64 % 4);
-    let ht = 2 * (ec + 2 * hsync);
-    let hfp = minus(ht, hact + hsync + hbp);
-    let vt = visible(rows, lines) + vfp + vsync + vbp;
-    Timing {
-        ec: units::Clocks(ec),
-        hsync: units::Clocks(hsync),
-        hbp: units::Clocks(hbp),
-        hfp: units::Clocks(hfp),
-        vfp: units::Lines(vfp),
-        vsync: units::Lines(vsync),
-        vbp: units::Lines(vbp),
-        shape: raster::Shape {
-            ht: units::Clocks(ht),
-            hact: units::Clocks(hact),
-            vt: units::Lines(vt),
-            lines: units::Lines(lines),
-            rows: rows,
-        },
+    units::Clocks(irs[1] as u32 % 128 + 1)
+}
+
+fn hsync_of(irs: [u8; 15]) -> units::Clocks
+    ensures { λ r. ⌜ r .0 ≡ hsyncOf irs ⌝ }
+{
+    units::Clocks(2 * (irs[2] as u32 / 8 % 16) + 2)
+}
+
+fn hbp_of(irs: [u8; 15]) -> units::Clocks
+    ensures { λ r. ⌜ r .0 ≡ hbpOf irs ⌝ }
+{
+    units::Clocks(minus(4 * (irs[2] as u32 % 8), 1))
+}
+
+fn vfp_of(irs: [u8; 15]) -> units::Lines
+    ensures { λ r. ⌜ r .0 ≡ vfpOf irs ⌝ }
+{
+    units::Lines(4 * (irs[3] as u32 / 32 % 8) + 4)
+}
+
+fn vbp_of(irs: [u8; 15]) -> units::Lines
+    ensures { λ r. ⌜ r .0 ≡ vbpOf irs ⌝ }
+{
+    units::Lines(2 * (irs[3] as u32 % 32) + 4)
+}
+
+fn rows_of(irs: [u8; 15]) -> u32
+    ensures { λ r. ⌜ r ≡ rowsOf irs ⌝ }
+{
+    irs[4] as u32 % 128 + 1
+}
+
+fn hact_of(irs: [u8; 15]) -> units::Clocks
+    ensures { λ r. ⌜ r .0 ≡ hactOf irs ⌝ }
+{
+    units::Clocks(irs[5] as u32 % 256 + 1)
+}
+
+// VSYNC by its code.
+fn vsync_of(irs: [u8; 15]) -> units::Lines
+    ensures { λ r. ⌜ (r .0 ≡ vsyncOf (ir irs 7 / 64 % 4)) × (r .0 ≤ 7) ⌝ }
+{
+    let code = irs[7] / 64 % 4;
+    match code {
+        0 => units::Lines(3),
+        1 => units::Lines(1),
+        2 => units::Lines(5),
+        _ => units::Lines(7),
     }
+}
+
+fn ht_of(irs: [u8; 15]) -> units::Clocks
+    ensures { λ r. ⌜ r .0 ≡ htOf irs ⌝ }
+{
+    units::Clocks(2 * (ec_of(irs).0 + 2 * hsync_of(irs).0))
+}
+
+fn hfp_of(irs: [u8; 15]) -> units::Clocks
+    ensures { λ r. ⌜ r .0 ≡ hfpOf irs ⌝ }
+{
+    units::Clocks(minus(
+        ht_of(irs).0,
+        hact_of(irs).0 + hsync_of(irs).0 + hbp_of(irs).0,
+    ))
 }
 
 // The lines that show a picture.
 pub fn visible_of(irs: [u8; 15]) -> units::Lines
     ensures { λ r. ⌜ r ≡ visibleOf irs ⌝ }
 {
-    units::Lines(visible(irs[4] as u32 % 128 + 1, irs[0] as u32 / 8 % 16 + 1))
+    units::Lines(rows_of(irs) * lines_of(irs).0)
+}
+
+fn vt_of(irs: [u8; 15]) -> units::Lines
+    ensures { λ r. ⌜ r .0 ≡ vtOf irs ⌝ }
+{
+    let hidden = vfp_of(irs).0 + vsync_of(irs).0 + vbp_of(irs).0;
+    units::Lines(visible_of(irs).0 + hidden)
+}
+
+fn shape_of(irs: [u8; 15]) -> raster::Shape
+    ensures { λ r. ⌜ r ≡ shapeOf irs ⌝ }
+{
+    raster::Shape {
+        ht: ht_of(irs),
+        hact: hact_of(irs),
+        vt: vt_of(irs),
+        lines: lines_of(irs),
+        rows: rows_of(irs),
+    }
+}
+
+pub fn timing_of(irs: [u8; 15]) -> Timing
+    ensures { λ r. ⌜ r ≡ timingOf irs ⌝ }
+{
+    Timing {
+        ec: ec_of(irs),
+        hsync: hsync_of(irs),
+        hbp: hbp_of(irs),
+        hfp: hfp_of(irs),
+        vfp: vfp_of(irs),
+        vsync: vsync_of(irs),
+        vbp: vbp_of(irs),
+        shape: shape_of(irs),
+    }
 }
 
 pub fn buffer_of(irs: [u8; 15]) -> raster::Buffer
@@ -150,8 +209,7 @@ pub fn reserved_refused(irs: [u8; 15]) -> bool
 pub fn porch_refused(irs: [u8; 15]) -> bool
     ensures { λ r. ⌜ r ≡ porchRefused irs ⌝ }
 {
-    let t = timing_of(irs);
-    (irs[2] % 8 == 0) | (t.hfp.0 < 2)
+    (irs[2] % 8 == 0) | (hfp_of(irs).0 < 2)
 }
 
 // 6: dots not 6 to 12.
@@ -198,12 +256,10 @@ pub fn page_size(p: board::Page) -> Size
     if refusal::is_done(refused) {
         let irs = p.irs;
         let dots = p.video.dots;
-        let t = timing_of(irs);
-        let hact = t.shape.hact;
         return Size {
             refusal: refused,
             lines: visible_of(irs),
-            dots: units::dots_of(hact, dots),
+            dots: units::dots_of(hact_of(irs), dots),
         };
     }
     Size {
@@ -219,9 +275,8 @@ pub fn state_refused(b: board::Board) -> bool
 {
     let irs = b.page.irs;
     let place = b.place;
-    let t = timing_of(irs);
-    (t.shape.vt.0 <= place.line.0)
-        | (t.shape.ht.0 <= place.clock.0)
+    (vt_of(irs).0 <= place.line.0)
+        | (ht_of(irs).0 <= place.clock.0)
         | board::cells_refused(place)
         | board::pointer_refused(b.pointer)
 }

@@ -4,29 +4,26 @@ use borrow.Author.Needs.{needs}
 use Rattle.lists.specs.Choice.{stop, pass}
 use Rattle.refusal.specs.declared.Refusal.the-variants.{Done}
 use Rattle.refusal.specs.Laws.{done-is, checked}
-use Rattle.timing.specs.Fields.{timingOf, shapeOf}
 use Rattle.timing.specs.Check.{pageCheck, sizeOf}
 use Rattle.timing.specs.Laws.{accepted, dots-bound}
 use Rattle.timing.proofs.page_size.Statement.{statement}
 use Rattle.timing.proofs.page_size.Tie as tie
 
 dots-of-requires : tie.Need-dots-of-requires
-unfolding timingOf shapeOf
 dots-of-requires c κs =
-    let then = c .before .before .before .before .before in
+    let then = c .before .before .before .before in
     let p = then .before .before .before .args .p in
     let ok : pageCheck p ≡ Done
     = done-is _ (checked (then .before .before .page-check .ensures) (then .before .is-done .ensures) (then .if1 .taken)) in
-    rw (c .before .before .timing-of .ensures) (omega (arith, dots-bound p (accepted p ok)))
+    rw (c .hact-of .ensures) (omega (arith, dots-bound p (accepted p ok)))
 
 returns : tie.Need-returns
-unfolding sizeOf timingOf shapeOf
+unfolding sizeOf
 returns c =
-    let t = c .before .before .before .timing-of .ensures in
-    let then = c .before .before .before .before .before .before in
+    let then = c .before .before .before .before .before in
     let check = then .before .before .page-check .ensures in
     stop _ (checked check (then .before .is-done .ensures) (then .if1 .taken))
-    (rw (check, c .before .visible-of .ensures, c .dots-of .ensures, t))
+    (rw (check, c .before .before .visible-of .ensures, c .dots-of .ensures, c .before .hact-of .ensures))
 
 returns-2 : tie.Need-returns-2
 unfolding sizeOf

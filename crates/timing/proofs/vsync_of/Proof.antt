@@ -1,3 +1,4 @@
+use borrow.Author.Needs.{needs}
 use borrow.Author.Tests.{ne-eqb}
 use lib.Dec.{lit≤}
 use Rattle.timing.proofs.vsync_of.Statement.{statement}
@@ -18,4 +19,4 @@ returns-4 c =
     (simp (ne-eqb _ _ (r .0 .0 .1), ne-eqb _ _ (r .0 .1), ne-eqb _ _ (r .1)), lit≤ tt)
 
 pub vsync-of-spec : {M : Type 1} → statement M
-vsync-of-spec = tie.close (tie.spec returns returns-2 returns-3 returns-4)
+vsync-of-spec = tie.close (tie.spec (λ c. search needs) returns returns-2 returns-3 returns-4)
