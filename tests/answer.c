@@ -1,0 +1,738 @@
+/* Answers scripts of calls (tests/SCRIPTS.md) through the library's archive: answer [exact|edge] < SCRIPTS
+   Lent buffers stand between guard bytes. With `exact` each is an allocation of its own size, for valgrind; with `edge` each ends where
+   memory that cannot be touched begins, so that a read past the end stops the program on any machine. */
+#define _DEFAULT_SOURCE
+#include <inttypes.h>
+#include <stdbool.h>
+#include <stdio.h>
+#include <stdlib.h>
+#include <string.h>
+#include <sys/mman.h>
+#include <unistd.h>
+
+#include "feldrime.h"
+
+enum { LONGEST_FRAME = 826752, WORDS_IN_A_LINE = 8, BOARD_BYTES = 42 };
+
+static unsigned long script_line;
+
+static void fail(const char *what)
+{
+    fflush(stdout);
+    fprintf(stderr, "answer: line %lu: %s\n", script_line, what);
+    exit(2);
+}
+
+/* ---- sums and the generator ---- */
+
+static const uint64_t sum_start = 14695981039346656037u;
+
+static uint64_t add(uint64_t sum, uint32_t number)
+{
+    return (sum ^ number) * 1099511628211u;
+}
+
+static uint32_t generator_next(uint32_t x)
+{
+    x ^= x << 13;
+    x ^= x >> 17;
+    x ^= x << 5;
+    return x;
+}
+
+/* ---- lent buffers ---- */
+
+enum { NUMBERS, CHARS, ATTRS, WORDS, FLAGS, UNSHIFTED, SHIFTED, FILE_BYTES, OUT, BUFFERS, BOARD = BUFFERS, ALL };
+
+static const char *const names[ALL] = {
+    "numbers", "chars", "attrs", "words", "flags", "unshifted", "shifted", "file", "out", "board"
+};
+
+static struct lent {
+    size_t bytes;
+    uint8_t *start; /* NULL is `none` */
+    uint8_t *block; /* what was allocated, guards and all */
+    size_t block_size;
+    uint8_t *copy; /* what `sum` was taken of, NULL where it has to be taken */
+    uint64_t sum;
+} lent[ALL];
+
+static enum { GUARDED, EXACT, EDGE } mode;
+
+/* Odd where the elements are bytes: the header asks for alignment of words alone. */
+static size_t guard_size(int which)
+{
+    return which == BOARD ? 64 : which == WORDS ? 62 : 61;
+}
+
+static size_t element_size(int which)
+{
+    return which == WORDS ? sizeof(uint16_t) : 1;
+}
+
+static uint8_t guard_byte(size_t place)
+{
+    return (uint8_t)(0xC5 + 7 * place);
+}
+
+static void forget(int which)
+{
+    free(lent[which].copy);
+    lent[which].copy = NULL;
+}
+
+static void release(int which)
+{
+    struct lent *one = &lent[which];
+
+    forget(which);
+    if (one->block != NULL && mode == EDGE)
+        munmap(one->block, one->block_size);
+    else
+        free(one->block);
+    *one = (struct lent){ 0 };
+}
+
+/* The buffer's end is the first byte of a page that is taken away. */
+static void allocate_at_edge(struct lent *one)
+{
+    size_t page = (size_t)sysconf(_SC_PAGESIZE);
+    size_t pages = (one->bytes + page - 1) / page * page;
+
+    one->block_size = pages + page;
+    one->block = mmap(NULL, one->block_size, PROT_READ | PROT_WRITE, MAP_PRIVATE | MAP_ANONYMOUS, -1, 0);
+    if (one->block == MAP_FAILED || mprotect(one->block + pages, page, PROT_NONE) != 0)
+        fail("no memory");
+    one->start = one->block + pages - one->bytes;
+}
+
+static void allocate(int which, size_t bytes)
+{
+    struct lent *one = &lent[which];
+    size_t guard = mode == GUARDED ? guard_size(which) : 0;
+
+    release(which);
+    one->bytes = bytes;
+    if (mode == EDGE) {
+        allocate_at_edge(one);
+        return;
+    }
+    one->block_size = bytes + 2 * guard;
+    one->block = malloc(one->block_size);
+    if (one->block == NULL)
+        fail("no memory");
+    for (size_t i = 0; i < one->block_size; i++)
+        one->block[i] = guard_byte(i);
+    one->start = one->block + guard;
+}
+
+static bool guards_stand(int which)
+{
+    const struct lent *one = &lent[which];
+    size_t guard = guard_size(which);
+
+    if (mode != GUARDED || one->block == NULL)
+        return true;
+    for (size_t i = 0; i < guard; i++) {
+        size_t after = guard + one->bytes + i;
+        if (one->block[i] != guard_byte(i) || one->block[after] != guard_byte(after))
+            return false;
+    }
+    return true;
+}
+
+static uint32_t element(int which, size_t place)
+{
+    const uint8_t *start = lent[which].start;
+
+    return which == WORDS ? ((const uint16_t *)(const void *)start)[place] : start[place];
+}
+
+static void set_element(int which, size_t place, uint32_t value)
+{
+    uint8_t *start = lent[which].start;
+
+    if (which == WORDS)
+        ((uint16_t *)(void *)start)[place] = (uint16_t)value;
+    else
+        start[place] = (uint8_t)value;
+}
+
+static size_t count_of(int which)
+{
+    return lent[which].bytes / element_size(which);
+}
+
+static uint64_t sum_of(int which)
+{
+    struct lent *one = &lent[which];
+
+    if (one->bytes == 0)
+        return sum_start;
+    if (one->copy != NULL && memcmp(one->copy, one->start, one->bytes) == 0)
+        return one->sum;
+    if (one->copy == NULL && (one->copy = malloc(one->bytes)) == NULL)
+        fail("no memory");
+    memcpy(one->copy, one->start, one->bytes);
+    one->sum = sum_start;
+    for (size_t i = 0; i < count_of(which); i++)
+        one->sum = add(one->sum, element(which, i));
+    return one->sum;
+}
+
+static void fill(int which, size_t count, uint32_t seed)
+{
+    unsigned shift = which == WORDS ? 16 : 24;
+    uint32_t x = seed;
+
+    allocate(which, count * element_size(which));
+    for (size_t i = 0; i < count; i++) {
+        x = generator_next(x);
+        set_element(which, i, x >> shift);
+    }
+}
+
+/* ---- reading a script ---- */
+
+static uint32_t number(const char *word)
+{
+    char *end;
+    unsigned long long value = strtoull(word, &end, 10);
+
+    if (*word == '\0' || *end != '\0' || value > UINT32_MAX)
+        fail("no number");
+    return (uint32_t)value;
+}
+
+static uint8_t small(const char *word)
+{
+    uint32_t value = number(word);
+
+    if (value > UINT8_MAX)
+        fail("no number below 256");
+    return (uint8_t)value;
+}
+
+static int buffer(const char *word)
+{
+    for (int which = 0; which < BUFFERS; which++)
+        if (strcmp(word, names[which]) == 0)
+            return which;
+    fail("no such buffer");
+    return BUFFERS;
+}
+
+static uint32_t hex_digits(const char *text, size_t digits)
+{
+    uint32_t value = 0;
+
+    for (size_t i = 0; i < digits; i++) {
+        const char *all = "0123456789abcdef", *digit = text[i] == '\0' ? NULL : strchr(all, text[i]);
+        if (digit == NULL)
+            fail("no hex digit");
+        value = 16 * value + (uint32_t)(digit - all);
+    }
+    return value;
+}
+
+static void do_set(char **word)
+{
+    int which = buffer(word[1]);
+    size_t place = number(word[2]), digits = 2 * element_size(which), count = strlen(word[3]) / digits;
+
+    if (strlen(word[3]) % digits != 0 || place + count > count_of(which))
+        fail("set reaches past the buffer");
+    forget(which);
+    for (size_t i = 0; i < count; i++)
+        set_element(which, place + i, hex_digits(word[3] + digits * i, digits));
+}
+
+static void do_mask(char **word)
+{
+    int which = buffer(word[1]);
+    uint32_t bits = hex_digits(word[2], strlen(word[2]));
+
+    forget(which);
+    for (size_t i = 0; i < count_of(which); i++)
+        set_element(which, i, element(which, i) & bits);
+}
+
+static void do_take(char **word)
+{
+    int which = buffer(word[1]), from = buffer(word[2]);
+    size_t count = number(word[3]);
+
+    if (which == from || which == WORDS || from == WORDS || count > lent[from].bytes)
+        fail("nothing to take");
+    allocate(which, count);
+    memcpy(lent[which].start, lent[from].start, count);
+}
+
+static void do_fill(char **word)
+{
+    fill(buffer(word[1]), number(word[2]), number(word[3]));
+}
+
+static void do_none(char **word)
+{
+    release(buffer(word[1]));
+}
+
+/* ---- the board ---- */
+
+static feldrime_board *board; /* in lent[BOARD] */
+static feldrime_board given;
+
+static uint32_t next_bytes(const uint8_t **from, size_t bytes)
+{
+    uint32_t value = 0;
+
+    for (size_t i = 0; i < bytes; i++)
+        value = value << 8 | *(*from)++;
+    return value;
+}
+
+/* Unused bytes between the fields are left at A5 hex. */
+static feldrime_board unpacked(const uint8_t *from)
+{
+    feldrime_board b;
+
+    memset(&b, 0xA5, sizeof b);
+    memcpy(b.page.irs, from, sizeof b.page.irs);
+    from += sizeof b.page.irs;
+    b.page.starts.start1 = (uint16_t)next_bytes(&from, 2);
+    b.page.starts.cursor = (uint16_t)next_bytes(&from, 2);
+    b.page.starts.start2 = (uint16_t)next_bytes(&from, 2);
+    b.page.switches = (uint8_t)next_bytes(&from, 1);
+    b.page.video.dots = next_bytes(&from, 4);
+    b.page.video.strike = (uint8_t)next_bytes(&from, 1);
+    b.place.field = (uint8_t)next_bytes(&from, 1);
+    b.place.line = next_bytes(&from, 4);
+    b.place.clock = next_bytes(&from, 4);
+    b.place.now = (uint16_t)next_bytes(&from, 2);
+    b.place.kept = (uint16_t)next_bytes(&from, 2);
+    b.pointer = (uint8_t)next_bytes(&from, 1);
+    b.resets = (uint8_t)next_bytes(&from, 1);
+    return b;
+}
+
+static const char *board_text(void)
+{
+    static char text[2 * BOARD_BYTES + 1];
+    char *at = text;
+
+    for (size_t i = 0; i < sizeof board->page.irs; i++)
+        at += sprintf(at, "%02x", (unsigned)board->page.irs[i]);
+    at += sprintf(at, "%04x%04x%04x%02x", (unsigned)board->page.starts.start1, (unsigned)board->page.starts.cursor,
+                  (unsigned)board->page.starts.start2, (unsigned)board->page.switches);
+    at += sprintf(at, "%08" PRIx32 "%02x%02x", board->page.video.dots, (unsigned)board->page.video.strike,
+                  (unsigned)board->place.field);
+    at += sprintf(at, "%08" PRIx32 "%08" PRIx32 "%04x%04x", board->place.line, board->place.clock,
+                  (unsigned)board->place.now, (unsigned)board->place.kept);
+    sprintf(at, "%02x%02x", (unsigned)board->pointer, (unsigned)board->resets);
+    return text;
+}
+
+static void do_board(char **word)
+{
+    uint8_t packed[BOARD_BYTES];
+
+    if (strlen(word[1]) != 2 * BOARD_BYTES)
+        fail("a board has 84 hex digits");
+    for (size_t i = 0; i < BOARD_BYTES; i++)
+        packed[i] = (uint8_t)hex_digits(word[1] + 2 * i, 2);
+    given = unpacked(packed);
+    *board = given;
+}
+
+static void do_board_again(char **word)
+{
+    (void)word;
+    *board = given;
+}
+
+static const char *power_state(void)
+{
+    return board->resets == 0 ? "inactive-0" : board->resets == 1 ? "inactive-1" : "active";
+}
+
+/* ---- reports ---- */
+
+static char results[512]; /* of the call that is being reported, "" or beginning with a space */
+
+#define RESULTS(...) snprintf(results, sizeof results, __VA_ARGS__)
+
+static const int of_nothing[] = { ALL };
+static const int of_numbers[] = { NUMBERS, ALL };
+static const int of_run[] = { NUMBERS, CHARS, ALL };
+static const int of_memories[] = { CHARS, ATTRS, ALL };
+static const int of_step[] = { CHARS, ATTRS, WORDS, FLAGS, UNSHIFTED, SHIFTED, ALL };
+static const int of_line[] = { NUMBERS, CHARS, ATTRS, WORDS, FLAGS, UNSHIFTED, SHIFTED, OUT, ALL };
+static const int of_page_read[] = { FILE_BYTES, NUMBERS, CHARS, ATTRS, ALL };
+static const int of_page_write[] = { NUMBERS, CHARS, ATTRS, OUT, ALL };
+static const int of_font_read[] = { FILE_BYTES, WORDS, FLAGS, UNSHIFTED, SHIFTED, ALL };
+
+static void check_guards(void)
+{
+    for (int which = 0; which < ALL; which++)
+        if (!guards_stand(which))
+            printf("guard of %s disturbed\n", names[which]);
+}
+
+static void report(const char *call, const char *power, uint32_t count, uint32_t refusal, uint32_t beside, const int *which)
+{
+    printf("%s %s %" PRIu32 " %" PRIu32 " %" PRIu32 "%s", call, power, count, refusal, beside, results);
+    for (; *which != ALL; which++)
+        printf(" %s %zu %016" PRIx64, names[*which], count_of(*which), sum_of(*which));
+    printf("\n");
+    check_guards();
+}
+
+/* ---- the calls ---- */
+
+#define BYTES(which) lent[which].start, lent[which].bytes
+#define FONT (uint16_t *)(void *)lent[WORDS].start, count_of(WORDS), BYTES(FLAGS), BYTES(UNSHIFTED), BYTES(SHIFTED)
+
+static void report_answer(const char *call, feldrime_answer answer, const int *which)
+{
+    RESULTS("%s", "");
+    report(call, "-", 1, answer.refusal, answer.beside, which);
+}
+
+static void call_page_check(char **word)
+{
+    (void)word;
+    report_answer("page_check", feldrime_page_check(BYTES(NUMBERS)), of_numbers);
+}
+
+static feldrime_size page_size(void)
+{
+    feldrime_size size = feldrime_page_size(BYTES(NUMBERS));
+
+    RESULTS(" lines %" PRIu32 " dots %" PRIu32, size.lines, size.dots);
+    report("page_size", "-", 1, size.refusal, size.beside, of_numbers);
+    return size;
+}
+
+static void call_page_size(char **word)
+{
+    (void)word;
+    page_size();
+}
+
+static void call_page_read(char **word)
+{
+    (void)word;
+    report_answer("page_read", feldrime_page_read(BYTES(FILE_BYTES), BYTES(NUMBERS), BYTES(CHARS), BYTES(ATTRS)),
+                  of_page_read);
+}
+
+static void call_page_write(char **word)
+{
+    (void)word;
+    report_answer("page_write", feldrime_page_write(BYTES(NUMBERS), BYTES(CHARS), BYTES(ATTRS), BYTES(OUT)),
+                  of_page_write);
+}
+
+static void call_font_read(char **word)
+{
+    (void)word;
+    report_answer("font_read", feldrime_font_read(BYTES(FILE_BYTES), FONT), of_font_read);
+}
+
+static feldrime_answer line_draw(uint32_t line, uint8_t field)
+{
+    return feldrime_line_draw(BYTES(NUMBERS), BYTES(CHARS), BYTES(ATTRS), FONT, line, field, BYTES(OUT));
+}
+
+static void call_line_draw(char **word)
+{
+    report_answer("line_draw", line_draw(number(word[2]), small(word[3])), of_line);
+}
+
+static void call_row_run(char **word)
+{
+    feldrime_run run = feldrime_row_run(BYTES(NUMBERS), BYTES(CHARS), number(word[2]));
+
+    RESULTS(" first %" PRIu32 " count %" PRIu32, run.first, run.count);
+    report("row_run", "-", 1, run.refusal, run.beside, of_run);
+}
+
+/* The board becomes the answer's. */
+static void report_board(const char *call, const char *power, feldrime_board_answer answer, const int *which)
+{
+    *board = answer.board;
+    RESULTS(" board %s", board_text());
+    report(call, power, 1, answer.refusal, answer.beside, which);
+}
+
+static void call_power(char **word)
+{
+    (void)word;
+    report_board("power", "-", (feldrime_board_answer){ .board = feldrime_power() }, of_nothing);
+}
+
+static void call_board_of(char **word)
+{
+    (void)word;
+    report_board("board_of", "-", feldrime_board_of(BYTES(NUMBERS)), of_numbers);
+}
+
+static void call_set_video(char **word)
+{
+    const char *power = power_state();
+
+    report_board("set_video", power,
+                 feldrime_set_video(*board, small(word[2]), small(word[3]), small(word[4]), small(word[5])), of_nothing);
+}
+
+static void call_write(char **word)
+{
+    const char *power = power_state();
+
+    report_board("write", power, feldrime_write(*board, small(word[2]), small(word[3])), of_nothing);
+}
+
+static void call_read(char **word)
+{
+    feldrime_byte answer = feldrime_read(*board, small(word[2]));
+
+    RESULTS(" byte %" PRIu32, answer.byte);
+    report("read", power_state(), 1, answer.refusal, answer.beside, of_nothing);
+}
+
+static void call_state_at(char **word)
+{
+    const char *power = power_state();
+
+    report_board("state_at", power, feldrime_state_at(*board, BYTES(CHARS), BYTES(ATTRS), number(word[2])), of_memories);
+}
+
+/* ---- steps ---- */
+
+static uint32_t every;
+
+static struct {
+    uint32_t done;
+    uint64_t sum;
+    feldrime_step_answer last;
+} steps;
+
+static void begin_steps(void)
+{
+    memset(&steps, 0, sizeof steps);
+    steps.sum = sum_start;
+}
+
+static const char *shown_text(void)
+{
+    static char text[160];
+    const feldrime_step_answer *a = &steps.last;
+    char *at = text;
+
+    at += sprintf(at, "hsync %" PRIu32 " vsync %" PRIu32 " blank %" PRIu32 " cursor %" PRIu32 " blink %" PRIu32, a->hsync,
+                  a->vsync, a->blank, a->cursor, a->blink);
+    at += sprintf(at, " address %" PRIu32 " dots ", a->address);
+    for (size_t i = 0; i < sizeof a->dots; i++)
+        at += sprintf(at, "%02x", (unsigned)a->dots[i]);
+    return text;
+}
+
+static void add_step(void)
+{
+    const feldrime_step_answer *a = &steps.last;
+    const uint32_t before[] = { a->refusal, a->beside, a->hsync, a->vsync, a->blank, a->cursor, a->blink, a->address };
+    const uint32_t after[] = { board->place.field, board->place.line, board->place.clock, board->place.now,
+                               board->place.kept };
+
+    for (size_t i = 0; i < sizeof before / sizeof *before; i++)
+        steps.sum = add(steps.sum, before[i]);
+    for (size_t i = 0; i < sizeof a->dots; i++)
+        steps.sum = add(steps.sum, a->dots[i]);
+    for (size_t i = 0; i < sizeof after / sizeof *after; i++)
+        steps.sum = add(steps.sum, after[i]);
+}
+
+/* One step more; false where it was refused. */
+static bool step_once(void)
+{
+    steps.last = feldrime_step(board, BYTES(CHARS), BYTES(ATTRS), FONT);
+    if (steps.last.refusal != 0)
+        return false;
+    steps.done++;
+    add_step();
+    if (every != 0 && steps.done % every == 0)
+        printf("at %" PRIu32 " %s board %s\n", steps.done, shown_text(), board_text());
+    return true;
+}
+
+static void report_steps(void)
+{
+    RESULTS(" sum %016" PRIx64 " %s board %s", steps.sum, shown_text(), board_text());
+    report("step", power_state(), steps.last.refusal == 0 ? steps.done : 1, steps.last.refusal, steps.last.beside, of_step);
+}
+
+static void call_step(char **word)
+{
+    uint32_t count = number(word[2]);
+
+    begin_steps();
+    while (steps.done < count && step_once())
+        ;
+    report_steps();
+}
+
+/* ---- a whole frame ---- */
+
+/* The dots of the frame's active clocks, row by row of `size`. */
+static void frame_by_steps(feldrime_size size, uint8_t *picture)
+{
+    begin_steps();
+    do {
+        uint64_t line = board->place.line, clock = board->place.clock, dots = board->page.video.dots;
+        if (!step_once())
+            break;
+        if (line < size.lines && (clock + 1) * dots <= size.dots && dots <= sizeof steps.last.dots)
+            memcpy(picture + line * size.dots + clock * dots, steps.last.dots, dots);
+    } while ((board->place.line != 0 || board->place.clock != 0) && steps.done != LONGEST_FRAME);
+    report_steps();
+}
+
+/* True where each line is as the steps showed it. */
+static bool frame_by_lines(feldrime_size size, uint8_t field, const uint8_t *picture)
+{
+    feldrime_answer answer = { 0, 0 };
+    uint64_t sum = sum_start;
+    uint32_t done = 0;
+    bool same = true;
+
+    fill(OUT, size.dots, 0);
+    while (done < size.lines && (answer = line_draw(done, field)).refusal == 0) {
+        for (uint32_t i = 0; i < size.dots; i++)
+            sum = add(sum, lent[OUT].start[i]);
+        same = same && memcmp(lent[OUT].start, picture + (size_t)done * size.dots, size.dots) == 0;
+        done++;
+    }
+    RESULTS(" sum %016" PRIx64, sum);
+    report("line_draw", "-", answer.refusal == 0 ? done : 1, answer.refusal, answer.beside, of_line);
+    return same && done == size.lines;
+}
+
+static void do_frame(char **word)
+{
+    feldrime_size size = page_size();
+    uint8_t field = board->place.field;
+    uint8_t *picture;
+    bool agree;
+
+    (void)word;
+    if (size.refusal != 0)
+        return;
+    picture = calloc((size_t)size.lines + 1, (size_t)size.dots + 1);
+    if (picture == NULL)
+        fail("no memory for a picture");
+    frame_by_steps(size, picture);
+    agree = frame_by_lines(size, field, picture);
+    printf("frame %" PRIu32 " %s\n", steps.done, agree ? "agree" : "differ");
+    free(picture);
+}
+
+/* ---- scripts ---- */
+
+static void do_every(char **word)
+{
+    every = number(word[1]);
+}
+
+static void do_script(char **word)
+{
+    for (int which = 0; which < BUFFERS; which++)
+        release(which);
+    memset(&given, 0, sizeof given);
+    *board = given;
+    every = 0;
+    printf("script %s\n", word[1]);
+    /* so that the name is out if a call stops the program */
+    fflush(stdout);
+}
+
+static const struct {
+    const char *name;
+    int words;
+    void (*act)(char **word);
+} orders[] = {
+    { "script", 2, do_script },
+    { "none", 2, do_none },
+    { "fill", 4, do_fill },
+    { "set", 4, do_set },
+    { "mask", 3, do_mask },
+    { "take", 4, do_take },
+    { "board", 2, do_board },
+    { "board", 1, do_board_again },
+    { "every", 2, do_every },
+    { "frame", 1, do_frame },
+    { "call page_check", 2, call_page_check },
+    { "call page_size", 2, call_page_size },
+    { "call page_read", 2, call_page_read },
+    { "call page_write", 2, call_page_write },
+    { "call font_read", 2, call_font_read },
+    { "call line_draw", 4, call_line_draw },
+    { "call row_run", 3, call_row_run },
+    { "call power", 2, call_power },
+    { "call board_of", 2, call_board_of },
+    { "call set_video", 6, call_set_video },
+    { "call write", 4, call_write },
+    { "call read", 3, call_read },
+    { "call state_at", 3, call_state_at },
+    { "call step", 3, call_step },
+};
+
+static bool is_order(size_t which, int words, char **word)
+{
+    const char *second = strchr(orders[which].name, ' ');
+    size_t first = second == NULL ? strlen(orders[which].name) : (size_t)(second - orders[which].name);
+
+    if (words != orders[which].words || strlen(word[0]) != first || strncmp(word[0], orders[which].name, first) != 0)
+        return false;
+    return second == NULL || strcmp(word[1], second + 1) == 0;
+}
+
+static void obey(char *line)
+{
+    char *word[WORDS_IN_A_LINE];
+    int words = 0;
+
+    line[strcspn(line, "\n")] = '\0';
+    if (*line == '\0' || *line == '#')
+        return;
+    for (char *at = strtok(line, " "); at != NULL; at = strtok(NULL, " ")) {
+        if (words == WORDS_IN_A_LINE)
+            fail("too many words");
+        word[words++] = at;
+    }
+    for (size_t which = 0; which < sizeof orders / sizeof *orders; which++)
+        if (is_order(which, words, word)) {
+            orders[which].act(word);
+            return;
+        }
+    fail("not understood");
+}
+
+int main(int count, char *arguments[])
+{
+    char *line = NULL;
+    size_t room = 0;
+
+    if (count > 2 || (count == 2 && strcmp(arguments[1], "exact") != 0 && strcmp(arguments[1], "edge") != 0)) {
+        fputs("usage: answer [exact|edge] < SCRIPTS\n", stderr);
+        return 2;
+    }
+    mode = count == 1 ? GUARDED : strcmp(arguments[1], "exact") == 0 ? EXACT : EDGE;
+    allocate(BOARD, sizeof *board);
+    board = (feldrime_board *)(void *)lent[BOARD].start;
+    for (script_line = 1; getline(&line, &room, stdin) != -1; script_line++)
+        obey(line);
+    printf("end\n");
+    free(line);
+    return 0;
+}

@@ -1,0 +1,336 @@
+//! Reads scripts and prints this program's own answers, in the form that tests/SCRIPTS.md gives.
+
+use std::io::{BufRead, Write};
+
+use crate::board::Board;
+use crate::calls;
+use crate::machine::Shown;
+use crate::registers;
+use crate::script::{board_of_text, board_text, hex, number, small, Buffers, Sum};
+
+/// "a frame at most 826,752 clocks"
+const LONGEST_FRAME: u32 = 826_752;
+
+const FONT_AND_MEMORIES: [&str; 6] = ["chars", "attrs", "words", "flags", "unshifted", "shifted"];
+
+pub fn answer(input: &mut dyn BufRead, output: &mut dyn Write) -> Result<(), String> {
+    let mut desk = Desk::new(output);
+    let mut line = String::new();
+    let mut at = 0;
+    loop {
+        line.clear();
+        at += 1;
+        if input.read_line(&mut line).map_err(|error| error.to_string())? == 0 {
+            return desk.say("end");
+        }
+        desk.obey(line.trim_end()).map_err(|error| format!("line {}: {}", at, error))?;
+    }
+}
+
+/// The column that a board stands in: inactive with 0 resets, with 1, active.
+fn power_state(board: &Board) -> &'static str {
+    match board.resets {
+        0 => "inactive-0",
+        1 => "inactive-1",
+        _ => "active",
+    }
+}
+
+fn shown_text(shown: &Shown) -> String {
+    let signals = shown.signals;
+    let bit = |signal: bool| u32::from(signal);
+    format!(
+        "hsync {} vsync {} blank {} cursor {} blink {} address {} dots {}",
+        bit(signals.hsync),
+        bit(signals.vsync),
+        bit(signals.blank),
+        bit(signals.cursor),
+        bit(signals.blink),
+        shown.address,
+        hex(&shown.dots)
+    )
+}
+
+struct Desk<'a> {
+    output: &'a mut dyn Write,
+    buffers: Buffers,
+    board: Board,
+    given: Board,
+    every: u32,
+}
+
+/// A run of steps: how many were done, their sum, and the last one's answer.
+struct Steps {
+    done: u32,
+    sum: Sum,
+    refusal: u32,
+    last: Shown,
+}
+
+impl<'a> Desk<'a> {
+    fn new(output: &'a mut dyn Write) -> Desk<'a> {
+        Desk { output, buffers: Buffers::default(), board: Board::default(), given: Board::default(), every: 0 }
+    }
+
+    fn say(&mut self, text: &str) -> Result<(), String> {
+        writeln!(self.output, "{}", text).map_err(|error| error.to_string())
+    }
+
+    fn obey(&mut self, line: &str) -> Result<(), String> {
+        let words: Vec<&str> = line.split(' ').collect();
+        if self.buffers.obey(&words)? {
+            return Ok(());
+        }
+        match words[..] {
+            [""] => Ok(()),
+            [first, ..] if first.starts_with('#') => Ok(()),
+            ["script", name] => self.begin(name),
+            ["board"] => self.place_board(self.given),
+            ["board", digits] => self.place_board(board_of_text(digits)?),
+            ["every", steps] => number(steps).map(|steps| self.every = steps),
+            ["frame"] => self.frame(),
+            ["call", ref call @ ..] => self.call(call),
+            _ => Err(format!("not understood: {}", line)),
+        }
+    }
+
+    fn begin(&mut self, name: &str) -> Result<(), String> {
+        self.buffers = Buffers::default();
+        self.board = Board::default();
+        self.given = Board::default();
+        self.every = 0;
+        self.say(&format!("script {}", name))
+    }
+
+    fn place_board(&mut self, board: Board) -> Result<(), String> {
+        self.given = board;
+        self.board = board;
+        Ok(())
+    }
+
+    fn call(&mut self, words: &[&str]) -> Result<(), String> {
+        match *words {
+            ["page_check"] => self.page_check(),
+            ["page_size"] => self.page_size().map(|_| ()),
+            ["page_read"] => self.page_read(),
+            ["page_write"] => self.page_write(),
+            ["font_read"] => self.font_read(),
+            ["line_draw", line, field] => self.line_draw(number(line)?, small(field)?),
+            ["row_run", row] => self.row_run(number(row)?),
+            ["power"] => self.power(),
+            ["board_of"] => self.board_of(),
+            ["set_video", dots, strike, bkgnd, rblank] => {
+                self.set_video(small(dots)?, small(strike)?, small(bkgnd)?, small(rblank)?)
+            }
+            ["write", address, byte] => self.write(small(address)?, small(byte)?),
+            ["read", address] => self.read(small(address)?),
+            ["state_at", n] => self.state_at(number(n)?),
+            ["step", count] => self.step(number(count)?),
+            _ => Err(format!("no such call: {}", words.join(" "))),
+        }
+    }
+
+    /// "CALL POWER COUNT REFUSAL BESIDE RESULTS BUFFERS"; the number beside a refusal is 0 throughout.
+    fn report(
+        &mut self,
+        call: &str,
+        power: &str,
+        count: u32,
+        refusal: u32,
+        results: &str,
+        lent: &[&str],
+    ) -> Result<(), String> {
+        let buffers = self.buffers.report(lent)?;
+        let space = if results.is_empty() { "" } else { " " };
+        self.say(&format!("{} {} {} {} 0{}{}{}", call, power, count, refusal, space, results, buffers))
+    }
+
+    fn report_board(&mut self, call: &str, power: &str, refusal: u32, lent: &[&str]) -> Result<(), String> {
+        let board = format!("board {}", board_text(&self.board));
+        self.report(call, power, 1, refusal, &board, lent)
+    }
+
+    fn page_check(&mut self) -> Result<(), String> {
+        let refusal = calls::page_check(&self.buffers.numbers);
+        self.report("page_check", "-", 1, refusal, "", &["numbers"])
+    }
+
+    fn page_size(&mut self) -> Result<(u32, u32, u32), String> {
+        let (refusal, lines, dots) = calls::page_size(&self.buffers.numbers);
+        self.report("page_size", "-", 1, refusal, &format!("lines {} dots {}", lines, dots), &["numbers"])?;
+        Ok((refusal, lines, dots))
+    }
+
+    fn page_read(&mut self) -> Result<(), String> {
+        let b = &mut self.buffers;
+        let refusal = calls::page_read(&b.file, &mut b.numbers, &mut b.chars, &mut b.attrs);
+        self.report("page_read", "-", 1, refusal, "", &["file", "numbers", "chars", "attrs"])
+    }
+
+    fn page_write(&mut self) -> Result<(), String> {
+        let b = &mut self.buffers;
+        let refusal = calls::page_write(&b.numbers, &b.chars, &b.attrs, &mut b.out);
+        self.report("page_write", "-", 1, refusal, "", &["numbers", "chars", "attrs", "out"])
+    }
+
+    fn font_read(&mut self) -> Result<(), String> {
+        let b = &mut self.buffers;
+        let refusal = calls::font_read(&b.file, &mut b.words, &mut b.flags, &mut b.unshifted, &mut b.shifted);
+        self.report("font_read", "-", 1, refusal, "", &["file", "words", "flags", "unshifted", "shifted"])
+    }
+
+    fn draw(&mut self, line: u32, field: u8) -> u32 {
+        let mut out = std::mem::take(&mut self.buffers.out);
+        let refusal = calls::line_draw(&self.buffers.numbers, &self.buffers.lent(), line, field, &mut out);
+        self.buffers.out = out;
+        refusal
+    }
+
+    fn report_lines(&mut self, count: u32, refusal: u32, results: &str) -> Result<(), String> {
+        let lent = [&["numbers"], &FONT_AND_MEMORIES[..], &["out"]].concat();
+        self.report("line_draw", "-", count, refusal, results, &lent)
+    }
+
+    fn line_draw(&mut self, line: u32, field: u8) -> Result<(), String> {
+        let refusal = self.draw(line, field);
+        self.report_lines(1, refusal, "")
+    }
+
+    fn row_run(&mut self, row: u32) -> Result<(), String> {
+        let (refusal, first, count) = calls::row_run(&self.buffers.numbers, &self.buffers.chars, row);
+        self.report("row_run", "-", 1, refusal, &format!("first {} count {}", first, count), &["numbers", "chars"])
+    }
+
+    fn power(&mut self) -> Result<(), String> {
+        self.board = Board::default();
+        self.report_board("power", "-", 0, &[])
+    }
+
+    fn board_of(&mut self) -> Result<(), String> {
+        let (refusal, board) = calls::board_of(&self.buffers.numbers);
+        self.board = board;
+        self.report_board("board_of", "-", refusal, &["numbers"])
+    }
+
+    fn set_video(&mut self, dots: u8, strike: u8, bkgnd: u8, rblank: u8) -> Result<(), String> {
+        let power = power_state(&self.board);
+        let refusal = registers::set_video(&mut self.board, dots, strike, bkgnd != 0, rblank != 0);
+        self.report_board("set_video", power, refusal, &[])
+    }
+
+    fn write(&mut self, address: u8, byte: u8) -> Result<(), String> {
+        let power = power_state(&self.board);
+        let refusal = registers::write(&mut self.board, address, byte);
+        self.report_board("write", power, refusal, &[])
+    }
+
+    fn read(&mut self, address: u8) -> Result<(), String> {
+        let (refusal, byte) = registers::read(&self.board, address);
+        self.report("read", power_state(&self.board), 1, refusal, &format!("byte {}", byte), &[])
+    }
+
+    fn state_at(&mut self, n: u32) -> Result<(), String> {
+        let power = power_state(&self.board);
+        let (refusal, board) = calls::state_at(&self.board, &self.buffers.chars, &self.buffers.attrs, n);
+        self.board = board.ok_or_else(|| format!("the two ways differ at clock {}", n))?;
+        self.report_board("state_at", power, refusal, &["chars", "attrs"])
+    }
+
+    /// One step more, added to the run of them.
+    fn step_once(&mut self, steps: &mut Steps) -> Result<(), String> {
+        let (refusal, shown) = calls::step(&mut self.board, &self.buffers.lent());
+        steps.last = shown;
+        steps.refusal = refusal;
+        if refusal != 0 {
+            return Ok(());
+        }
+        steps.done += 1;
+        add_step(&mut steps.sum, &shown, &self.board);
+        if self.every != 0 && steps.done % self.every == 0 {
+            let board = board_text(&self.board);
+            self.say(&format!("at {} {} board {}", steps.done, shown_text(&shown), board))?;
+        }
+        Ok(())
+    }
+
+    fn report_steps(&mut self, steps: &Steps) -> Result<(), String> {
+        let results = format!("sum {:016x} {} board {}", steps.sum.0, shown_text(&steps.last), board_text(&self.board));
+        let count = if steps.refusal == 0 { steps.done } else { 1 };
+        self.report("step", power_state(&self.board), count, steps.refusal, &results, &FONT_AND_MEMORIES)
+    }
+
+    fn step(&mut self, count: u32) -> Result<(), String> {
+        let mut steps = Steps { done: 0, sum: Sum::new(), refusal: 0, last: Shown::default() };
+        while steps.done < count && steps.refusal == 0 {
+            self.step_once(&mut steps)?;
+        }
+        self.report_steps(&steps)
+    }
+
+    /// A whole frame by steps and all its lines by `line_draw`, and whether their dots are the same.
+    fn frame(&mut self) -> Result<(), String> {
+        let (refusal, lines, width) = self.page_size()?;
+        if refusal != 0 {
+            return Ok(());
+        }
+        let field = self.board.place.field;
+        let (clocks, stepped) = self.frame_by_steps(lines, width)?;
+        let drawn = self.frame_by_lines(lines, width, field)?;
+        let verdict = if stepped == drawn { "agree" } else { "differ" };
+        self.say(&format!("frame {} {}", clocks, verdict))
+    }
+
+    fn frame_by_steps(&mut self, lines: u32, width: u32) -> Result<(u32, Vec<u8>), String> {
+        let mut picture = vec![0; lines as usize * width as usize];
+        let mut steps = Steps { done: 0, sum: Sum::new(), refusal: 0, last: Shown::default() };
+        loop {
+            let (place, dots) = (self.board.place, self.board.page.dots);
+            self.step_once(&mut steps)?;
+            if steps.refusal != 0 {
+                break;
+            }
+            if place.line < lines && (place.clock + 1) * dots <= width {
+                let at = (place.line * width + place.clock * dots) as usize;
+                picture[at..at + dots as usize].copy_from_slice(&steps.last.dots[..dots as usize]);
+            }
+            if (self.board.place.line, self.board.place.clock) == (0, 0) || steps.done == LONGEST_FRAME {
+                break;
+            }
+        }
+        self.report_steps(&steps)?;
+        Ok((steps.done, picture))
+    }
+
+    fn frame_by_lines(&mut self, lines: u32, width: u32, field: u8) -> Result<Vec<u8>, String> {
+        self.buffers.fill("out", width as usize, 0)?;
+        let mut picture = Vec::new();
+        let (mut done, mut refusal) = (0, 0);
+        while done < lines && refusal == 0 {
+            refusal = self.draw(done, field);
+            if refusal == 0 {
+                picture.extend(&self.buffers.out);
+                done += 1;
+            }
+        }
+        let count = if refusal == 0 { done } else { 1 };
+        self.report_lines(count, refusal, &format!("sum {:016x}", Sum::of(&picture).0))?;
+        Ok(picture)
+    }
+}
+
+fn add_step(sum: &mut Sum, shown: &Shown, board: &Board) {
+    let signals = shown.signals;
+    // refusal and the number beside it
+    sum.add(0);
+    sum.add(0);
+    for signal in [signals.hsync, signals.vsync, signals.blank, signals.cursor, signals.blink] {
+        sum.add(u32::from(signal));
+    }
+    sum.add(u32::from(shown.address));
+    shown.dots.iter().for_each(|&dot| sum.add(u32::from(dot)));
+    sum.add(u32::from(board.place.field));
+    sum.add(board.place.line);
+    sum.add(board.place.clock);
+    sum.add(u32::from(board.place.address));
+    sum.add(u32::from(board.place.row_start));
+}

@@ -1,0 +1,148 @@
+//! The calls of the C boundary, answered from 01. Each gives its refusal number first. "A refusal returns zeros beside its
+//! number (an empty part for a run) and the old state"; what was lent stays as it was.
+
+use crate::board::{Board, Font, Lent};
+use crate::files::{self, page_of_numbers};
+use crate::judge::{self, Fault};
+use crate::machine::{self, Shown};
+use crate::sheet;
+
+pub fn page_check(numbers: &[u8]) -> u32 {
+    match page_of_numbers(numbers) {
+        Some(page) => judge::first(&judge::page(&page)),
+        None => 3,
+    }
+}
+
+/// The refusal, visible lines, dots in a line.
+pub fn page_size(numbers: &[u8]) -> (u32, u32, u32) {
+    match (page_check(numbers), page_of_numbers(numbers)) {
+        (0, Some(page)) => (0, page.visible_lines(), page.line_dots() as u32),
+        (refusal, _) => (refusal, 0, 0),
+    }
+}
+
+pub fn page_read(file: &[u8], numbers: &mut [u8], chars: &mut [u8], attrs: &mut [u8]) -> u32 {
+    let mut faults = judge::file(file, files::PAGE_LENGTH);
+    faults.extend([(3, numbers.len() != files::NUMBERS), judge::memory(chars), judge::memory(attrs)]);
+    if judge::first(&faults) != 0 {
+        return judge::first(&faults);
+    }
+    let (page, file_chars, file_attrs) = files::page_parts(file);
+    let refusal = judge::first(&judge::page(&page));
+    if refusal == 0 {
+        numbers.copy_from_slice(&files::numbers_of(&page));
+        chars.copy_from_slice(file_chars);
+        attrs.copy_from_slice(file_attrs);
+    }
+    refusal
+}
+
+/// "bytes beyond stay, as do those beyond a written file"
+pub fn page_write(numbers: &[u8], chars: &[u8], attrs: &[u8], out: &mut [u8]) -> u32 {
+    let page = match page_of_numbers(numbers) {
+        Some(page) => page,
+        None => return 3,
+    };
+    let mut faults = judge::page(&page);
+    // "or file output below the file's size"
+    faults.extend([judge::memory(chars), judge::memory(attrs), (3, out.len() < files::PAGE_FILE)]);
+    let refusal = judge::first(&faults);
+    if refusal == 0 {
+        out[..files::PAGE_FILE].copy_from_slice(&files::page_file(&page, chars, attrs));
+    }
+    refusal
+}
+
+pub fn font_read(file: &[u8], words: &mut [u16], flags: &mut [u8], unshifted: &mut [u8], shifted: &mut [u8]) -> u32 {
+    let mut faults = judge::file(file, files::FONT_LENGTH);
+    faults.extend(judge::font(&Font { words, flags, unshifted, shifted }));
+    let refusal = judge::first(&faults);
+    if refusal == 0 {
+        let font = files::font_parts(file);
+        words.copy_from_slice(&font.words);
+        flags.copy_from_slice(&font.flags);
+        unshifted.copy_from_slice(&font.unshifted);
+        shifted.copy_from_slice(&font.shifted);
+    }
+    refusal
+}
+
+/// What drawing and stepping judge of what they are lent.
+fn lent_faults(lent: &Lent) -> Vec<Fault> {
+    let mut faults = judge::font(&lent.font);
+    faults.extend([judge::memory(lent.chars), judge::memory(lent.attrs)]);
+    faults
+}
+
+pub fn line_draw(numbers: &[u8], lent: &Lent, line: u32, field: u8, out: &mut [u8]) -> u32 {
+    let page = match page_of_numbers(numbers) {
+        Some(page) => page,
+        None => return 3,
+    };
+    let mut faults = lent_faults(lent);
+    faults.extend(judge::page(&page));
+    faults.push((7, line >= page.visible_lines()));
+    // "8: line buffer too short"
+    faults.push((8, out.len() < page.line_dots()));
+    let refusal = judge::first(&faults);
+    if refusal == 0 {
+        out[..page.line_dots()].copy_from_slice(&sheet::line(&page, lent, line, field));
+    }
+    refusal
+}
+
+/// The refusal, where the run begins, how many cells it has. "A refusal shows an empty part"
+pub fn row_run(numbers: &[u8], chars: &[u8], row: u32) -> (u32, u32, u32) {
+    let page = match page_of_numbers(numbers) {
+        Some(page) => page,
+        None => return (3, 0, 0),
+    };
+    let mut faults = judge::page(&page);
+    faults.extend([judge::memory(chars), (7, row >= page.rows())]);
+    match judge::first(&faults) {
+        0 => {
+            let (first, count) = sheet::run(&page, chars, row);
+            (0, u32::from(first), count)
+        }
+        refusal => (refusal, 0, 0),
+    }
+}
+
+/// A refused page gives the board that power gives.
+pub fn board_of(numbers: &[u8]) -> (u32, Board) {
+    match (page_check(numbers), page_of_numbers(numbers)) {
+        (0, Some(page)) => (0, Board::of_page(page)),
+        (refusal, _) => (refusal, Board::default()),
+    }
+}
+
+/// "Drawing, stepping, states and runs give 3 to 8 and 12": what they judge of a board.
+fn board_faults(board: &Board) -> Vec<Fault> {
+    let mut faults = judge::page(&board.page);
+    faults.extend(judge::place(board));
+    faults.push(judge::pointer(board));
+    faults
+}
+
+/// The state for clock n, found in both ways; `None` beside the refusal where they differ.
+pub fn state_at(board: &Board, chars: &[u8], attrs: &[u8], n: u32) -> (u32, Option<Board>) {
+    let mut faults = board_faults(board);
+    faults.extend([judge::memory(chars), judge::memory(attrs)]);
+    let refusal = judge::first(&faults);
+    if refusal != 0 {
+        return (refusal, Some(*board));
+    }
+    let worked_out = Board { place: sheet::place_at(&board.page, chars, n), ..*board };
+    let stepped = machine::state_at(board, chars, n);
+    (0, Some(worked_out).filter(|&at| at == stepped))
+}
+
+pub fn step(board: &mut Board, lent: &Lent) -> (u32, Shown) {
+    let mut faults = board_faults(board);
+    faults.extend(lent_faults(lent));
+    match judge::first(&faults) {
+        0 => (0, machine::step(board, lent)),
+        refusal => (refusal, Shown::default()),
+    }
+}

@@ -1,0 +1,185 @@
+//! 01 "Numbers on both sides": cases A1 to A10 and the listing, in both ways of this program.
+
+use crate::board::{Board, Font, Lent, Page};
+use crate::files::{self, numbers_of};
+use crate::listing::listing;
+use crate::{calls, machine, sheet};
+
+/// "HSYNC 8, HBP 7"; 24 rows of 10, VFP 4, VSYNC 3, VBP 20 as in A5.
+pub fn page(hact: u32, ec: u32) -> Page {
+    let mut page = Page { switches: 1, dots: 8, ..Page::default() };
+    page.irs[0] = 9 << 3;
+    page.irs[1] = (ec - 1) as u8;
+    page.irs[2] = 3 << 3 | 2;
+    page.irs[3] = 8;
+    page.irs[4] = 23;
+    page.irs[5] = (hact - 1) as u8;
+    page
+}
+
+/// A1's page with a display buffer and screen start 1.
+pub fn page_in_buffer(first: u16, last: u16, start1: u16) -> Page {
+    let mut page = page(80, 35);
+    page.irs[8] = (first % 256) as u8;
+    page.irs[9] = (last / 1024) as u8 * 16 + (first / 256) as u8;
+    page.start1 = start1;
+    page
+}
+
+/// "One row of one cell, two lines, HSYNC 2, HBP 3, EC 1, 8 dots, display on"
+pub fn example_page() -> Page {
+    let mut page = Page { switches: 1, dots: 8, ..Page::default() };
+    page.irs[0] = 1 << 3;
+    page.irs[2] = 1;
+    page
+}
+
+pub struct OneCell {
+    pub chars: Vec<u8>,
+    pub attrs: Vec<u8>,
+    pub words: Vec<u16>,
+}
+
+const ZERO_FLAGS: [u8; 128] = [0; 128];
+const LINES_0_TO_8: [u8; 9] = [0, 1, 2, 3, 4, 5, 6, 7, 8];
+const ZERO_LIST: [u8; 9] = [0; 9];
+
+impl OneCell {
+    /// "code 81 hex in cell 0, [..] flags 0, unshifted list 0 to 8, font words of 01 starting 041, 07F hex"
+    pub fn new(attr: u8) -> OneCell {
+        let mut cell = OneCell { chars: vec![0; 16384], attrs: vec![0; 16384], words: vec![0; 1152] };
+        cell.chars[0] = 0x81;
+        cell.attrs[0] = attr;
+        cell.words[9] = 0x041;
+        cell.words[10] = 0x07F;
+        cell
+    }
+
+    pub fn lent(&self) -> Lent<'_> {
+        let font = Font { words: &self.words, flags: &ZERO_FLAGS, unshifted: &LINES_0_TO_8, shifted: &ZERO_LIST };
+        Lent { chars: &self.chars, attrs: &self.attrs, font }
+    }
+
+    pub fn listing_input(&self) -> Vec<u8> {
+        [files::page_file(&example_page(), &self.chars, &self.attrs), files::font_file(&self.lent().font)].concat()
+    }
+}
+
+/// The first line's dots of a page whose first cell is lit, in both ways; `None` where they differ.
+fn first_line(page: &Page, attr: u8) -> Option<String> {
+    let cell = OneCell::new(attr);
+    let drawn = sheet::line(page, &cell.lent(), 0, 0);
+    let mut board = Board::of_page(*page);
+    let mut stepped = Vec::new();
+    for _ in 0..page.hact() {
+        stepped.extend(&machine::step(&mut board, &cell.lent()).dots[..page.dots as usize]);
+    }
+    Some(drawn.iter().map(u8::to_string).collect()).filter(|_| drawn == stepped)
+}
+
+/// The addresses that a row's first line fetches, in both ways; `None` where they differ.
+fn fetched(page: &Page, row: u32) -> Option<Vec<u16>> {
+    let cell = OneCell::new(0);
+    let line = row * page.lines_per_row() * page.ht();
+    let mut board = machine::state_at(&Board::of_page(*page), &cell.chars, line);
+    let stepped: Vec<u16> = (0..page.hact()).map(|_| machine::step(&mut board, &cell.lent()).address).collect();
+    let column = |c: u32| match c {
+        0 => sheet::row_start(page, &cell.chars, row),
+        _ => sheet::place_at(page, &cell.chars, line + c).address,
+    };
+    let worked_out: Vec<u16> = (0..page.hact()).map(column).collect();
+    Some(stepped).filter(|stepped| *stepped == worked_out)
+}
+
+/// After how many steps line and clock are 0 again.
+fn frame_by_steps(page: &Page) -> u32 {
+    let cell = OneCell::new(0);
+    let mut board = Board::of_page(*page);
+    let mut steps = 0;
+    loop {
+        machine::step(&mut board, &cell.lent());
+        steps += 1;
+        if (board.place.line, board.place.clock) == (0, 0) {
+            return steps;
+        }
+    }
+}
+
+fn check(page: &Page) -> u32 {
+    calls::page_check(&numbers_of(page))
+}
+
+/// Each case and whether it came out.
+pub fn all() -> Vec<(&'static str, bool)> {
+    let mut cases = timing_cases();
+    cases.extend(address_cases());
+    cases.extend(dot_cases());
+    cases.extend(listing_cases());
+    cases
+}
+
+fn timing_cases() -> Vec<(&'static str, bool)> {
+    let timing = |hact, ec| (page(hact, ec).ht(), page(hact, ec).hfp(), check(&page(hact, ec)));
+    vec![
+        ("A1", timing(80, 35) == (102, 7, 0)),
+        ("A2", timing(80, 32) == (96, 1, 5)),
+        ("A3", timing(80, 33) == (98, 3, 0)),
+        ("A4", timing(81, 33) == (98, 2, 0)),
+        ("A5", page(80, 35).vt() == 267 && page(80, 35).frame_clocks() == 27234),
+        ("A5 by steps", frame_by_steps(&page(80, 35)) == 27234),
+    ]
+}
+
+fn address_cases() -> Vec<(&'static str, bool)> {
+    let a6: Vec<u16> = (1000..=1023).chain(0..=55).collect();
+    let a8_high: Vec<u16> = (16383..=16383).chain(0..=78).collect();
+    let a8_low: Vec<u16> = (1023..=1023).chain(4095..=4173).collect();
+    vec![
+        ("A6", fetched(&page_in_buffer(0, 1023, 1000), 0) == Some(a6)),
+        ("A6 row 1", fetched(&page_in_buffer(0, 1023, 1000), 1) == Some((56..=135).collect())),
+        ("A7", fetched(&page_in_buffer(2048, 3071, 0), 0) == Some((0..=79).collect())),
+        ("A8 at 16383", fetched(&page_in_buffer(4095, 1023, 16383), 0) == Some(a8_high)),
+        ("A8 at 1023", fetched(&page_in_buffer(4095, 1023, 1023), 0) == Some(a8_low)),
+    ]
+}
+
+fn dot_cases() -> Vec<(&'static str, bool)> {
+    let wide = |dots| Page { dots, ..example_page() };
+    let reversed = Page { switches: 1 | 4, ..example_page() };
+    vec![
+        ("A9 with 12", first_line(&wide(12), 0).as_deref() == Some("010000010000")),
+        ("A9 with 8", first_line(&wide(8), 0).as_deref() == Some("10000010")),
+        ("A10", first_line(&reversed, 0x91).as_deref() == Some("20000020")),
+    ]
+}
+
+fn listing_cases() -> Vec<(&'static str, bool)> {
+    let input = OneCell::new(0).listing_input();
+    let damaged = |places: &[(usize, u8)]| {
+        let mut bytes = input.clone();
+        places.iter().for_each(|&(at, byte)| bytes[at] = byte);
+        listing(&bytes)
+    };
+    let (page_dots, font_version) = (5 + 22, files::PAGE_FILE);
+    vec![
+        ("the listing", listing(&input) == "2 8\no.....o.\nooooooo.\n"),
+        ("no byte at all", listing(&[]) == "refused 1\n"),
+        ("part of a page", listing(&input[..100]) == "refused 2\n"),
+        ("no font byte", listing(&input[..files::PAGE_FILE]) == "refused 1\n"),
+        ("a font byte too many", listing(&[&input[..], &[0]].concat()) == "refused 2\n"),
+        ("a page of version 2", damaged(&[(0, 2)]) == "refused 1\n"),
+        ("a font of version 2", damaged(&[(font_version, 2)]) == "refused 1\n"),
+        ("five dots", damaged(&[(page_dots, 5)]) == "refused 6\n"),
+        ("page first", damaged(&[(page_dots, 5), (font_version, 2)]) == "refused 6\n"),
+    ]
+}
+
+#[cfg(test)]
+mod tests {
+    #[test]
+    fn every_case_comes_out() {
+        for (name, came_out) in super::all() {
+            assert!(came_out, "{}", name);
+        }
+    }
+}

@@ -1,0 +1,391 @@
+//! The fixed scripts for 01's corners: each command byte, each width, the smallest and largest pages, its
+//! cases, phrases, tables at the end of memory, fields past 255, the last clocks, files, and nothing at all.
+
+use crate::board::{Board, Page};
+use crate::cases;
+use crate::dice::{page, Dice, Shape};
+use crate::files::{bytes_of, FONT_FILE, PAGE_FILE};
+use crate::make::{Maker, Script};
+use crate::script::hex;
+use crate::stage::{cursor_in_sight, lines, set_up, show, states, table};
+
+const POWERS: [u8; 4] = [0, 1, 2, 200];
+
+fn named(name: impl Into<String>, write: impl Fn(&mut Script, &mut Dice) + 'static) -> Maker {
+    (name.into(), Box::new(write))
+}
+
+pub fn all() -> Vec<Maker> {
+    let mut all = Vec::new();
+    for resets in POWERS {
+        for switches in [0, 15] {
+            let name = format!("commands-{}-{}", resets, switches);
+            all.push(named(name, move |script, _| commands(script, resets, switches)));
+        }
+        all.push(named(format!("registers-{}", resets), move |script, dice| registers(script, dice, resets)));
+        all.push(named(format!("off-{}", resets), move |script, dice| off(script, dice, resets)));
+    }
+    all.extend(pages());
+    all.extend([
+        named("fields", fields),
+        named("last-clocks", last_clocks),
+        named("resets", resets_in_a_row),
+        named("page-files", page_files),
+        named("font-files", font_files),
+        named("nothing", nothing),
+    ]);
+    all
+}
+
+/// The scripts that are about what a page shows. At each of their frames the numbers are a page's.
+pub fn pages() -> Vec<Maker> {
+    let mut all = Vec::new();
+    for dots in 6..=12 {
+        all.push(named(format!("sheet-of-{}", dots), move |script, dice| width(script, dice, dots, false)));
+        all.push(named(format!("catalogue-of-{}", dots), move |script, dice| width(script, dice, dots, true)));
+    }
+    for (hact, rows, lines) in sizes() {
+        let name = format!("size-{}-{}-{}", hact, rows, lines);
+        all.push(named(name, move |script, dice| extreme(script, dice, hact, rows, lines)));
+    }
+    all.extend([
+        named("longest-frame", longest_frame),
+        named("A1-to-A5", timing_cases),
+        named("A6-to-A8", address_cases),
+        named("A9-and-A10", dot_cases),
+        named("phrases", phrases),
+        named("table-at-16383", table_at_the_end),
+    ]);
+    all
+}
+
+/// "HACT 1 and 256, rows 1 and 128, 1 and 16 lines"
+fn sizes() -> Vec<(u32, u32, u32)> {
+    let mut all = Vec::new();
+    for hact in [1, 256] {
+        for rows in [1, 128] {
+            all.extend([1, 16].map(|lines| (hact, rows, lines)));
+        }
+    }
+    all
+}
+
+fn some_page(dice: &mut Dice) -> Page {
+    let shape = Shape::small(dice);
+    page(dice, shape)
+}
+
+/// Every command byte on the same board.
+fn commands(script: &mut Script, resets: u8, switches: u8) {
+    let page = Page { switches, start1: 1, cursor: 2, start2: 3, dots: 8, ..cases::page(80, 35) };
+    let mut board = Board { resets, pointer: 5, ..Board::of_page(page) };
+    board.place.line = 7;
+    script.board(&board);
+    for byte in 0..=255 {
+        script.say("board");
+        script.say(format!("call write 1 {}", byte));
+    }
+}
+
+/// Every register address, and addresses above; the pointer on its way to IR14.
+fn registers(script: &mut Script, dice: &mut Dice, resets: u8) {
+    let board = Board { resets, ..Board::of_page(some_page(dice)) };
+    script.board(&board);
+    for address in (0..=9).chain([127, 128, 254, 255]) {
+        script.say(format!("call read {}", address));
+        for byte in [0, 255, dice.byte()] {
+            script.say("board");
+            script.say(format!("call write {} {}", address, byte));
+            script.say(format!("call read {}", address));
+        }
+    }
+    for pointer in [0, 13, 14, 15, 255] {
+        script.board(&Board { pointer, ..board });
+        (0..17).for_each(|_| script.say(format!("call write 0 {}", dice.byte())));
+    }
+}
+
+/// The display off, and a board that is not active.
+fn off(script: &mut Script, dice: &mut Dice, resets: u8) {
+    for display in [0, 1] {
+        let mut page = some_page(dice);
+        page.switches = page.switches & !1 | display;
+        let chars = script.chars(dice);
+        cursor_in_sight(dice, &mut page, &chars);
+        set_up(script, dice, &page, resets);
+        show(script, dice, &page);
+    }
+}
+
+fn width(script: &mut Script, dice: &mut Dice, dots: u32, row_table: bool) {
+    for lines in [dice.between(9, 16), dice.between(1, 8)] {
+        let shape = Shape { hact: dice.between(4, 20), rows: 3, lines, dots };
+        let mut page = page(dice, shape);
+        page.irs[2] |= u8::from(row_table) << 7;
+        let mut chars = script.chars(dice);
+        let starts: Vec<u16> = (0..3).map(|_| dice.between(0, 16383) as u16).collect();
+        if row_table {
+            table(script, dice, &page, &mut chars, &starts);
+        }
+        cursor_in_sight(dice, &mut page, &chars);
+        set_up(script, dice, &page, 2);
+        show(script, dice, &page);
+    }
+}
+
+fn extreme(script: &mut Script, dice: &mut Dice, hact: u32, rows: u32, lines: u32) {
+    let shape = Shape { hact, rows, lines, dots: dice.between(6, 12) };
+    let mut page = page(dice, shape);
+    let chars = script.chars(dice);
+    cursor_in_sight(dice, &mut page, &chars);
+    set_up(script, dice, &page, 2);
+    show(script, dice, &page);
+}
+
+/// "HT is at most 384, a frame at most 826,752 clocks."
+fn longest_frame(script: &mut Script, dice: &mut Dice) {
+    let mut page = Page { switches: 3, dots: 12, start1: 16000, strike: 15, ..Page::default() };
+    page.irs = [0x78, 127, 0x7F, 0xFF, 127, 255, 0x0F, 0xC0 | 15, 255, 0x0F, 0, 0, 0, 0, 0];
+    assert_eq!(page.frame_clocks(), 826_752);
+    let chars = script.chars(dice);
+    cursor_in_sight(dice, &mut page, &chars);
+    set_up(script, dice, &page, 2);
+    script.frame_of(&page, 255);
+    states(script, dice, &page);
+}
+
+fn timing_cases(script: &mut Script, dice: &mut Dice) {
+    for (hact, ec) in [(80, 35), (80, 32), (80, 33), (81, 33)] {
+        script.numbers(&cases::page(hact, ec));
+        script.say("call page_check");
+        script.say("call page_size");
+    }
+    script.chars(dice);
+    set_up(script, dice, &cases::page(80, 35), 2);
+    script.frame_of(&cases::page(80, 35), 48);
+}
+
+fn address_cases(script: &mut Script, dice: &mut Dice) {
+    script.chars(dice);
+    for (first, last, start) in [(0, 1023, 1000), (2048, 3071, 0), (4095, 1023, 16300), (4095, 1023, 1000)] {
+        let mut page = cases::page_in_buffer(first, last, start);
+        page.irs[0] = 0;
+        page.irs[4] = 2;
+        page.cursor = first;
+        page.switches = 3;
+        set_up(script, dice, &page, 2);
+        (0..4).for_each(|row| script.say(format!("call row_run {}", row)));
+        script.say("every 1");
+        script.say(format!("call step {}", 2 * page.ht()));
+        script.say("every 0");
+        script.frame_of(&page, 2);
+    }
+}
+
+/// 01's one cell with every width, and with every set of attributes and switches on 8 dots.
+fn dot_cases(script: &mut Script, _: &mut Dice) {
+    script.say("fill chars 16384 0");
+    script.say("set chars 0 81");
+    script.say("fill words 1152 0");
+    script.say("set words 9 0041007f");
+    script.say("fill flags 128 0");
+    script.say("fill unshifted 9 0");
+    script.say("set unshifted 0 000102030405060708");
+    script.say("fill shifted 9 0");
+    script.say("fill attrs 16384 0");
+    for dots in 6..=12 {
+        script.numbers(&Page { dots, ..cases::example_page() });
+        script.say("call board_of");
+        script.say("frame");
+    }
+    for switches in 0..16 {
+        script.numbers(&Page { switches, ..cases::example_page() });
+        script.say("call board_of");
+        script.say("fill out 8 0");
+        for attr in 0..=255_u8 {
+            script.say(format!("set attrs 0 {}", hex(&[attr])));
+            script.say(format!("call line_draw {} {}", attr % 2, attr));
+        }
+    }
+}
+
+/// Two rows name one phrase whose cells pass the last buffer address, two one whose cells pass 16383.
+fn phrases(script: &mut Script, dice: &mut Dice) {
+    for _ in 0..4 {
+        let shape = Shape { hact: dice.between(6, 20), rows: 5, lines: dice.between(1, 4), dots: dice.between(6, 12) };
+        let mut page = page(dice, shape);
+        page.irs[2] |= 0x80;
+        page.irs[9] &= 0x3F;
+        page.start2 = 5000;
+        let over = |dice: &mut Dice, end: u16| end - dice.between(1, page.hact() - 2) as u16;
+        let (at_last, at_end) = (over(dice, page.last_address()), over(dice, 16383));
+        let mut chars = script.chars(dice);
+        table(script, dice, &page, &mut chars, &[at_last, at_end, at_last, 7000, at_end]);
+        // the cursor stands on a cell that two rows show
+        page.cursor = dice.pick(&[at_last, at_end, 0, page.first_address(), 16383]);
+        set_up(script, dice, &page, 2);
+        show(script, dice, &page);
+        (0..=5).for_each(|row| script.say(format!("call row_run {}", row)));
+    }
+}
+
+/// A table that passes 16383, at even and odd places; with an odd one an entry straddles it.
+fn table_at_the_end(script: &mut Script, dice: &mut Dice) {
+    for start2 in [16383, 16382, 16381, 16380, 16379] {
+        let shape = Shape { hact: dice.between(2, 9), rows: 4, lines: 2, dots: dice.between(6, 12) };
+        let mut page = page(dice, shape);
+        page.irs[2] |= 0x80;
+        page.start2 = start2;
+        let chars = script.chars(dice);
+        cursor_in_sight(dice, &mut page, &chars);
+        set_up(script, dice, &page, 2);
+        show(script, dice, &page);
+        (0..4).for_each(|row| script.say(format!("call row_run {}", row)));
+    }
+}
+
+/// "goes from 255 to 0 at the end of a frame": by states, and by steps across the end of frame 255.
+fn fields(script: &mut Script, dice: &mut Dice) {
+    let mut page = page(dice, Shape { hact: 5, rows: 1, lines: 2, dots: 7 });
+    page.irs[3] = 0;
+    let chars = script.chars(dice);
+    cursor_in_sight(dice, &mut page, &chars);
+    set_up(script, dice, &page, 2);
+    let frame = page.frame_clocks();
+    for field in [254, 255, 256, 257, 511, 512, 1000, 65535, 65536] {
+        script.say(format!("call state_at {}", field * frame + frame - 3));
+        script.say("every 1");
+        script.say("call step 6");
+        script.say("every 0");
+    }
+    script.say("call state_at 0");
+    script.say(format!("call step {}", 257 * frame));
+    for field in 0..=256 {
+        script.frame_of(&page, field);
+    }
+}
+
+fn last_clocks(script: &mut Script, dice: &mut Dice) {
+    for _ in 0..4 {
+        let page = some_page(dice);
+        script.chars(dice);
+        set_up(script, dice, &page, 2);
+        let frame = page.frame_clocks();
+        let last_whole = u32::MAX / frame * frame;
+        for n in [u32::MAX, u32::MAX - 1, 1 << 31, (1 << 31) - 1, last_whole, last_whole - 1, u32::MAX - frame] {
+            script.say(format!("call state_at {}", n));
+            script.say(format!("call step {}", page.ht()));
+        }
+        script.say(format!("call state_at {}", last_whole));
+        script.say("frame");
+    }
+}
+
+/// Resets with reads, steps, other writes and refused writes between them.
+fn resets_in_a_row(script: &mut Script, dice: &mut Dice) {
+    let page = some_page(dice);
+    script.chars(dice);
+    script.attrs(dice);
+    script.font(dice);
+    let between =
+        ["call read 2", "call step 3", "call write 1 41", "call write 2 9", "call write 8 0", "call write 1 255"];
+    for middle in between {
+        for first in [0, 1, 2, 200] {
+            script.board(&Board { resets: first, pointer: 3, ..Board::of_page(page) });
+            for call in ["call write 1 0", middle, "call write 1 0", middle, "call write 1 0", middle] {
+                script.say(call);
+            }
+        }
+    }
+    script.say("call power");
+    (0..3).for_each(|_| script.say("call write 1 0"));
+    script.say("call set_video 12 15 1 1");
+    script.say("call step 1");
+}
+
+/// Whole, cut short at every part, too long, and with wrong heads.
+fn page_files(script: &mut Script, dice: &mut Dice) {
+    let page = some_page(dice);
+    let head = |script: &mut Script, version: u8, length: u32, size: usize| {
+        let bytes = [&[version][..], &length.to_be_bytes(), &bytes_of(&page)].concat();
+        script.say(format!("set file 0 {}", hex(&bytes[..bytes.len().min(size)])));
+    };
+    script.say("fill numbers 32 77");
+    script.chars(dice);
+    script.attrs(dice);
+    for size in [0, 1, 2, 4, 5, 6, 28, 29, 30, 16413, PAGE_FILE - 1, PAGE_FILE, PAGE_FILE + 1, 65536] {
+        script.say(format!("fill file {} {}", size, dice.seed()));
+        script.say("call page_read");
+        if size > 0 {
+            head(script, 1, 32792, size);
+            script.say("call page_read");
+        }
+    }
+    script.say(format!("fill file {} {}", PAGE_FILE, dice.seed()));
+    for (version, length) in [(0, 32792), (2, 32792), (1, 32791), (1, 32797), (1, 0), (1, 0x0100_8018), (1, 32792)] {
+        head(script, version, length, PAGE_FILE);
+        script.say("call page_read");
+    }
+    script.say("call board_of");
+    script.font(dice);
+    show(script, dice, &page);
+    script.say(format!("fill out {} {}", PAGE_FILE + 50, dice.seed()));
+    script.say("call page_write");
+    script.say(format!("take file out {}", PAGE_FILE));
+    script.say("fill chars 16384 0");
+    script.say("fill attrs 16384 0");
+    script.say("call page_read");
+}
+
+fn font_files(script: &mut Script, dice: &mut Dice) {
+    script.font(dice);
+    for size in [0, 1, 4, 5, 6, 2309, 2437, 2446, FONT_FILE - 1, FONT_FILE, FONT_FILE + 1, 32797] {
+        script.say(format!("fill file {} {}", size, dice.seed()));
+        script.say("call font_read");
+        if size >= 5 {
+            script.say("set file 0 0100000992");
+            script.say("call font_read");
+        }
+    }
+    script.say(format!("fill file {} {}", FONT_FILE, dice.seed()));
+    for head in ["0000000992", "0200000992", "0100000991", "0100000997", "0192000992", "0100000992"] {
+        script.say(format!("set file 0 {}", head));
+        script.say("call font_read");
+    }
+    let page = some_page(dice);
+    script.chars(dice);
+    script.attrs(dice);
+    script.numbers(&page);
+    script.say("call board_of");
+    script.say("frame");
+    lines(script, dice, &page);
+}
+
+/// NULL and 0 for everything that can be lent, with the largest numbers beside.
+fn nothing(script: &mut Script, dice: &mut Dice) {
+    let calls = [
+        "page_check",
+        "page_size",
+        "page_read",
+        "page_write",
+        "font_read",
+        "line_draw 0 0",
+        "line_draw 4294967295 255",
+        "row_run 0",
+        "row_run 4294967295",
+        "board_of",
+        "state_at 0",
+        "state_at 4294967295",
+        "step 1",
+    ];
+    let buffers = ["numbers", "chars", "attrs", "words", "flags", "unshifted", "shifted", "file", "out"];
+    calls.iter().for_each(|call| script.say(format!("call {}", call)));
+    buffers.iter().for_each(|buffer| script.say(format!("fill {} 0 1", buffer)));
+    calls.iter().for_each(|call| script.say(format!("call {}", call)));
+    script.numbers(&some_page(dice));
+    script.board(&Board::of_page(some_page(dice)));
+    for call in calls {
+        script.say("board");
+        script.say(format!("call {}", call));
+    }
+}

@@ -1,0 +1,122 @@
+//! Random numbers from a fixed seed, and random pages that a board accepts.
+
+use crate::board::Page;
+use crate::judge;
+
+pub struct Dice(u64);
+
+impl Dice {
+    /// The same for a seed and a number for ever, so that one script can be made again alone.
+    pub fn new(seed: u64, number: u64) -> Dice {
+        Dice(seed.wrapping_mul(0x9E37_79B9_7F4A_7C15) ^ number.wrapping_mul(0xD1B5_4A32_D192_ED03))
+    }
+
+    fn next(&mut self) -> u64 {
+        self.0 = self.0.wrapping_add(0x9E37_79B9_7F4A_7C15);
+        let mixed = (self.0 ^ self.0 >> 30).wrapping_mul(0xBF58_476D_1CE4_E5B9);
+        let mixed = (mixed ^ mixed >> 27).wrapping_mul(0x94D0_49BB_1331_11EB);
+        mixed ^ mixed >> 31
+    }
+
+    pub fn between(&mut self, least: u32, most: u32) -> u32 {
+        (u64::from(least) + self.next() % (u64::from(most - least) + 1)) as u32
+    }
+
+    pub fn byte(&mut self) -> u8 {
+        self.next() as u8
+    }
+
+    pub fn seed(&mut self) -> u32 {
+        self.between(1, u32::MAX)
+    }
+
+    pub fn one_in(&mut self, times: u32) -> bool {
+        self.between(1, times) == 1
+    }
+
+    pub fn pick<T: Copy>(&mut self, from: &[T]) -> T {
+        from[self.between(0, from.len() as u32 - 1) as usize]
+    }
+}
+
+/// How large a page shall be.
+#[derive(Clone, Copy)]
+pub struct Shape {
+    pub hact: u32,
+    pub rows: u32,
+    pub lines: u32,
+    pub dots: u32,
+}
+
+impl Shape {
+    pub fn small(dice: &mut Dice) -> Shape {
+        Shape {
+            hact: dice.between(1, 24),
+            rows: dice.between(1, 5),
+            lines: dice.between(1, 16),
+            dots: dice.between(6, 12),
+        }
+    }
+}
+
+/// A page of this shape, accepted, display on, everything else as it falls.
+pub fn page(dice: &mut Dice, shape: Shape) -> Page {
+    loop {
+        let mut page = registers(dice, shape);
+        page.start1 = dice.between(0, 16383) as u16;
+        page.cursor = dice.between(0, 16383) as u16;
+        page.start2 = dice.between(0, 16383) as u16;
+        page.switches = 1 | dice.pick(&[0, 2, 2, 2]) | dice.pick(&[0, 4, 8, 12]);
+        page.dots = shape.dots;
+        page.strike = dice.between(0, shape.lines.min(15)) as u8;
+        if judge::first(&judge::page(&page)) == 0 {
+            return page;
+        }
+    }
+}
+
+/// IR1 has the least EC that leaves a front porch of 2 or 3, or some more. Bits that 01 ignores are set at random.
+fn registers(dice: &mut Dice, shape: Shape) -> Page {
+    let mut page = Page::default();
+    page.irs.iter_mut().for_each(|ir| *ir = dice.byte());
+    page.irs[0] = page.irs[0] & 7 | ((shape.lines - 1) << 3) as u8;
+    page.irs[2] = dice.pick(&[0, 0, 1, 2, page.irs[2] >> 4]) << 3 | (page.irs[2] % 7 + 1);
+    page.irs[3] = if dice.one_in(6) { page.irs[3] } else { dice.pick(&[0x00, 0x20, 0x01, 0x02]) };
+    page.irs[4] = page.irs[4] & 0x80 | (shape.rows - 1) as u8;
+    page.irs[5] = (shape.hact - 1) as u8;
+    let least = (shape.hact + page.hsync() + page.hbp() as u32 + 3) / 2;
+    let ec = least.saturating_sub(2 * page.hsync()).max(1) + dice.pick(&[0, 0, 0, 1, 4, 30]);
+    page.irs[1] = (ec - 1).min(127) as u8;
+    if dice.one_in(2) {
+        // a cursor that can be seen on a low row
+        page.irs[6] = dice.between(0, 3) as u8 * 16 + dice.between(0, 15) as u8;
+        page.irs[7] = page.irs[7] & 0xF0 | dice.between(0, shape.lines - 1) as u8;
+    }
+    page
+}
+
+/// Where a page's cells lie: buffer bounds and screen start 1.
+pub fn place_cells(dice: &mut Dice, page: &mut Page) {
+    let last_code = dice.pick(&[0, 0, 1, 2, 3, 7, 15, 15]);
+    let last = 1024 * (u32::from(last_code) + 1) - 1;
+    let cells = page.hact() * page.rows();
+    let near = |dice: &mut Dice, end: u32| (end + 16384 - dice.between(0, cells)) % 16384;
+    let (first, start) = match dice.between(0, 4) {
+        0 => {
+            // the page runs over the end of its own buffer
+            let first = dice.between(0, last.min(4095));
+            (first, near(dice, last).max(first).min(last))
+        }
+        1 => {
+            // the first buffer address lies above the last
+            let first = dice.between(last.min(4094) + 1, 4095);
+            (first, dice.pick(&[last.saturating_sub(5), first, 16383, 16380, 0]))
+        }
+        2 => (dice.between(0, 4095), near(dice, 16383)),
+        3 => (dice.between(last.min(4095).saturating_sub(3), last.min(4095)), near(dice, last)),
+        _ => (dice.between(0, 4095), dice.between(0, 16383)),
+    };
+    page.irs[8] = (first % 256) as u8;
+    page.irs[9] = last_code << 4 | (first / 256) as u8;
+    page.start1 = start as u16;
+}

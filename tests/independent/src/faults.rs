@@ -1,0 +1,342 @@
+//! Every refusal of every call, alone, in pairs and all at once, so that the order of refusals shows.
+
+use crate::board::{Board, Page};
+use crate::dice::Dice;
+use crate::files::{bytes_of, page_of, FONT_FILE, FONT_LENGTH, PAGE_FILE, PAGE_LENGTH};
+use crate::make::{Maker, Script};
+use crate::script::{board_text, hex};
+
+const BUFFERS: [&str; 9] = ["numbers", "chars", "attrs", "words", "flags", "unshifted", "shifted", "file", "out"];
+
+/// Everything that a call is handed. The board's page is also the page of the numbers and of the page file.
+#[derive(Clone)]
+pub struct Case {
+    board: Board,
+    version: u8,
+    file_version: u8,
+    file_length: u32,
+    /// Elements of each buffer; `None` is NULL.
+    sizes: [Option<usize>; 9],
+    line: u32,
+    row: u32,
+    address: u8,
+    byte: u8,
+    dots: u8,
+    strike: u8,
+}
+
+/// Something wrong, or something that a call does not judge.
+pub type Fault = Box<dyn Fn(&mut Case)>;
+
+/// HFP 3, so that one less of EC makes it 1; 2 rows of 3 lines of 6 cells, 8 dots.
+fn base(call: &str, resets: u8) -> Case {
+    let mut page = Page { switches: 0x0B, dots: 8, strike: 1, start1: 1020, ..Page::default() };
+    page.irs = [0x10, 2, 0x01, 0, 1, 5, 0x02, 0x42, 0, 0, 9, 9, 9, 9, 9];
+    assert_eq!(page.hfp(), 3);
+    let font_file = call == "font_read";
+    let file = if font_file { FONT_FILE } else { PAGE_FILE };
+    let sizes = [32, 16384, 16384, 1152, 128, 9, 9, file, if call == "page_write" { PAGE_FILE } else { 48 }];
+    Case {
+        board: Board { page, resets, pointer: 3, ..Board::default() },
+        version: 1,
+        file_version: 1,
+        file_length: if font_file { FONT_LENGTH } else { PAGE_LENGTH },
+        sizes: sizes.map(Some),
+        line: 5,
+        row: 1,
+        address: 2,
+        byte: 0x29,
+        dots: 9,
+        strike: 15,
+    }
+}
+
+fn fault(act: impl Fn(&mut Case) + 'static) -> Fault {
+    Box::new(act)
+}
+
+/// NULL, none, one too few, one too many, far too many.
+fn sizes(name: &'static str, right: usize) -> Vec<Fault> {
+    let buffer = BUFFERS.iter().position(|&one| one == name).expect("a buffer's name");
+    let wrong = [None, Some(0), Some(right - 1), Some(right + 1), Some(2 * right + 1)];
+    wrong.iter().map(|&size| fault(move |case| case.sizes[buffer] = size)).collect()
+}
+
+/// For a buffer that may be larger than needed.
+fn too_short(name: &'static str, right: usize) -> Vec<Fault> {
+    let mut all = sizes(name, right);
+    all.truncate(3);
+    all
+}
+
+fn numbers_faults() -> Vec<Fault> {
+    let mut all = sizes("numbers", 32);
+    all.extend([0, 2, 255].iter().map(|&version| fault(move |case: &mut Case| case.version = version)));
+    all
+}
+
+fn memory_faults() -> Vec<Fault> {
+    [sizes("chars", 16384), sizes("attrs", 16384)].into_iter().flatten().collect()
+}
+
+fn font_faults() -> Vec<Fault> {
+    let parts = [sizes("words", 1152), sizes("flags", 128), sizes("unshifted", 9), sizes("shifted", 9)];
+    parts.into_iter().flatten().collect()
+}
+
+/// 12 but for the strike line.
+fn address_faults() -> Vec<Fault> {
+    vec![
+        fault(|case| case.board.page.start1 = 16384),
+        fault(|case| case.board.page.start1 = 65535),
+        fault(|case| case.board.page.cursor = 16384),
+        fault(|case| case.board.page.start2 = 16384),
+        fault(|case| case.board.page.switches |= 0x10),
+        fault(|case| case.board.page.switches |= 0x20),
+        fault(|case| case.board.page.switches |= 0x40),
+        fault(|case| case.board.page.switches |= 0x80),
+    ]
+}
+
+fn strike_faults() -> Vec<Fault> {
+    vec![fault(|case| case.board.page.strike = 16), fault(|case| case.board.page.strike = 255)]
+}
+
+/// 4, 5 and 6.
+fn timing_faults() -> Vec<Fault> {
+    vec![
+        fault(|case| case.board.page.irs[0] |= 0x80),
+        fault(|case| case.board.page.irs[1] |= 0x80),
+        fault(|case| case.board.page.irs[2] &= !7),
+        fault(|case| case.board.page.irs[1] = case.board.page.irs[1].saturating_sub(1)),
+        fault(|case| case.board.page.irs[5] = 255),
+        fault(|case| case.board.page.dots = 5),
+        fault(|case| case.board.page.dots = 13),
+        fault(|case| case.board.page.dots = 0),
+        fault(|case| case.board.page.dots = 255),
+    ]
+}
+
+fn page_faults() -> Vec<Fault> {
+    [address_faults(), strike_faults(), timing_faults()].into_iter().flatten().collect()
+}
+
+fn pointer_faults() -> Vec<Fault> {
+    vec![fault(|case| case.board.pointer = 15), fault(|case| case.board.pointer = 255)]
+}
+
+/// What only a board can hold, and no page's numbers.
+fn place_faults() -> Vec<Fault> {
+    vec![
+        fault(|case| case.board.place.line = case.board.page.vt()),
+        fault(|case| case.board.place.line = u32::MAX),
+        fault(|case| case.board.place.clock = case.board.page.ht()),
+        fault(|case| case.board.place.clock = u32::MAX),
+        fault(|case| case.board.place.address = 16384),
+        fault(|case| case.board.place.address = 65535),
+        fault(|case| case.board.place.row_start = 16384),
+        fault(|case| case.board.place.row_start = 65535),
+        fault(|case| case.board.page.dots = 0x100 + 8),
+        fault(|case| case.board.page.dots = u32::MAX),
+    ]
+}
+
+fn file_faults() -> Vec<Fault> {
+    let mut all = vec![
+        fault(|case| case.file_version = 0),
+        fault(|case| case.file_version = 2),
+        fault(|case| case.file_length += 1),
+        fault(|case| case.file_length ^= 0x8000_0000),
+        fault(|case| case.sizes[7] = Some(1)),
+        fault(|case| case.sizes[7] = Some(4)),
+        fault(|case| case.sizes[7] = Some(5)),
+    ];
+    all.extend([0, 1, 2].map(|how| {
+        fault(move |case| {
+            let right = 5 + (case.file_length & 0xFFFF) as usize;
+            case.sizes[7] = [None, Some(right - 1), Some(right + 1)][how];
+        })
+    }));
+    all
+}
+
+/// What a page file or a font file can have wrong itself.
+pub fn of_file(call: &str) -> Vec<Fault> {
+    let page = if call == "page_read" { page_faults() } else { Vec::new() };
+    file_faults().into_iter().chain(page).collect()
+}
+
+/// The file with these faults.
+pub fn spoiled(call: &str, file: &[u8], faults: &[&Fault]) -> Vec<u8> {
+    let mut case = base(call, 2);
+    if call == "page_read" {
+        case.board.page = page_of(&file[5..]);
+    }
+    faults.iter().for_each(|fault| fault(&mut case));
+    let mut spoiled = file.to_vec();
+    spoiled.resize(case.sizes[7].unwrap_or(0), 0);
+    let head = file_head(call, &case);
+    let room = head.len().min(spoiled.len());
+    spoiled[..room].copy_from_slice(&head[..room]);
+    spoiled
+}
+
+fn register_faults(call: &str) -> Vec<Fault> {
+    let mut all = vec![fault(|case| case.address = 8), fault(|case| case.address = 255)];
+    if call == "write" {
+        let bytes = [0x1F, 0x20, 0x22, 0x3B, 0x40, 0x80, 0xA9, 0xFF];
+        all.extend(bytes.iter().map(|&byte| {
+            fault(move |case: &mut Case| {
+                case.address = if case.address > 7 { case.address } else { 1 };
+                case.byte = byte;
+            })
+        }));
+    }
+    all
+}
+
+fn video_faults() -> Vec<Fault> {
+    let mut all = vec![fault(|case| case.strike = 16), fault(|case| case.strike = 255)];
+    all.extend([0, 5, 13, 255].iter().map(|&dots| fault(move |case: &mut Case| case.dots = dots)));
+    all
+}
+
+fn asked_faults(call: &str) -> Vec<Fault> {
+    match call {
+        "line_draw" => vec![fault(|case| case.line = 6), fault(|case| case.line = u32::MAX)],
+        _ => vec![fault(|case| case.row = 2), fault(|case| case.row = u32::MAX)],
+    }
+}
+
+fn faults_of(call: &str) -> Vec<Fault> {
+    let parts: Vec<Vec<Fault>> = match call {
+        "page_check" | "page_size" | "board_of" => vec![numbers_faults(), page_faults()],
+        "page_read" => vec![of_file(call), sizes("numbers", 32), memory_faults()],
+        "page_write" => vec![numbers_faults(), memory_faults(), page_faults(), too_short("out", PAGE_FILE)],
+        "font_read" => vec![of_file(call), font_faults()],
+        "line_draw" => {
+            let lent = vec![numbers_faults(), memory_faults(), font_faults()];
+            let asked = vec![page_faults(), asked_faults(call), too_short("out", 48)];
+            lent.into_iter().chain(asked).collect()
+        }
+        "row_run" => vec![numbers_faults(), sizes("chars", 16384), page_faults(), asked_faults(call)],
+        // what these three do not judge stands here too: the place, 4, 5, and for the first the pointer
+        "set_video" => {
+            vec![address_faults(), video_faults(), strike_faults(), timing_faults(), pointer_faults(), place_faults()]
+        }
+        "write" | "read" => vec![page_faults(), pointer_faults(), register_faults(call), place_faults()],
+        "state_at" => vec![memory_faults(), page_faults(), pointer_faults(), place_faults()],
+        _ => vec![memory_faults(), font_faults(), page_faults(), pointer_faults(), place_faults()],
+    };
+    parts.into_iter().flatten().collect()
+}
+
+/// Which buffers a call is lent.
+fn lent_to(call: &str) -> &'static [&'static str] {
+    match call {
+        "page_check" | "page_size" | "board_of" => &BUFFERS[..1],
+        "page_read" => &["file", "numbers", "chars", "attrs"],
+        "page_write" => &["numbers", "chars", "attrs", "out"],
+        "font_read" => &["file", "words", "flags", "unshifted", "shifted"],
+        "line_draw" => &["numbers", "chars", "attrs", "words", "flags", "unshifted", "shifted", "out"],
+        "row_run" => &BUFFERS[..2],
+        "state_at" => &BUFFERS[1..3],
+        "step" => &BUFFERS[1..7],
+        _ => &[],
+    }
+}
+
+fn arguments(call: &str, case: &Case) -> String {
+    match call {
+        "line_draw" => format!(" {} 7", case.line),
+        "row_run" => format!(" {}", case.row),
+        "set_video" => format!(" {} {} 255 0", case.dots, case.strike),
+        "write" => format!(" {} {}", case.address, case.byte),
+        "read" => format!(" {}", case.address),
+        "state_at" => " 100".to_string(),
+        "step" => " 2".to_string(),
+        _ => String::new(),
+    }
+}
+
+/// A file's version and length, and a page file's numbers.
+fn file_head(call: &str, case: &Case) -> Vec<u8> {
+    let head = [vec![case.file_version], case.file_length.to_be_bytes().to_vec()].concat();
+    let page = if call == "page_read" { bytes_of(&case.board.page) } else { Vec::new() };
+    [head, page].concat()
+}
+
+/// The lines that make one buffer: random elements, and the page's bytes where it holds a page.
+fn buffer_lines(name: &str, call: &str, case: &Case) -> Vec<String> {
+    let index = BUFFERS.iter().position(|&one| one == name).expect("a buffer's name");
+    let size = match case.sizes[index] {
+        Some(size) => size,
+        None => return vec![format!("none {}", name)],
+    };
+    let mut lines = vec![format!("fill {} {} {}", name, size, 1_000_000_007 + index)];
+    let head = match name {
+        "numbers" if call != "page_read" => [vec![case.version], bytes_of(&case.board.page)].concat(),
+        "file" => file_head(call, case),
+        _ => Vec::new(),
+    };
+    let room = head.len().min(size);
+    if room > 0 {
+        lines.push(format!("set {} 0 {}", name, hex(&head[..room])));
+    }
+    lines
+}
+
+/// Says again only what differs from the case before.
+struct Teller<'a> {
+    script: &'a mut Script,
+    call: &'static str,
+    told: Vec<Vec<String>>,
+}
+
+impl<'a> Teller<'a> {
+    fn tell(&mut self, case: &Case) {
+        for (index, name) in lent_to(self.call).iter().enumerate() {
+            let lines = buffer_lines(name, self.call, case);
+            // a buffer that an accepted call has written is made anew
+            if self.told[index] != lines || self.call.ends_with("_read") {
+                lines.iter().for_each(|line| self.script.say(line));
+                self.told[index] = lines;
+            }
+        }
+        if ["set_video", "write", "read", "state_at", "step"].contains(&self.call) {
+            self.script.say(format!("board {}", board_text(&case.board)));
+        }
+        self.script.say(format!("call {}{}", self.call, arguments(self.call, case)));
+    }
+}
+
+fn every_pair(script: &mut Script, call: &'static str, resets: u8) {
+    let faults = faults_of(call);
+    let mut teller = Teller { script, call, told: vec![Vec::new(); lent_to(call).len()] };
+    teller.tell(&base(call, resets));
+    for (at, one) in faults.iter().enumerate() {
+        for other in &faults[at..] {
+            let mut case = base(call, resets);
+            one(&mut case);
+            other(&mut case);
+            teller.tell(&case);
+        }
+    }
+    let mut case = base(call, resets);
+    faults.iter().for_each(|fault| fault(&mut case));
+    teller.tell(&case);
+}
+
+pub fn all() -> Vec<Maker> {
+    let alone = ["page_check", "page_size", "board_of", "page_read", "page_write", "font_read", "line_draw", "row_run"];
+    let with_board = ["set_video", "write", "read", "state_at", "step"];
+    let mut cases: Vec<(&'static str, u8)> = alone.iter().map(|&call| (call, 2)).collect();
+    for call in with_board {
+        cases.extend([0, 1, 2, 200].map(|resets| (call, resets)));
+    }
+    let maker = |(call, resets): (&'static str, u8)| -> Maker {
+        let write = move |script: &mut Script, _: &mut Dice| every_pair(script, call, resets);
+        (format!("faults-{}-{}", call, resets), Box::new(write))
+    };
+    cases.into_iter().map(maker).collect()
+}

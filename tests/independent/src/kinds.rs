@@ -1,0 +1,281 @@
+//! The random scripts, one kind after another.
+
+use crate::board::{Board, Page, Place};
+use crate::dice::{page, place_cells, Dice, Shape};
+use crate::files::{bytes_of, FONT_FILE, PAGE_FILE};
+use crate::make::Script;
+use crate::script::hex;
+use crate::stage::{cursor_in_sight, lines, set_up, show, states, table};
+
+pub type Kind = fn(&mut Script, &mut Dice);
+
+pub const KINDS: [(&str, Kind); 13] = [
+    ("sheet", sheet),
+    ("catalogue", catalogue),
+    ("boards", boards),
+    ("registers", by_registers),
+    ("sheet", sheet),
+    ("wide", wide),
+    ("files", files),
+    ("catalogue", catalogue),
+    ("inactive", inactive),
+    ("tall", tall),
+    ("sizes", sizes),
+    ("live", live),
+    ("screen", screen),
+];
+
+fn drawn(script: &mut Script, dice: &mut Dice, shape: Shape, resets: u8) {
+    let mut page = page(dice, shape);
+    place_cells(dice, &mut page);
+    page.switches &= !u8::from(dice.one_in(10));
+    let chars = script.chars(dice);
+    cursor_in_sight(dice, &mut page, &chars);
+    set_up(script, dice, &page, resets);
+    show(script, dice, &page);
+}
+
+pub fn sheet(script: &mut Script, dice: &mut Dice) {
+    let shape = Shape::small(dice);
+    drawn(script, dice, shape, 2);
+}
+
+fn inactive(script: &mut Script, dice: &mut Dice) {
+    let shape = Shape::small(dice);
+    let resets = dice.pick(&[0, 1, 1, 3, 200, 255]);
+    drawn(script, dice, shape, resets);
+}
+
+/// As large as a terminal's screen.
+pub fn screen(script: &mut Script, dice: &mut Dice) {
+    let (hact, rows) = (dice.between(40, 132), dice.between(12, 28));
+    let shape = Shape { hact, rows, lines: dice.between(8, 14), dots: dice.between(6, 12) };
+    drawn(script, dice, shape, 2);
+}
+
+pub fn wide(script: &mut Script, dice: &mut Dice) {
+    let hact = dice.pick(&[80, 132, 200, 255, 256]);
+    let shape = Shape { hact, rows: dice.between(1, 3), lines: dice.between(1, 4), dots: dice.between(6, 12) };
+    drawn(script, dice, shape, 2);
+}
+
+pub fn tall(script: &mut Script, dice: &mut Dice) {
+    let rows = dice.pick(&[24, 60, 127, 128]);
+    let shape = Shape { hact: dice.between(1, 4), rows, lines: dice.between(1, 3), dots: dice.between(6, 12) };
+    drawn(script, dice, shape, 2);
+}
+
+/// Rows that begin anywhere, at one another's cells, and at the ends of buffer and memory.
+pub fn catalogue(script: &mut Script, dice: &mut Dice) {
+    let shape = Shape::small(dice);
+    let mut page = page(dice, shape);
+    place_cells(dice, &mut page);
+    page.irs[2] |= 0x80;
+    page.start2 = dice.pick(&[page.start2, page.start2, 16383, 16380, page.start1]);
+    let mut chars = script.chars(dice);
+    let phrase = dice.between(0, 16383) as u16;
+    let back = dice.between(0, page.hact()) as u16;
+    let ends = [phrase, page.last_address().saturating_sub(back), 16383 - back, page.first_address(), phrase];
+    let starts: Vec<u16> = (0..page.rows()).map(|_| dice.pick(&ends)).collect();
+    if !dice.one_in(4) {
+        table(script, dice, &page, &mut chars, &starts);
+    }
+    cursor_in_sight(dice, &mut page, &chars);
+    set_up(script, dice, &page, 2);
+    show(script, dice, &page);
+}
+
+/// Boards of any bytes: mended ones with a few bytes disturbed, and some of pure chance.
+fn boards(script: &mut Script, dice: &mut Dice) {
+    script.chars(dice);
+    script.attrs(dice);
+    script.font(dice);
+    for _ in 0..30 {
+        let board = any_board(dice);
+        script.board(&board);
+        script.say(format!("call read {}", dice.between(0, 9)));
+        script.say(format!("call write {} {}", dice.between(0, 9), dice.byte()));
+        script.say("board");
+        script.say(format!("call write 1 {}", dice.pick(&[0, 0, 0x1E, 0x29, 0x28, 0x31, 0x30, 0x3D, 0x1F, 0x2A])));
+        script.say("board");
+        script.say(format!("call state_at {}", dice.between(0, u32::MAX)));
+        script.say("board");
+        script.say(format!("call step {}", dice.between(1, 40)));
+        script.say("board");
+        let (dots, strike) = (dice.pick(&[5, 6, 8, 12, 13]), dice.pick(&[0, 9, 15, 16]));
+        script.say(format!(
+            "call set_video {} {} {} {}",
+            dots,
+            strike,
+            dice.pick(&[0, 1, 128]),
+            dice.pick(&[0, 1, 255])
+        ));
+        script.say("call step 3");
+    }
+}
+
+fn any_board(dice: &mut Dice) -> Board {
+    let shape = Shape::small(dice);
+    let mut page = page(dice, shape);
+    place_cells(dice, &mut page);
+    let place = Place {
+        field: dice.byte(),
+        line: dice.between(0, page.vt() - 1),
+        clock: dice.between(0, page.ht() - 1),
+        address: dice.between(0, 16383) as u16,
+        row_start: dice.between(0, 16383) as u16,
+    };
+    let mut board = Board { page, place, pointer: dice.between(0, 14) as u8, resets: dice.pick(&[0, 1, 2, 200, 255]) };
+    if dice.one_in(3) {
+        board.place.clock = 0;
+        board.place.line = dice.between(0, page.visible_lines() - 1);
+    }
+    for _ in 0..dice.pick(&[0, 0, 0, 1, 1, 2, 60]) {
+        disturb(dice, &mut board);
+    }
+    board
+}
+
+fn disturb(dice: &mut Dice, board: &mut Board) {
+    let (wide, address) = (dice.pick(&[0, 1, 5, 13, 255, 256, 2153, u32::MAX]), dice.pick(&[0, 16383, 16384, 65535]));
+    match dice.between(0, 11) {
+        0 => board.page.start1 = address,
+        1 => board.page.cursor = address,
+        2 => board.page.start2 = address,
+        3 => board.page.switches = dice.byte(),
+        4 => board.page.dots = wide,
+        5 => board.page.strike = dice.pick(&[15, 16, 255]),
+        6 => board.place.line = wide,
+        7 => board.place.clock = wide,
+        8 => board.place.address = address,
+        9 => board.place.row_start = address,
+        10 => board.pointer = dice.pick(&[14, 15, 16, 255]),
+        _ => board.page.irs[dice.between(0, 14) as usize] = dice.byte(),
+    }
+}
+
+/// The page is brought to the board register by register, then drawn.
+fn by_registers(script: &mut Script, dice: &mut Dice) {
+    let shape = Shape::small(dice);
+    let mut page = page(dice, shape);
+    place_cells(dice, &mut page);
+    page.switches = page.switches & !3 | dice.pick(&[1, 3, 3]);
+    let chars = script.chars(dice);
+    cursor_in_sight(dice, &mut page, &chars);
+    script.attrs(dice);
+    script.font(dice);
+    script.numbers(&page);
+    script.say("call power");
+    script.say(format!("call write 1 {}", dice.pick(&[0, 41, 16])));
+    script.say("call write 1 0");
+    script.say("call read 3");
+    script.say("call write 1 0");
+    bring(script, dice, &page);
+    script.say("frame");
+    states(script, dice, &page);
+}
+
+/// IRs, addresses with upper bits that are not kept, the video setting, and at last display and cursor together or one by one.
+fn bring(script: &mut Script, dice: &mut Dice, page: &Page) {
+    script.say(format!("call write 1 {}", 0x10));
+    for ir in page.irs {
+        script.say(format!("call write 0 {}", ir));
+    }
+    let again = dice.between(0, 14);
+    script.say(format!("call write 1 {}", 0x10 + again));
+    script.say(format!("call write 0 {}", page.irs[again as usize]));
+    let [s1, c, s2] = [page.start1, page.cursor, page.start2].map(u16::to_be_bytes);
+    for (address, byte) in [(3, s1[0]), (2, s1[1]), (4, c[1]), (5, c[0]), (7, s2[0]), (6, s2[1])] {
+        script.say(format!(
+            "call write {} {}",
+            address,
+            byte | if address % 2 == 1 { dice.pick(&[0, 0xC0]) } else { 0 }
+        ));
+        script.say(format!("call read {}", address));
+    }
+    let on = |bit: u8| page.switches >> bit & 1;
+    script.say(format!("call set_video {} {} {} {}", page.dots, page.strike, on(2), on(3)));
+    let commands: &[u8] = match (on(1), dice.one_in(2)) {
+        (1, true) => &[0x28, 0x3D],
+        (1, false) => &[0x31, 0x2D],
+        (_, true) => &[0x38, 0x29],
+        (_, false) => &[0x29, 0x30],
+    };
+    commands.iter().for_each(|command| script.say(format!("call write 1 {}", command)));
+}
+
+/// An editor that steps and writes in turn, in the middle of lines and frames.
+fn live(script: &mut Script, dice: &mut Dice) {
+    let shape = Shape::small(dice);
+    let mut page = page(dice, shape);
+    place_cells(dice, &mut page);
+    script.chars(dice);
+    set_up(script, dice, &page, 2);
+    script.say("frame");
+    for _ in 0..25 {
+        match dice.between(0, 6) {
+            0 => script.say(format!("call write {} {}", dice.between(2, 7), dice.byte())),
+            1 => script.say(format!("call write 1 {}", dice.pick(&[0x28, 0x29, 0x30, 0x31, 0x38, 0x39, 0x2C, 0]))),
+            2 => script.say(format!("call write 1 {}", 0x16 + dice.between(0, 8))),
+            3 => script.say(format!("call write 0 {}", dice.byte())),
+            4 => script.say(format!(
+                "call set_video {} {} {} 0",
+                dice.between(6, 12),
+                dice.between(0, 15),
+                dice.byte() & 1
+            )),
+            5 => script.say(format!("set chars {} {}", dice.between(0, 16380), hex(&[dice.byte(), dice.byte()]))),
+            _ => script.say(format!("set attrs {} {}", dice.between(0, 16380), hex(&[dice.byte(), dice.byte()]))),
+        }
+        script.say(format!("call step {}", dice.between(1, page.ht() * 3)));
+    }
+}
+
+/// Page and font files with a few bytes disturbed, read and then drawn.
+fn files(script: &mut Script, dice: &mut Dice) {
+    let shape = Shape::small(dice);
+    let mut page = page(dice, shape);
+    place_cells(dice, &mut page);
+    let sizes = [("numbers", 32), ("chars", 16384), ("attrs", 16384), ("words", 1152), ("flags", 128)];
+    for (buffer, size) in sizes.into_iter().chain([("unshifted", 9), ("shifted", 9)]) {
+        script.say(format!("fill {} {} {}", buffer, size, dice.seed()));
+    }
+    let font_size = dice.pick(&[FONT_FILE, FONT_FILE, FONT_FILE, FONT_FILE - 1, FONT_FILE + 1]);
+    script.say(format!("fill file {} {}", font_size, dice.seed()));
+    script.say("set file 0 0100000992");
+    script.say("call font_read");
+    script.say(format!("fill file {} {}", PAGE_FILE, dice.seed()));
+    for _ in 0..6 {
+        script.say(format!("set file 0 0100008018{}", hex(&bytes_of(&page))));
+        script.say(format!("set file {} {}", dice.between(0, 28), hex(&[dice.byte()])));
+        script.say("call page_read");
+    }
+    script.say(format!("set file 0 0100008018{}", hex(&bytes_of(&page))));
+    script.say("call page_read");
+    script.say("call board_of");
+    script.say("frame");
+    script.say(format!("fill out {} {}", PAGE_FILE + dice.between(0, 9) as usize, dice.seed()));
+    script.say("call page_write");
+}
+
+/// Right and wrong sizes of everything.
+fn sizes(script: &mut Script, dice: &mut Dice) {
+    let shape = Shape::small(dice);
+    let page = page(dice, shape);
+    let board = Board { resets: dice.pick(&[0, 1, 2, 200]), ..Board::of_page(page) };
+    script.chars(dice);
+    set_up(script, dice, &page, board.resets);
+    script.say("frame");
+    script.board(&board);
+    let right = [("chars", 16384), ("attrs", 16384), ("words", 1152), ("flags", 128), ("unshifted", 9), ("shifted", 9)];
+    for _ in 0..8 {
+        let (buffer, size) = dice.pick(&right);
+        let wrong = dice.pick(&[0, 1, 7, size - 1, size + 1, 2 * size, 4 * size + 1]);
+        script.say(format!("fill {} {} {}", buffer, wrong, dice.seed()));
+        script.say("call step 2");
+        script.say(format!("call state_at {}", dice.seed()));
+        script.say(format!("call row_run {}", dice.between(0, page.rows())));
+        lines(script, dice, &page);
+        script.say(format!("fill {} {} {}", buffer, size, dice.seed()));
+    }
+}

@@ -1,0 +1,62 @@
+//! 01's listing program, and the same page as a picture file.
+
+use crate::calls;
+use crate::files::{NUMBERS, PAGE_FILE};
+use crate::script::Buffers;
+
+/// "The listing program reads a page file (32,797 bytes), then a font file (the rest)"
+pub fn listing(input: &[u8]) -> String {
+    let (page, font) = input.split_at(PAGE_FILE.min(input.len()));
+    let lines = match drawn(page, font, 0) {
+        Ok(lines) => lines,
+        Err(refusal) => return format!("refused {}\n", refusal),
+    };
+    // "visible lines, one space, dots in a line"
+    let mut text = format!("{} {}\n", lines.len(), lines[0].len());
+    for line in lines {
+        // "black `.`, gray `o`, white `#`"
+        text.extend(line.iter().map(|&level| ['.', 'o', '#'][usize::from(level)]));
+        text.push('\n');
+    }
+    text
+}
+
+/// A gray picture (PGM): black 0, gray 170, white 255, as examples/draw.c writes.
+pub fn pgm(page: &[u8], font: &[u8], field: u8) -> Result<Vec<u8>, u32> {
+    let lines = drawn(page, font, field)?;
+    let mut picture = format!("P5\n{} {}\n255\n", lines[0].len(), lines.len()).into_bytes();
+    for line in lines {
+        picture.extend(line.iter().map(|&level| [0, 170, 255][usize::from(level)]));
+    }
+    Ok(picture)
+}
+
+/// "A refused page or font prints `refused N`, page first."
+fn drawn(page: &[u8], font: &[u8], field: u8) -> Result<Vec<Vec<u8>>, u32> {
+    let mut b = Buffers {
+        numbers: vec![0; NUMBERS],
+        chars: vec![0; 16384],
+        attrs: vec![0; 16384],
+        words: vec![0; 1152],
+        flags: vec![0; 128],
+        unshifted: vec![0; 9],
+        shifted: vec![0; 9],
+        ..Buffers::default()
+    };
+    accepted(calls::page_read(page, &mut b.numbers, &mut b.chars, &mut b.attrs))?;
+    accepted(calls::font_read(font, &mut b.words, &mut b.flags, &mut b.unshifted, &mut b.shifted))?;
+    let (_, lines, dots) = calls::page_size(&b.numbers);
+    let draw = |line: u32| {
+        let mut out = vec![0; dots as usize];
+        accepted(calls::line_draw(&b.numbers, &b.lent(), line, field, &mut out)).map(|()| out)
+    };
+    (0..lines).map(draw).collect()
+}
+
+fn accepted(refusal: u32) -> Result<(), u32> {
+    if refusal == 0 {
+        Ok(())
+    } else {
+        Err(refusal)
+    }
+}

@@ -1,0 +1,101 @@
+//! Makes scripts from a seed: first a fixed list that meets every call, answer and corner of 01 by name, then
+//! random ones of every kind without end.
+
+use std::io::Write;
+
+use crate::board::{Board, Page};
+use crate::dice::Dice;
+use crate::files::numbers_of;
+use crate::script::{board_text, filled, hex};
+use crate::{corners, faults, kinds};
+
+pub struct Script {
+    pub text: String,
+}
+
+/// A script's name and what writes it.
+pub type Maker = (String, Box<dyn Fn(&mut Script, &mut Dice)>);
+
+pub fn make(seed: u64, count: u64, first: u64, output: &mut dyn Write) -> Result<(), String> {
+    let fixed = fixed();
+    for number in first..first + count {
+        let mut dice = Dice::new(seed, number);
+        let script = match fixed.get(number as usize) {
+            Some((name, maker)) => written(&format!("{}-{}", number, name), &mut dice, maker),
+            None => {
+                let (name, maker) = kinds::KINDS[number as usize % kinds::KINDS.len()];
+                written(&format!("{}-{}", number, name), &mut dice, &maker)
+            }
+        };
+        output.write_all(script.text.as_bytes()).map_err(|error| error.to_string())?;
+    }
+    Ok(())
+}
+
+/// How many scripts the fixed list has.
+pub fn fixed_count() -> u64 {
+    fixed().len() as u64
+}
+
+fn fixed() -> Vec<Maker> {
+    let mut all = corners::all();
+    all.extend(faults::all());
+    all
+}
+
+pub fn written(name: &str, dice: &mut Dice, maker: &dyn Fn(&mut Script, &mut Dice)) -> Script {
+    let mut script = Script { text: String::new() };
+    script.say(format!("script {}", name));
+    maker(&mut script, dice);
+    script
+}
+
+impl Script {
+    pub fn say(&mut self, line: impl AsRef<str>) {
+        self.text.push_str(line.as_ref());
+        self.text.push('\n');
+    }
+
+    pub fn numbers(&mut self, page: &Page) {
+        self.say("fill numbers 32 0");
+        self.say(format!("set numbers 0 {}", hex(&numbers_of(page)[..25])));
+    }
+
+    pub fn board(&mut self, board: &Board) {
+        self.say(format!("board {}", board_text(board)));
+    }
+
+    /// Character memory of random bytes, given back for the maker's own use.
+    pub fn chars(&mut self, dice: &mut Dice) -> Vec<u8> {
+        let seed = dice.seed();
+        self.say(format!("fill chars 16384 {}", seed));
+        filled(16384, seed)
+    }
+
+    /// Some pages have every attribute, some none that hides.
+    pub fn attrs(&mut self, dice: &mut Dice) {
+        self.say(format!("fill attrs 16384 {}", dice.seed()));
+        self.say(format!("mask attrs {}", dice.pick(&["ff", "ff", "fd", "f9", "bf", "9d"])));
+    }
+
+    /// Words with bits that do not count, flags of 0 and not 0, lists with upper halves that do not count.
+    pub fn font(&mut self, dice: &mut Dice) {
+        self.say(format!("fill words 1152 {}", dice.seed()));
+        self.say(format!("fill flags 128 {}", dice.seed()));
+        self.say(format!("mask flags {}", dice.pick(&["01", "80", "03"])));
+        for list in ["unshifted", "shifted"] {
+            self.say(format!("fill {} 9 {}", list, dice.seed()));
+            if dice.one_in(2) {
+                let from = dice.between(0, 7);
+                let lines: Vec<u8> = (0..9).map(|line| (from + line) as u8 + dice.pick(&[0, 0x10, 0xF0])).collect();
+                self.say(format!("set {} 0 {}", list, hex(&lines)));
+            }
+        }
+    }
+
+    /// One frame by steps and by lines, beginning with this field of all since clock 0.
+    pub fn frame_of(&mut self, page: &Page, field: u32) {
+        self.say(format!("call state_at {}", field * page.frame_clocks()));
+        self.say("frame");
+    }
+}

@@ -1,0 +1,227 @@
+//! tests/SCRIPTS.md: the generator, sums, a board as text, and the buffers that a script lends.
+
+use crate::board::{Board, Font, Lent, Page, Place};
+
+/// xorshift32; seed 0 gives zeros for ever.
+pub struct Generator(pub u32);
+
+impl Generator {
+    pub fn next(&mut self) -> u32 {
+        self.0 ^= self.0 << 13;
+        self.0 ^= self.0 >> 17;
+        self.0 ^= self.0 << 5;
+        self.0
+    }
+}
+
+/// A byte of a buffer, or a word of the font's words.
+pub trait Element: Copy {
+    const BITS: u32;
+    fn of(number: u32) -> Self;
+    fn number(self) -> u32;
+}
+
+impl Element for u8 {
+    const BITS: u32 = 8;
+    fn of(number: u32) -> u8 {
+        number as u8
+    }
+    fn number(self) -> u32 {
+        self.into()
+    }
+}
+
+impl Element for u16 {
+    const BITS: u32 = 16;
+    fn of(number: u32) -> u16 {
+        number as u16
+    }
+    fn number(self) -> u32 {
+        self.into()
+    }
+}
+
+/// COUNT elements, each the upper bits of the generator's next number.
+pub fn filled<E: Element>(count: usize, seed: u32) -> Vec<E> {
+    let mut generator = Generator(seed);
+    (0..count).map(|_| E::of(generator.next() >> (32 - E::BITS))).collect()
+}
+
+#[derive(Clone, Copy)]
+pub struct Sum(pub u64);
+
+impl Sum {
+    pub fn new() -> Sum {
+        Sum(14695981039346656037)
+    }
+
+    pub fn add(&mut self, number: u32) {
+        self.0 = (self.0 ^ u64::from(number)).wrapping_mul(1099511628211);
+    }
+
+    pub fn of<E: Element>(elements: &[E]) -> Sum {
+        let mut sum = Sum::new();
+        elements.iter().for_each(|element| sum.add(element.number()));
+        sum
+    }
+}
+
+pub fn hex(bytes: &[u8]) -> String {
+    bytes.iter().map(|byte| format!("{:02x}", byte)).collect()
+}
+
+pub fn number(text: &str) -> Result<u32, String> {
+    text.parse().map_err(|_| format!("no number: {}", text))
+}
+
+pub fn small(text: &str) -> Result<u8, String> {
+    text.parse().map_err(|_| format!("no number below 256: {}", text))
+}
+
+/// As many hex digits as an element has are one element.
+fn elements<E: Element>(text: &str) -> Result<Vec<E>, String> {
+    let digits = (E::BITS / 4) as usize;
+    if !text.is_ascii() || text.len() % digits != 0 {
+        return Err(format!("no hex elements: {}", text));
+    }
+    let one = |at: usize| u32::from_str_radix(&text[at..at + digits], 16).map(E::of);
+    let all: Result<_, _> = (0..text.len()).step_by(digits).map(one).collect();
+    all.map_err(|_| format!("no hex elements: {}", text))
+}
+
+pub fn board_text(board: &Board) -> String {
+    let (page, place) = (&board.page, &board.place);
+    let mut bytes = page.irs.to_vec();
+    for address in [page.start1, page.cursor, page.start2] {
+        bytes.extend(address.to_be_bytes());
+    }
+    bytes.push(page.switches);
+    bytes.extend(page.dots.to_be_bytes());
+    bytes.extend([page.strike, place.field]);
+    bytes.extend(place.line.to_be_bytes());
+    bytes.extend(place.clock.to_be_bytes());
+    bytes.extend(place.address.to_be_bytes());
+    bytes.extend(place.row_start.to_be_bytes());
+    bytes.extend([board.pointer, board.resets]);
+    hex(&bytes)
+}
+
+pub fn board_of_text(text: &str) -> Result<Board, String> {
+    let b: Vec<u8> = elements(text)?;
+    if b.len() != 42 {
+        return Err(format!("a board has 84 hex digits: {}", text));
+    }
+    let two = |at: usize| u16::from_be_bytes([b[at], b[at + 1]]);
+    let four = |at: usize| u32::from_be_bytes([b[at], b[at + 1], b[at + 2], b[at + 3]]);
+    let mut irs = [0; 15];
+    irs.copy_from_slice(&b[..15]);
+    let page =
+        Page { irs, start1: two(15), cursor: two(17), start2: two(19), switches: b[21], dots: four(22), strike: b[26] };
+    let place = Place { field: b[27], line: four(28), clock: four(32), address: two(36), row_start: two(38) };
+    Ok(Board { page, place, pointer: b[40], resets: b[41] })
+}
+
+/// What a script's calls are lent: "none" is an empty buffer here.
+#[derive(Default)]
+pub struct Buffers {
+    pub numbers: Vec<u8>,
+    pub chars: Vec<u8>,
+    pub attrs: Vec<u8>,
+    pub words: Vec<u16>,
+    pub flags: Vec<u8>,
+    pub unshifted: Vec<u8>,
+    pub shifted: Vec<u8>,
+    pub file: Vec<u8>,
+    pub out: Vec<u8>,
+}
+
+impl Buffers {
+    fn bytes(&mut self, name: &str) -> Result<&mut Vec<u8>, String> {
+        Ok(match name {
+            "numbers" => &mut self.numbers,
+            "chars" => &mut self.chars,
+            "attrs" => &mut self.attrs,
+            "flags" => &mut self.flags,
+            "unshifted" => &mut self.unshifted,
+            "shifted" => &mut self.shifted,
+            "file" => &mut self.file,
+            "out" => &mut self.out,
+            _ => return Err(format!("no buffer of bytes: {}", name)),
+        })
+    }
+
+    pub fn lent(&self) -> Lent<'_> {
+        let font = Font { words: &self.words, flags: &self.flags, unshifted: &self.unshifted, shifted: &self.shifted };
+        Lent { chars: &self.chars, attrs: &self.attrs, font }
+    }
+
+    /// Obeys an order that is about buffers alone; false where it is another one.
+    pub fn obey(&mut self, words: &[&str]) -> Result<bool, String> {
+        match *words {
+            ["none", buffer] => self.fill(buffer, 0, 0)?,
+            ["fill", buffer, count, seed] => self.fill(buffer, number(count)? as usize, number(seed)?)?,
+            ["set", buffer, at, digits] => self.set(buffer, number(at)? as usize, digits)?,
+            ["mask", buffer, digits] => self.mask(buffer, digits)?,
+            ["take", buffer, from, count] => self.take(buffer, from, number(count)? as usize)?,
+            _ => return Ok(false),
+        }
+        Ok(true)
+    }
+
+    pub fn fill(&mut self, name: &str, count: usize, seed: u32) -> Result<(), String> {
+        match name {
+            "words" => self.words = filled(count, seed),
+            _ => *self.bytes(name)? = filled(count, seed),
+        }
+        Ok(())
+    }
+
+    fn set(&mut self, name: &str, at: usize, text: &str) -> Result<(), String> {
+        match name {
+            "words" => put(&mut self.words, at, text),
+            _ => put(self.bytes(name)?, at, text),
+        }
+    }
+
+    fn mask(&mut self, name: &str, text: &str) -> Result<(), String> {
+        let bits = u32::from_str_radix(text, 16).map_err(|_| format!("no hex mask: {}", text))?;
+        match name {
+            "words" => keep(&mut self.words, bits),
+            _ => keep(self.bytes(name)?, bits),
+        }
+        Ok(())
+    }
+
+    fn take(&mut self, name: &str, from: &str, count: usize) -> Result<(), String> {
+        let taken = self.bytes(from)?.get(..count).map(<[u8]>::to_vec);
+        *self.bytes(name)? = taken.ok_or_else(|| format!("{} is shorter than {}", from, count))?;
+        Ok(())
+    }
+
+    /// "NAME COUNT SUM" for each buffer named.
+    pub fn report(&mut self, names: &[&str]) -> Result<String, String> {
+        let mut text = String::new();
+        for &name in names {
+            let (count, sum) = match name {
+                "words" => (self.words.len(), Sum::of(&self.words)),
+                _ => {
+                    let bytes = self.bytes(name)?;
+                    (bytes.len(), Sum::of(bytes))
+                }
+            };
+            text += &format!(" {} {} {:016x}", name, count, sum.0);
+        }
+        Ok(text)
+    }
+}
+
+fn put<E: Element>(buffer: &mut [E], at: usize, text: &str) -> Result<(), String> {
+    let elements: Vec<E> = elements(text)?;
+    let place = buffer.get_mut(at..at + elements.len()).ok_or("set reaches past the buffer")?;
+    place.copy_from_slice(&elements);
+    Ok(())
+}
+
+fn keep<E: Element>(buffer: &mut [E], bits: u32) {
+    buffer.iter_mut().for_each(|element| *element = E::of(element.number() & bits));
+}

@@ -1,0 +1,240 @@
+//! The second way: a line, a row start or a state worked out at once, as on paper. It shares nothing with
+//! `machine`: levels are looked up in 000's Table 1 as it is printed, dots are written as text, and a row
+//! start is found by moving row x HACT times, one by one.
+
+use crate::board::{Lent, Page, Place};
+
+/// "a whole line from page, memories, font, line and field count"
+pub fn line(page: &Page, lent: &Lent, line: u32, field: u8) -> Vec<u8> {
+    if !page.display_switch() {
+        return vec![blanked(page); page.line_dots()];
+    }
+    let row = line / page.lines_per_row();
+    let scan_line = line % page.lines_per_row();
+    let mut address = row_start(page, lent.chars, row);
+    let mut out = Vec::with_capacity(page.line_dots());
+    for _column in 0..page.hact() {
+        out.extend(cell(page, lent, address, scan_line, field));
+        address = moved(page, address, 1);
+    }
+    out
+}
+
+/// "First line of a row: the row table entry if the table is on; else screen start 1 for row 0; else it
+/// carries on."
+pub fn row_start(page: &Page, chars: &[u8], row: u32) -> u16 {
+    if page.row_table_on() {
+        let at = |n: u32| u32::from(chars[((u32::from(page.start2) + 2 * row + n) % 16384) as usize]);
+        ((at(1) % 64) * 256 + at(0)) as u16
+    } else {
+        moved(page, page.start1, row * page.hact())
+    }
+}
+
+/// "the row's first run of cells [..]: from the row start to the row's end, the last buffer address or
+/// 16383, whichever is first met": where it begins and how many cells it has.
+pub fn run(page: &Page, chars: &[u8], row: u32) -> (u16, u32) {
+    let first = row_start(page, chars, row);
+    let mut count = 1;
+    let mut address = first;
+    while count < page.hact() && address != page.last_address() && address != 16383 {
+        address += 1;
+        count += 1;
+    }
+    (first, count)
+}
+
+/// What clock n shows.
+#[derive(PartialEq, Eq, Debug)]
+pub struct Moment {
+    /// HSYNC, VSYNC, BLANK, CURSOR, BLINK
+    pub signals: [bool; 5],
+    pub address: u16,
+    pub dots: Vec<u8>,
+}
+
+pub fn moment(page: &Page, display_on: bool, lent: &Lent, n: u32) -> Moment {
+    let place = place_at(page, lent.chars, n);
+    let across = part(place.clock, [page.hact(), page.hfp() as u32, page.hsync(), page.hbp() as u32]);
+    let down = part(place.line, [page.visible_lines(), page.vfp(), page.vsync(), page.vbp()]);
+    let active = (across, down) == (0, 0);
+    let row = place.line / page.lines_per_row();
+    let scan_line = place.line % page.lines_per_row();
+    let loaded = active && place.clock == 0;
+    let address = if loaded { row_start(page, lent.chars, row) } else { place.address };
+    let shown = active && display_on;
+    let cursor = active && cursor_here(page, address, scan_line, place.field);
+    Moment {
+        signals: [across == 2, down == 2, !shown, cursor, blink_high(page, place.field)],
+        address,
+        dots: if shown {
+            cell(page, lent, address, scan_line, place.field)
+        } else {
+            vec![blanked(page); page.dots as usize]
+        },
+    }
+}
+
+/// "A line runs active, front porch, sync, back porch; a frame likewise in lines": in which of the four a
+/// count stands.
+fn part(count: u32, lengths: [u32; 4]) -> usize {
+    let mut end = 0;
+    let ends = lengths.map(|length| {
+        end += length;
+        end
+    });
+    ends.iter().position(|&end| count < end).expect("the four parts are the whole")
+}
+
+/// The place for clock n "from n's quotients and remainders by frame and line".
+pub fn place_at(page: &Page, chars: &[u8], n: u32) -> Place {
+    let frame = n / page.frame_clocks();
+    let line = n % page.frame_clocks() / page.ht();
+    let clock = n % page.ht();
+    let (address, row_start) = held(page, chars, frame, line, clock);
+    Place { field: (frame % 256) as u8, line, clock, address, row_start }
+}
+
+/// The address that stands before the step at this place, and the row start it came from: both are of the
+/// last visible line on which an active clock has passed, and 0 before there was one.
+fn held(page: &Page, chars: &[u8], frame: u32, line: u32, clock: u32) -> (u16, u16) {
+    let visible = page.visible_lines();
+    let (passed, moves) = if line < visible && clock > 0 {
+        (line, clock.min(page.hact()))
+    } else if line > 0 {
+        (line.min(visible) - 1, page.hact())
+    } else if frame > 0 {
+        (visible - 1, page.hact())
+    } else {
+        return (0, 0);
+    };
+    let start = row_start(page, chars, passed / page.lines_per_row());
+    (moved(page, start, moves), start)
+}
+
+/// "after the last buffer address comes the first; otherwise add 1, and 16383 is followed by 0"
+fn moved(page: &Page, from: u16, times: u32) -> u16 {
+    let mut address = from;
+    for _ in 0..times {
+        address = match address {
+            last if last == page.last_address() => page.first_address(),
+            other => (other + 1) % 16384,
+        };
+    }
+    address
+}
+
+/// 000 Table 1 where BLANK is 0: BKGND, REVERSE, AHILT, non-display; symbol, surround.
+const TABLE_1: [([u8; 4], [char; 2]); 16] = [
+    ([0, 0, 0, 0], ['G', 'B']),
+    ([0, 0, 0, 1], ['B', 'B']),
+    ([0, 0, 1, 0], ['W', 'B']),
+    ([0, 0, 1, 1], ['B', 'B']),
+    ([0, 1, 0, 0], ['B', 'G']),
+    ([0, 1, 0, 1], ['G', 'G']),
+    ([0, 1, 1, 0], ['B', 'W']),
+    ([0, 1, 1, 1], ['W', 'W']),
+    ([1, 0, 0, 0], ['B', 'G']),
+    ([1, 0, 0, 1], ['G', 'G']),
+    ([1, 0, 1, 0], ['B', 'W']),
+    ([1, 0, 1, 1], ['W', 'W']),
+    ([1, 1, 0, 0], ['G', 'B']),
+    ([1, 1, 0, 1], ['B', 'B']),
+    ([1, 1, 1, 0], ['W', 'B']),
+    ([1, 1, 1, 1], ['B', 'B']),
+];
+
+/// "Levels are 0, 1, 2."
+fn level(letter: char) -> u8 {
+    "BGW".find(letter).expect("Table 1 has three letters") as u8
+}
+
+/// 000 Table 1 where BLANK is 1.
+fn blanked(page: &Page) -> u8 {
+    level(match (page.rblank(), page.bkgnd()) {
+        (false, false) => 'B',
+        (false, true) => 'G',
+        (true, _) => 'B',
+    })
+}
+
+fn cell(page: &Page, lent: &Lent, address: u16, scan_line: u32, field: u8) -> Vec<u8> {
+    let attribute = Attribute::of(lent.attrs[usize::from(address)]);
+    let cursor = cursor_here(page, address, scan_line, field);
+    let hidden = attribute.blank == 1 || attribute.blink == 1 && blink_high(page, field);
+    let key = [u8::from(page.bkgnd()), attribute.reverse ^ u8::from(cursor), attribute.highlight, u8::from(hidden)];
+    let (_, [symbol, surround]) = TABLE_1.iter().find(|(inputs, _)| *inputs == key).expect("Table 1 has every row");
+    let underline = attribute.underline == 1 && scan_line == page.underline_line();
+    let strike = attribute.strike == 1 && scan_line == u32::from(page.strike);
+    let pattern = if underline || strike {
+        "1".repeat(page.dots as usize)
+    } else {
+        pattern(&ten_dots(lent, lent.chars[usize::from(address)], scan_line), page.dots as usize)
+    };
+    pattern.chars().map(|dot| level(if dot == '1' { *symbol } else { *surround })).collect()
+}
+
+/// "BLINK is high in the fourth quarter of its period"
+fn blink_high(page: &Page, field: u8) -> bool {
+    u32::from(field) * 4 / page.blink_fields() % 4 == 3
+}
+
+/// "Attribute byte: bit 0 reverse, 1 blank, 2 blink, 3 underline, 4 highlight, 5 strike, 7 AFLG."
+#[derive(Default)]
+struct Attribute {
+    reverse: u8,
+    blank: u8,
+    blink: u8,
+    underline: u8,
+    highlight: u8,
+    strike: u8,
+}
+
+impl Attribute {
+    fn of(byte: u8) -> Attribute {
+        if byte < 128 {
+            return Attribute::default();
+        }
+        Attribute {
+            reverse: byte % 2,
+            blank: byte / 2 % 2,
+            blink: byte / 4 % 2,
+            underline: byte / 8 % 2,
+            highlight: byte / 16 % 2,
+            strike: byte / 32 % 2,
+        }
+    }
+}
+
+/// "The same cell shown twice has two cursors": only the address tells.
+fn cursor_here(page: &Page, address: u16, scan_line: u32, field: u8) -> bool {
+    let lines = page.cursor_first()..=page.cursor_last();
+    let first_half = u32::from(field) * 2 / page.cursor_fields() % 2 == 0;
+    page.cursor_on() && address == page.cursor && lines.contains(&scan_line) && (first_half || !page.cursor_blinks())
+}
+
+/// D0 to D9 of a character on a scan line, as ten letters 0 and 1.
+fn ten_dots(lent: &Lent, code: u8, scan_line: u32) -> String {
+    let none = "0".repeat(10);
+    if code < 128 {
+        return none;
+    }
+    let character = usize::from(code) - 128;
+    let list = if lent.font.flags[character] == 0 { lent.font.unshifted } else { lent.font.shifted };
+    match list.iter().position(|number| u32::from(number % 16) == scan_line) {
+        Some(position) => {
+            let word = lent.font.words[character * 9 + position] % 1024;
+            format!("{:010b}", word).chars().rev().collect()
+        }
+        None => none,
+    }
+}
+
+/// "six to twelve a cell, D0 first; with 11 or 12 a zero before D0; with 12 a zero after D9"
+fn pattern(ten: &str, dots: usize) -> String {
+    match dots {
+        11 => format!("0{}", ten),
+        12 => format!("0{}0", ten),
+        fewer => ten[..fewer].to_string(),
+    }
+}

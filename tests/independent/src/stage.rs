@@ -1,0 +1,80 @@
+//! What a drawing script sets up before its frame, and the calls that it makes after it.
+
+use crate::board::{Board, Page};
+use crate::dice::Dice;
+use crate::make::Script;
+use crate::script::hex;
+use crate::sheet;
+
+/// Field counts at which blinking things change, and some past 255.
+const FIELDS: [u32; 22] =
+    [0, 1, 15, 16, 31, 32, 47, 48, 63, 64, 95, 96, 127, 128, 191, 192, 223, 224, 255, 256, 257, 300];
+
+/// Writes these row starts as a row table at screen start 2; upper bits that do not count are set at random.
+pub fn table(script: &mut Script, dice: &mut Dice, page: &Page, chars: &mut [u8], starts: &[u16]) {
+    for (row, start) in starts.iter().enumerate() {
+        let entry = [(start % 256) as u8, (start / 256) as u8 | dice.pick(&[0, 0x40, 0x80, 0xC0])];
+        for (byte, value) in entry.iter().enumerate() {
+            let at = (usize::from(page.start2) + 2 * row + byte) % 16384;
+            script.say(format!("set chars {} {}", at, hex(&[*value])));
+            chars[at] = *value;
+        }
+    }
+}
+
+/// Puts the cursor on a cell that is shown.
+pub fn cursor_in_sight(dice: &mut Dice, page: &mut Page, chars: &[u8]) {
+    let row = dice.between(0, page.rows() - 1);
+    let column = dice.between(0, page.hact() - 1);
+    page.cursor = match column {
+        0 => sheet::row_start(page, chars, row),
+        _ => sheet::place_at(page, chars, row * page.lines_per_row() * page.ht() + column).address,
+    };
+}
+
+/// Attributes, font and numbers beside the character memory that is there; then a board of this power state.
+/// An inactive board draws with its display off, so its numbers say that it is off.
+pub fn set_up(script: &mut Script, dice: &mut Dice, page: &Page, resets: u8) {
+    script.attrs(dice);
+    script.font(dice);
+    if resets < 2 {
+        script.numbers(&Page { switches: page.switches & !1, ..*page });
+        script.board(&Board { resets, ..Board::of_page(*page) });
+    } else {
+        script.numbers(page);
+        script.say("call page_check");
+        script.say("call board_of");
+    }
+}
+
+/// A whole frame, then runs, lines, states and steps here and there.
+pub fn show(script: &mut Script, dice: &mut Dice, page: &Page) {
+    let field = dice.pick(&FIELDS);
+    script.frame_of(page, field);
+    for _ in 0..3 {
+        script.say(format!("call row_run {}", dice.between(0, page.rows())));
+    }
+    lines(script, dice, page);
+    states(script, dice, page);
+}
+
+/// Lines into buffers that are just long enough, longer, and too short.
+pub fn lines(script: &mut Script, dice: &mut Dice, page: &Page) {
+    for extra in [0, dice.between(1, 40) as i32, -1] {
+        let room = page.line_dots() as i32 + extra;
+        script.say(format!("fill out {} {}", room, dice.seed()));
+        let line = dice.between(0, page.visible_lines() - 1);
+        script.say(format!("call line_draw {} {}", line, dice.byte()));
+    }
+}
+
+/// States within the first frames and far away, and steps from there.
+pub fn states(script: &mut Script, dice: &mut Dice, page: &Page) {
+    let frame = page.frame_clocks();
+    let row = page.lines_per_row() * page.ht();
+    let edges = [frame - 1, row * dice.between(1, page.rows()) - 1, page.hact() - 1, frame + page.ht() - 1];
+    for n in [dice.pick(&edges), dice.between(0, 2 * frame), dice.between(0, u32::MAX)] {
+        script.say(format!("call state_at {}", n));
+        script.say(format!("call step {}", dice.between(1, 3 * page.hact())));
+    }
+}

@@ -1,0 +1,89 @@
+//! Compares this program's two ways with each other: every clock of a frame, every line, states far away.
+
+use crate::board::{Board, Font, Lent};
+use crate::dice::{page, place_cells, Dice, Shape};
+use crate::script::filled;
+use crate::{machine, sheet};
+
+#[derive(Default)]
+pub struct Compared {
+    pub clocks: u64,
+    pub lines: u64,
+    pub states: u64,
+}
+
+pub fn compare(seed: u64, pages: u64) -> Result<Compared, String> {
+    let mut compared = Compared::default();
+    for number in 0..pages {
+        let mut dice = Dice::new(seed, number);
+        one_page(&mut dice, &mut compared).map_err(|what| format!("page {} of seed {}: {}", number, seed, what))?;
+    }
+    Ok(compared)
+}
+
+fn one_page(dice: &mut Dice, compared: &mut Compared) -> Result<(), String> {
+    let shape = Shape::small(dice);
+    let mut page = page(dice, shape);
+    place_cells(dice, &mut page);
+    page.irs[2] |= dice.pick(&[0, 0x80]);
+    page.switches &= !u8::from(dice.one_in(8));
+    let memory = |dice: &mut Dice| -> Vec<u8> { filled(16384, dice.seed()) };
+    let (chars, attrs) = (memory(dice), memory(dice));
+    let words: Vec<u16> = filled(1152, dice.seed());
+    let flags: Vec<u8> = (0..128).map(|_| dice.pick(&[0, 1, 128])).collect();
+    let lists: Vec<u8> = filled(18, dice.seed());
+    let font = Font { words: &words, flags: &flags, unshifted: &lists[..9], shifted: &lists[9..] };
+    let lent = Lent { chars: &chars, attrs: &attrs, font };
+    page.cursor = sheet::row_start(&page, &chars, dice.between(0, page.rows() - 1));
+    let board = Board { resets: dice.pick(&[0, 1, 2, 2, 2, 200]), ..Board::of_page(page) };
+    whole_frame(dice, &board, &lent, compared)?;
+    far_states(dice, &board, &lent, compared)
+}
+
+fn whole_frame(dice: &mut Dice, board: &Board, lent: &Lent, compared: &mut Compared) -> Result<(), String> {
+    let page = &board.page;
+    let begin = dice.between(0, 300) * page.frame_clocks();
+    let mut walked = machine::state_at(board, lent.chars, begin);
+    let field = walked.place.field;
+    let mut dots = Vec::new();
+    for n in begin..begin + page.frame_clocks() {
+        let visible = walked.place.line < page.visible_lines() && walked.place.clock < page.hact();
+        let shown = machine::step(&mut walked, lent);
+        let s = shown.signals;
+        let stepped = sheet::Moment {
+            signals: [s.hsync, s.vsync, s.blank, s.cursor, s.blink],
+            address: shown.address,
+            dots: shown.dots[..page.dots as usize].to_vec(),
+        };
+        if stepped != sheet::moment(page, board.display_on(), lent, n) {
+            return Err(format!("clock {}", n));
+        }
+        if visible {
+            dots.extend(&stepped.dots);
+        }
+        compared.clocks += 1;
+    }
+    if !board.active() {
+        return Ok(());
+    }
+    let lines: Vec<u8> = (0..page.visible_lines()).flat_map(|line| sheet::line(page, lent, line, field)).collect();
+    compared.lines += u64::from(page.visible_lines());
+    if lines == dots {
+        Ok(())
+    } else {
+        Err(format!("lines of field {}", field))
+    }
+}
+
+fn far_states(dice: &mut Dice, board: &Board, lent: &Lent, compared: &mut Compared) -> Result<(), String> {
+    let frame = board.page.frame_clocks();
+    let near_end = u32::MAX - dice.between(0, frame);
+    for n in [0, 1, frame - 1, frame, frame + 1, 255 * frame + 3, 256 * frame - 1, 256 * frame, near_end, u32::MAX] {
+        let place = sheet::place_at(&board.page, lent.chars, n);
+        if machine::state_at(board, lent.chars, n) != (Board { place, ..*board }) {
+            return Err(format!("state {}", n));
+        }
+        compared.states += 1;
+    }
+    Ok(())
+}
