@@ -16,10 +16,11 @@ use Rattle.refusal.specs.Laws.{not-refused, passed}
 use Rattle.board.specs.declared.Page.{Page}
 use Rattle.board.specs.declared.Board.{Board}
 use Rattle.board.specs.State.{clockZero}
+use Rattle.board.specs.Range.{memoriesRefused}
 use Rattle.timing.specs.Check.{pageCheck, stateRefused, callCheck}
 use Rattle.shape.specs.Font.{Font, fontRefused}
 use Rattle.files.specs.Page.{wordAt, pageAt, numbersIn}
-use Rattle.files.specs.File.{longAt, versionRefused, lengthRefused, fileCheck, memoriesRefused, readCheck, pageRead, readOf, charsRead, attrsRead, headOf, fileOf, writeCheck, written}
+use Rattle.files.specs.File.{longAt, versionRefused, lengthRefused, fileCheck, readCheck, pageRead, readOf, charsRead, attrsRead, headOf, fileOf, writeCheck, written}
 use Rattle.files.specs.FontFile.{fontCheck, fontIn, fontRead, fontWriteCheck, fontWritten}
 use Rattle.files.specs.Laws.{sized, length-part, FilePassed, file-passed, head-all, write-passed}
 use Rattle.files.specs.Round.{Bytes, page-again, page-kept, numbers-page}

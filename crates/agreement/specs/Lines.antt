@@ -23,9 +23,8 @@ use Rattle.timing.specs.Laws.{accepted-good}
 use Rattle.fetch.specs.Rows.{feedIn, tallyIn, cellAt}
 use Rattle.fetch.specs.Laws.{fed, tallied}
 use Rattle.shape.specs.Font.{Font}
-use Rattle.shape.specs.Laws.{word-of-small}
 use Rattle.video.specs.Scene.{sceneOf}
-use Rattle.video.specs.Width.{length-cell}
+use Rattle.line.specs.Length.{length-dots}
 use Rattle.line.specs.Line.{dotsAt, columnDots, lineDots, lineLength, lentRefused, drawCheck, drawnOf}
 use Rattle.clock.specs.declared.Carried.{Carried}
 use Rattle.clock.specs.Place.{shapeIn, carrierIn, rowsIn, carriedOf, loadedIn, placeAt}
@@ -110,12 +109,8 @@ module _ (b : Board) (chars attrs : List ℕ) (f : Font) (ok : stepCheck b chars
     abbrev stepDots : ℕ → List ℕ
     stepDots c = take (b .page .video .dots .0) (stepOf (after b chars attrs f (clockOf b k l c)) chars attrs f .dots)
 
-    length-dots : (c : ℕ) → length (columnDots b chars attrs f l (k % 256) c) ≡ b .page .video .dots .0
-    unfolding columnDots dotsAt
-    length-dots c = length-cell _ _ (b .page .video .dots .0) (word-of-small f _ _) (fits b chars attrs f ok .page .most)
-
     same-dots : (c : ℕ) → c < hactOf (b .page .irs) → stepDots c ≡ columnDots b chars attrs f l (k % 256) c
-    same-dots c hc = rw (dots-are k l c hl hc) (take-at _ _ (b .page .video .dots .0) (length-dots c))
+    same-dots c hc = rw (dots-are k l c hl hc) (take-at _ _ (b .page .video .dots .0) (length-dots b chars attrs f l (k % 256) (fits b chars attrs f ok .page) c))
 
     -- the dots of the active clocks of line l of frame k, end to end
     pub stepped-line : joined 0 (hactOf (b .page .irs)) stepDots ≡ lineDots b chars attrs f l (k % 256)

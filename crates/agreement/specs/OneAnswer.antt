@@ -18,7 +18,7 @@ use Rattle.board.specs.declared.Page.{Page}
 use Rattle.board.specs.declared.Place.{Place}
 use Rattle.board.specs.declared.Board.{Board}
 use Rattle.board.specs.State.{clockZero, powerOf}
-use Rattle.board.specs.Range.{startsRefused, addressRefused, cellsRefused, pointerRefused}
+use Rattle.board.specs.Range.{memoriesRefused, startsRefused, addressRefused, cellsRefused, pointerRefused}
 use Rattle.timing.specs.Fields.{timingOf, visibleOf, bufferOf, tableOf, cursorOf, underlineOf, blinkOf}
 use Rattle.timing.specs.Check.{reservedRefused, porchRefused, widthRefused, pageCheck, sizeOf, stateRefused, callCheck}
 use Rattle.fetch.specs.Run.{runCheck, spanOf, runOf}
@@ -30,7 +30,7 @@ use Rattle.video.specs.Look.{effective, lookOf}
 use Rattle.line.specs.Line.{lentRefused, drawCheck, drawnOf}
 use Rattle.clock.specs.Step.{stepOf, stateOf}
 use Rattle.files.specs.declared.PageRead.{PageRead}
-use Rattle.files.specs.File.{memoriesRefused, readCheck, charsRead, attrsRead, writeCheck, written}
+use Rattle.files.specs.File.{readCheck, charsRead, attrsRead, writeCheck, written}
 use Rattle.files.specs.File as page
 use Rattle.files.specs.FontFile.{fontCheck, fontRead, fontWriteCheck, fontWritten}
 use Rattle.listing_lines.specs.declared.Listed.{Listed}

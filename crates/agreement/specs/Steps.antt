@@ -1,13 +1,12 @@
 -- Promise 3: the state worked out at once for clock n is the state after n single steps. All of it speaks of the public `step` and `state_at`. Assumes nothing.
 use Prim.Native.Nat.{ℕ, zero, suc, _/_, _%_, _<_}
 use mathlib.Core.Path.{_≡_, refl, sym, ap, _∙_}
-use mathlib.Core.Bool.{Bool, false, _||_, not}
+use mathlib.Core.Bool.{Bool, false}
 use mathlib.Core.List.{List}
 use native.Mathlib.Nat.{mod-lt, zero-div, zero-mod}
 use native.Mathlib.Decide.{decLt}
 use native.Mathlib.Omega.{arith}
 use borrow.Author.Tests.{lt-leb, le-ltb, eq-eqb}
-use lib.Dec.{eqb}
 use lib.ListN.{length}
 use Rattle.refusal.specs.declared.Refusal.the-variants.{Done, Size}
 use Rattle.refusal.specs.Laws.{not-refused, passed}
@@ -18,6 +17,7 @@ use Rattle.raster.specs.Cells.{cells-lawful}
 use Rattle.board.specs.declared.Page.{Page}
 use Rattle.board.specs.declared.Board.{Board}
 use Rattle.board.specs.State.{clockZero}
+use Rattle.board.specs.Range.{memoriesRefused}
 use Rattle.timing.specs.Fields.{htOf, vtOf, visibleOf, shapeOf}
 use Rattle.timing.specs.Check.{pageCheck, stateRefused, callCheck}
 use Rattle.timing.specs.Laws.{Accepted, InRange, accepted-good, call-passed}
@@ -137,7 +137,7 @@ module _ (b : Board) (chars attrs : List ℕ) (f : Font) (ok : stepCheck b chars
 
   state-ok : stateCheck b chars attrs ≡ Done
   state-ok =
-      call-ok b (not (eqb (length chars) 16384) || not (eqb (length attrs) 16384)) (rw (eq-eqb _ _ (fits .chars-all), eq-eqb _ _ (fits .attrs-all))) page-ok
+      call-ok b (memoriesRefused (length chars) (length attrs)) (rw (eq-eqb _ _ (fits .chars-all), eq-eqb _ _ (fits .attrs-all))) page-ok
       (range-ok b (fits .state))
 
   -- the state for clock n answers 0 and is the board after n single steps from clock 0

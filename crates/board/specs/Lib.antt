@@ -1,3 +1,4 @@
 -- The record, and what its numbers may be.
 pub mod State
 pub mod Range
+pub mod Laws

@@ -1,10 +1,17 @@
--- Refusals 12 and 7 of 01's table, as far as they need no timing.
+-- Refusals 3, 12 and 7 of 01's table, as far as they need no timing.
 use Prim.Native.Nat.{ℕ}
-use mathlib.Core.Bool.{Bool, _||_}
-use lib.Dec.{ltb}
+use mathlib.Core.Bool.{Bool, _||_, not}
+use lib.Dec.{eqb, ltb}
 use Rattle.board.specs.declared.Starts.{Starts}
 use Rattle.board.specs.declared.Page.{Page}
 use Rattle.board.specs.declared.Place.{Place}
+
+-- 3: a lent memory of wrong size
+abbrev pub memoryRefused : ℕ → Bool
+memoryRefused n = not (eqb n 16384)
+
+abbrev pub memoriesRefused : (chars attrs : ℕ) → Bool
+memoriesRefused chars attrs = memoryRefused chars || memoryRefused attrs
 
 -- a start or cursor address above 16383
 abbrev pub startsRefused : Starts → Bool

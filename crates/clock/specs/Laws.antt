@@ -1,13 +1,13 @@
 -- The definitions as the code has them: one law for each way out of a function. Assumes nothing.
 use Prim.Native.Nat.{ℕ, zero, suc, _+_, _-_, _/_, _%_, _≤_, _<_}
 use mathlib.Core.Path.{_≡_, refl, sym, ap, _∙_}
-use mathlib.Core.Bool.{Bool, true, false, _&&_, _||_, not, true≢false}
+use mathlib.Core.Bool.{Bool, true, false, _&&_, true≢false}
 use mathlib.Core.List.{List, [], _∷_, _++_, map}
 use native.Mathlib.Nat.{div-lt-iff-lt-mul, sub-zero, not-suc-le-zero, le-of-suc-le-suc, suc-sub-suc}
 use native.Mathlib.Numerals.{sub-one}
 use native.Mathlib.Decide.{decLt}
 use native.Mathlib.Omega.{arith}
-use borrow.Author.Tests.{lt-ltb, le-ltb, eq-eqb, ne-eqb, ltb-true, eqb-true, not-false}
+use borrow.Author.Tests.{lt-ltb, le-ltb, eq-eqb, ne-eqb, ltb-true, eqb-true}
 use lib.Dec.{ltb, eqb}
 use lib.ListN.{length, getD, replicate, drop, length-map}
 use Rattle.lists.specs.Choice.{pick, pick-lt, both, neither}
@@ -19,6 +19,8 @@ use Rattle.raster.specs.Cells.{begins, movesOn}
 use Rattle.board.specs.declared.Page.{Page}
 use Rattle.board.specs.declared.Place.{Place}
 use Rattle.board.specs.declared.Board.{Board}
+use Rattle.board.specs.Range.{memoriesRefused}
+use Rattle.board.specs.Laws.{memories-all}
 use Rattle.timing.specs.declared.Timing.{Timing}
 use Rattle.timing.specs.Fields.{linesOf, rowsOf, hactOf, htOf, vtOf, tableOf, visibleOf, bufferOf, timingOf, shapeOf}
 use Rattle.timing.specs.Check.{callCheck}
@@ -328,13 +330,13 @@ module _ (b : Board) (chars attrs : List ℕ) (f : Font) where
   pub fit : callCheck b (lentRefused chars attrs f) false false ≡ Done → Fit b chars attrs f
   fit e =
       let k = call-passed b (lentRefused chars attrs f) false false e in
-      let m = neither (not (eqb (length chars) 16384) || not (eqb (length attrs) 16384)) (fontRefused f) (k .sized) in
-      let n = neither (not (eqb (length chars) 16384)) (not (eqb (length attrs) 16384)) (m .0) in
+      let m = neither (memoriesRefused (length chars) (length attrs)) (fontRefused f) (k .sized) in
+      let n = memories-all (length chars) (length attrs) (m .0) in
       record {
         page = k .page;
         state = k .state;
-        chars-all = eqb-true _ _ (not-false _ (n .0));
-        attrs-all = eqb-true _ _ (not-false _ (n .1));
+        chars-all = n .0;
+        attrs-all = n .1;
         font = font-whole f (m .1);
       }
 
@@ -364,5 +366,5 @@ module _ (b : Board) (chars attrs : List ℕ) (f : Font) where
 
 pub state-whole : (b : Board) (chars attrs : List ℕ) → stateCheck b chars attrs ≡ Done → length chars ≡ 16384
 state-whole b chars attrs e =
-    let k = call-passed b (not (eqb (length chars) 16384) || not (eqb (length attrs) 16384)) false false e in
-    eqb-true _ _ (not-false _ (neither (not (eqb (length chars) 16384)) (not (eqb (length attrs) 16384)) (k .sized) .0))
+    let k = call-passed b (memoriesRefused (length chars) (length attrs)) false false e in
+    memories-all (length chars) (length attrs) (k .sized) .0

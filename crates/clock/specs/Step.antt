@@ -1,9 +1,8 @@
 -- The step, and the state for clock n.
 use Prim.Native.Nat.{ℕ}
 use mathlib.Core.Path.{_≡_}
-use mathlib.Core.Bool.{false, _||_, not}
+use mathlib.Core.Bool.{false}
 use mathlib.Core.List.{List}
-use lib.Dec.{eqb}
 use lib.ListN.{length, replicate}
 use Rattle.lists.specs.Choice.{pick}
 use Rattle.refusal.specs.declared.Refusal.{Refusal}
@@ -11,6 +10,7 @@ use Rattle.refusal.specs.declared.Refusal.the-variants.{Done}
 use Rattle.refusal.specs.Number.{doneOf}
 use Rattle.board.specs.declared.Place.{Place}
 use Rattle.board.specs.declared.Board.{Board}
+use Rattle.board.specs.Range.{memoriesRefused}
 use Rattle.timing.specs.Check.{callCheck}
 use Rattle.timing.specs.Laws.{Accepted, InRange}
 use Rattle.shape.specs.Font.{Font, Whole}
@@ -55,7 +55,7 @@ stepOf b chars attrs f =
 
 -- 3 for the memories, 12, 4, 5, 6, 7
 abbrev pub stateCheck : Board → (chars attrs : List ℕ) → Refusal
-stateCheck b chars attrs = callCheck b (not (eqb (length chars) 16384) || not (eqb (length attrs) 16384)) false false
+stateCheck b chars attrs = callCheck b (memoriesRefused (length chars) (length attrs)) false false
 
 abbrev pub stated : Refusal → Board → StateAt
 stated r b = record { refusal = r; board = b }

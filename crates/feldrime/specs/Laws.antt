@@ -12,9 +12,10 @@ use Rattle.refusal.specs.declared.Refusal.{Refusal}
 use Rattle.refusal.specs.declared.Refusal.the-variants.{Done, Size}
 use Rattle.refusal.specs.Number.{doneOf}
 use Rattle.refusal.specs.Laws.{passed}
+use Rattle.board.specs.Range.{memoriesRefused}
 use Rattle.timing.specs.Check.{pageCheck}
 use Rattle.files.specs.Page.{pageAt, numbersIn}
-use Rattle.files.specs.File.{memoriesRefused, readCheck}
+use Rattle.files.specs.File.{readCheck}
 use Rattle.files.specs.Laws.{sized, FilePassed, file-passed}
 use Rattle.feldrime.specs.declared.Answer.{Answer}
 use Rattle.feldrime.specs.Numbers.{numbersRefused}

@@ -8,10 +8,11 @@ use Rattle.refusal.specs.declared.Refusal.{Refusal}
 use Rattle.refusal.specs.declared.Refusal.the-variants.{Size}
 use Rattle.refusal.specs.Number.{doneOf}
 use Rattle.board.specs.State.{powerOf}
+use Rattle.board.specs.Range.{memoriesRefused}
 use Rattle.timing.specs.Check.{pageCheck, sizeOf}
 use Rattle.fetch.specs.Run.{spanOf}
 use Rattle.files.specs.Page.{pageAt, numbersIn}
-use Rattle.files.specs.File.{memoriesRefused, readCheck, writeCheck, written}
+use Rattle.files.specs.File.{readCheck, writeCheck, written}
 use Rattle.feldrime.specs.declared.SizeAnswer.{SizeAnswer}
 use Rattle.feldrime.specs.declared.RunAnswer.{RunAnswer}
 use Rattle.feldrime.specs.declared.BoardAnswer.{BoardAnswer}

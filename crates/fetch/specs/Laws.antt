@@ -1,12 +1,12 @@
 -- What callers use of the fetch: an accepted page's cells are the beam's, and a run is empty on a refusal and only there. Assumes nothing.
 use Prim.Native.Nat.{ℕ, min, _+_, _-_, _*_, _^_, _≤_, _<_}
 use mathlib.Core.Path.{_≡_, refl}
-use mathlib.Core.Bool.{Bool, true, false, not}
+use mathlib.Core.Bool.{Bool, true, false}
 use mathlib.Core.List.{List}
 use native.Mathlib.Nat.{mul-le-mul}
 use native.Mathlib.Omega.{arith}
-use borrow.Author.Tests.{leb-false, eqb-true, not-false}
-use lib.Dec.{eqb, leb}
+use borrow.Author.Tests.{leb-false}
+use lib.Dec.{leb}
 use lib.ListN.{length, take, drop, length-drop}
 use lib.Seq.{length-take-le}
 use Rattle.lists.specs.Choice.{pick}
@@ -18,6 +18,8 @@ use Rattle.raster.specs.Moves.{advanceBy, advanceBy-lt}
 use Rattle.raster.specs.Cells.{Fed, Tallied, startOf, cellOf, start-lt, cell-zero}
 use Rattle.board.specs.declared.Page.{Page}
 use Rattle.board.specs.declared.Board.{Board}
+use Rattle.board.specs.Range.{memoryRefused}
+use Rattle.board.specs.Laws.{memory-all}
 use Rattle.timing.specs.Fields.{rowsOf, hactOf, tableOf, bufferOf, shapeOf}
 use Rattle.timing.specs.Laws.{Accepted, call-passed}
 use Rattle.timing.specs.Feed.{accepted-fed, accepted-tallied}
@@ -80,8 +82,8 @@ pub record Run (b : Board) (n row : ℕ) : Type 0 where
 pub run-passed : (b : Board) (n row : ℕ) → runCheck b n row ≡ Done → Run b n row
 unfolding runCheck
 run-passed b n row e =
-    let k = call-passed b (not (eqb n 16384)) (leb (rowsOf (b .page .irs)) row) false e in
-    record { page = k .page; whole = eqb-true _ _ (not-false _ (k .sized)); row-lt = leb-false _ _ (k .in-reach) }
+    let k = call-passed b (memoryRefused n) (leb (rowsOf (b .page .irs)) row) false e in
+    record { page = k .page; whole = memory-all n (k .sized); row-lt = leb-false _ _ (k .in-reach) }
 
 count-some : (p : Page) (s : ℕ) → s < 16384 → 0 < runCount p s
 unfolding runCount

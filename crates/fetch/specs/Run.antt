@@ -1,8 +1,8 @@
 -- 01: the row's first run of cells, from the row start to the row's end, the last buffer address or 16383, whichever is first met.
 use Prim.Native.Nat.{ℕ, min, _+_, _-_}
-use mathlib.Core.Bool.{false, not}
+use mathlib.Core.Bool.{false}
 use mathlib.Core.List.{List}
-use lib.Dec.{eqb, leb}
+use lib.Dec.{leb}
 use lib.ListN.{length, take, drop}
 use Rattle.lists.specs.Choice.{pick}
 use Rattle.refusal.specs.declared.Refusal.{Refusal}
@@ -10,6 +10,7 @@ use Rattle.refusal.specs.Number.{doneOf}
 use Rattle.raster.specs.Moves.{toLast}
 use Rattle.board.specs.declared.Page.{Page}
 use Rattle.board.specs.declared.Board.{Board}
+use Rattle.board.specs.Range.{memoryRefused}
 use Rattle.timing.specs.Fields.{hactOf, rowsOf, bufferOf}
 use Rattle.timing.specs.Check.{callCheck}
 use Rattle.fetch.specs.declared.Span.{Span}
@@ -17,7 +18,7 @@ use Rattle.fetch.specs.Rows.{rowStart}
 
 -- 3 for a character memory of n cells, 12, 4, 5, 6, 7
 unfoldable pub runCheck : Board → (n row : ℕ) → Refusal
-runCheck b n row = callCheck b (not (eqb n 16384)) (leb (rowsOf (b .page .irs)) row) false
+runCheck b n row = callCheck b (memoryRefused n) (leb (rowsOf (b .page .irs)) row) false
 
 -- HACT cells to the row's end, so many to the last buffer address, so many to 16383
 unfoldable pub runCount : Page → ℕ → ℕ

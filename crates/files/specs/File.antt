@@ -11,6 +11,7 @@ use Rattle.refusal.specs.Number.{doneOf}
 use Rattle.board.specs.declared.Page.{Page}
 use Rattle.board.specs.declared.Board.{Board}
 use Rattle.board.specs.State.{powerOf}
+use Rattle.board.specs.Range.{memoriesRefused}
 use Rattle.timing.specs.Check.{pageCheck, callCheck}
 use Rattle.files.specs.declared.PageRead.{PageRead}
 use Rattle.files.specs.Page.{wordAt, pageAt, boardAt}
@@ -30,10 +31,6 @@ lengthRefused file n = not (eqb (length file) (n + 5)) || not (eqb (longAt file 
 -- 1, 2, 3 in this order, then the rest; n bytes follow the length, and size says that a lent part has a wrong size
 unfoldable pub fileCheck : List ℕ → (n : ℕ) → (size : Bool) → Refusal → Refusal
 fileCheck file n size rest = firstOf ((versionRefused file, Version) ∷ (lengthRefused file n, Length) ∷ (size, Size) ∷ []) rest
-
--- 3: a memory of wrong size
-abbrev pub memoriesRefused : (chars attrs : ℕ) → Bool
-memoriesRefused chars attrs = not (eqb chars 16384) || not (eqb attrs 16384)
 
 -- 1, 2, 3, then the page's own 12, 4, 5, 6
 unfoldable pub readCheck : List ℕ → (size : Bool) → Refusal

@@ -17,11 +17,13 @@ use Rattle.refusal.specs.Laws.{done-is, passed}
 use Rattle.board.specs.declared.Page.{Page}
 use Rattle.board.specs.declared.Board.{Board}
 use Rattle.board.specs.State.{powerOf}
+use Rattle.board.specs.Range.{memoriesRefused}
+use Rattle.board.specs.Laws.{memories-all}
 use Rattle.timing.specs.Check.{pageCheck}
 use Rattle.timing.specs.Laws.{call-passed}
 use Rattle.files.specs.Page.{pageAt, boardAt, numbersIn}
 use Rattle.files.specs.Put.{putAt, laid-none, put-on}
-use Rattle.files.specs.File.{longAt, versionRefused, lengthRefused, fileCheck, memoriesRefused, readCheck, pageRead, readOf, charsRead, attrsRead, bytesOf, headOf, fileOf, writeCheck, written}
+use Rattle.files.specs.File.{longAt, versionRefused, lengthRefused, fileCheck, readCheck, pageRead, readOf, charsRead, attrsRead, bytesOf, headOf, fileOf, writeCheck, written}
 
 -- a copy of all of s over a list of its length
 pub whole : (s d x : List ℕ) → length s ≡ length d → x ≡ take (length s) s ++ drop (length s) d → x ≡ s
@@ -75,11 +77,6 @@ module _ (file : List ℕ) (n : ℕ) (size : Bool) (rest : Refusal) where
       go false true s q = refl
       go false false true q = refl
       go false false false q = absurd (true≢false q)
-
-pub memories-all : (chars attrs : ℕ) → memoriesRefused chars attrs ≡ false → (chars ≡ 16384) × (attrs ≡ 16384)
-memories-all chars attrs e =
-    let n = neither (not (eqb chars 16384)) (not (eqb attrs 16384)) e in
-    (eqb-true _ _ (not-false _ (n .0)), eqb-true _ _ (not-false _ (n .1)))
 
 -- a page file that nothing refuses, and the memories that it goes to
 pub record Taken (file : List ℕ) (chars attrs : ℕ) : Type 0 where

@@ -1,3 +1,4 @@
 -- A whole line.
 pub mod Line
+pub mod Length
 pub mod Walk

@@ -1,14 +1,14 @@
 -- The line as the drawer goes along it, and that this is the line of `Line.antt`. Assumes nothing.
 use Prim.Native.Nat.{ℕ, min, _+_, _*_, _/_, _%_, _≤_, _<_}
 use mathlib.Core.Path.{_≡_, sym, ap, _∙_}
-use mathlib.Core.Bool.{true, false, _||_, not}
+use mathlib.Core.Bool.{true, false}
 use mathlib.Core.List.{List, _++_}
 use native.Mathlib.Nat.{div-lt-iff-lt-mul}
 use native.Mathlib.Numerals.{add-one}
 use native.Mathlib.Omega.{arith}
-use borrow.Author.Tests.{leb-false, ltb-false, eqb-true, not-false}
+use borrow.Author.Tests.{leb-false, ltb-false}
 use lib.ListN.{length, getD, drop}
-use lib.Dec.{eqb, ltb, leb}
+use lib.Dec.{ltb, leb}
 use Rattle.lists.specs.Choice.{neither}
 use Rattle.lists.specs.Join.{joined, same-joined}
 use Rattle.refusal.specs.declared.Refusal.the-variants.{Done}
@@ -17,6 +17,8 @@ use Rattle.raster.specs.declared.Buffer.{Buffer}
 use Rattle.raster.specs.declared.Cell.{Cell}
 use Rattle.raster.specs.Moves.{cell, Bounded, advance, advanceBy, advanceBy-lt, advanceBy-zero, advanceBy-suc}
 use Rattle.board.specs.declared.Board.{Board}
+use Rattle.board.specs.Range.{memoriesRefused}
+use Rattle.board.specs.Laws.{memories-all}
 use Rattle.timing.specs.declared.Timing.{Timing}
 use Rattle.timing.specs.Fields.{hactOf, rowsOf, linesOf, visibleOf, bufferOf, timingOf, shapeOf}
 use Rattle.timing.specs.Laws.{Accepted, call-passed, buffer-bounded}
@@ -117,13 +119,13 @@ pub draw-passed : (b : Board) (chars attrs : List ℕ) (f : Font) (line room : �
 unfolding drawCheck
 draw-passed b chars attrs f line room e =
     let k = call-passed b (lentRefused chars attrs f) (leb (visibleOf (b .page .irs) .0) line) (ltb room (lineLength b)) e in
-    let s = neither (not (eqb (length chars) 16384) || not (eqb (length attrs) 16384)) (fontRefused f) (k .sized) in
-    let m = neither (not (eqb (length chars) 16384)) (not (eqb (length attrs) 16384)) (s .0) in
+    let s = neither (memoriesRefused (length chars) (length attrs)) (fontRefused f) (k .sized) in
+    let m = memories-all (length chars) (length attrs) (s .0) in
     let some : 0 < linesOf (b .page .irs) = omega arith in
     record {
       page = k .page;
-      chars-all = eqb-true _ _ (not-false _ (m .0));
-      attrs-all = eqb-true _ _ (not-false _ (m .1));
+      chars-all = m .0;
+      attrs-all = m .1;
       font = font-whole f (s .1);
       row-lt = div-lt-iff-lt-mul some .1 (leb-false _ _ (k .in-reach));
       roomy = ltb-false _ _ (k .roomy);

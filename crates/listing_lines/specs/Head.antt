@@ -1,37 +1,26 @@
 -- What the proofs use of the listing's first line. Assumes nothing.
 use Prim.Native.Nat.{ℕ, _+_, _-_, _≤_, _<_}
 use mathlib.Core.Path.{_≡_, refl, sym, ap, _∙_}
-use mathlib.Core.Bool.{Bool, true, false}
+use mathlib.Core.Bool.{false}
 use mathlib.Core.List.{List, [], _∷_, _++_}
 use native.Mathlib.Omega.{arith}
 use borrow.Author.Tests.{lt-ltb, le-ltb, ltb-false}
 use lib.ListN.{length, take, drop, length-append, length-take}
 use lib.Dec.{ltb}
 use Rattle.lists.specs.Choice.{pick}
-use Rattle.units.specs.declared.Lines.{Lines}
-use Rattle.units.specs.declared.Dots.{Dots}
 use Rattle.refusal.specs.declared.Refusal.{Refusal}
 use Rattle.refusal.specs.declared.Refusal.the-variants.{Done, Room}
 use Rattle.refusal.specs.Number.{doneOf}
 use Rattle.refusal.specs.Laws.{passed, not-refused}
 use Rattle.board.specs.declared.Page.{Page}
 use Rattle.timing.specs.declared.Size.{Size as PageSize}
-use Rattle.timing.specs.Check.{pageCheck, sized, sizeOf}
+use Rattle.timing.specs.Check.{pageCheck, sizeOf}
 use Rattle.listing_lines.specs.declared.Digits.{Digits}
 use Rattle.listing_lines.specs.declared.Listed.{Listed}
 use Rattle.listing_lines.specs.Decimal.{Spelled}
 use Rattle.listing_lines.specs.Listing.{lineFeed, space, listingHead, headCheck, listedOf, listedIn}
 use Rattle.listing_lines.specs.Bytes.{two-parts}
 use Rattle.listing_lines.specs.Answers.{listed, refused-so, done-so, listed-within}
-
--- the refusal that comes with the size is the page's own
-pub size-refusal : (p : Page) → sizeOf p .refusal ≡ pageCheck p
-unfolding sizeOf
-size-refusal p = go (doneOf (pageCheck p)) _ _ _ _
-  where
-    go : (t : Bool) (l k : Lines) (d e : Dots) → (pick t (sized (pageCheck p) l d) (sized (pageCheck p) k e)) .refusal ≡ pageCheck p
-    go true l k d e = refl
-    go false l k d e = refl
 
 pub head-fits : (p : Page) (room : ℕ) → pageCheck p ≡ Done → length (listingHead p) ≤ room → headCheck p room ≡ Done
 unfolding headCheck

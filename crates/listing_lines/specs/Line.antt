@@ -1,15 +1,14 @@
 -- What the proofs use of a line of the listing. Assumes nothing.
-use Prim.Native.Nat.{ℕ, zero, suc, _+_, _-_, _*_, _≤_, _<_}
+use Prim.Native.Nat.{ℕ, _+_, _-_, _≤_, _<_}
 use mathlib.Core.Path.{_≡_, refl, sym, ap, _∙_}
 use mathlib.Core.Bool.{Bool, true, false}
 use mathlib.Core.List.{List, [], _∷_, _++_, map, append-assoc}
-use native.Mathlib.Nat.{zero-mul, suc-mul, mul-le-mul}
+use native.Mathlib.Nat.{mul-le-mul}
 use native.Mathlib.Omega.{arith}
 use borrow.Author.Tests.{lt-ltb, le-ltb, ltb-true, ltb-false}
 use lib.ListN.{length, take, drop, length-append, length-take, length-drop, length-map, take-append-drop}
 use lib.Seq.{take-at, drop-at, drop-drop, drop-append-le}
 use lib.Dec.{ltb, leb}
-use Rattle.lists.specs.Join.{joined}
 use Rattle.refusal.specs.declared.Refusal.{Refusal}
 use Rattle.refusal.specs.declared.Refusal.the-variants.{Done, Size}
 use Rattle.refusal.specs.Number.{doneOf}
@@ -20,9 +19,8 @@ use Rattle.timing.specs.Fields.{hactOf, visibleOf}
 use Rattle.timing.specs.Check.{pageCheck, sizeOf, callCheck}
 use Rattle.timing.specs.Laws.{Accepted, accepted, call-passed}
 use Rattle.shape.specs.Font.{Font}
-use Rattle.shape.specs.Laws.{word-of-small}
-use Rattle.video.specs.Width.{length-cell}
-use Rattle.line.specs.Line.{dotsAt, columnDots, lineDots, lineLength, lentRefused, drawCheck, drawnOf}
+use Rattle.line.specs.Length.{length-line}
+use Rattle.line.specs.Line.{lineDots, lineLength, lentRefused, drawCheck, drawnOf}
 use Rattle.listing_lines.specs.declared.Listed.{Listed}
 use Rattle.listing_lines.specs.Listing.{lineFeed, markOf, listingLine, lineCheck, listedOf, listedIn}
 use Rattle.listing_lines.specs.Answers.{listed, refused-so, done-so, listed-within}
@@ -56,20 +54,10 @@ feed-kept b size line room = room-last b size _ _ _ (λ e. one-less room (lineLe
 
 -- ---- its length
 
-length-joined : (c n d : ℕ) (g : ℕ → List ℕ) → ((k : ℕ) → length (g k) ≡ d) → length (joined c n g) ≡ n * d
-unfolding joined
-length-joined c zero d g h = sym (zero-mul d)
-length-joined c (suc n) d g h =
-    rw (length-append (g c) (joined (suc c) n g), h c, length-joined (suc c) n d g h, suc-mul n d) (omega arith)
-
 module _ (b : Board) (chars attrs : List ℕ) (f : Font) (line field : ℕ) (a : Accepted (b .page)) where
-  length-line : length (lineDots b chars attrs f line field) ≡ lineLength b
-  unfolding lineDots columnDots dotsAt
-  length-line = length-joined 0 _ (b .page .video .dots .0) _ (λ c. length-cell _ _ (b .page .video .dots .0) (word-of-small f _ _) (a .most))
-
   pub length-listing : length (listingLine b chars attrs f line field) ≡ lineLength b + 1
   unfolding listingLine
-  length-listing = simp (length-append, length-map, length-line)
+  length-listing = simp (length-append, length-map, length-line b chars attrs f line field a)
 
 -- ---- a line that nothing refuses
 

@@ -1,15 +1,16 @@
 -- Stretches put end to end, and the loop that lends each its own part of a buffer. Assumes nothing.
 --     joined                 f c, f (c + 1), .., n of them, end to end
 --     same-joined            stretches that agree one by one make the same list
+--     length-joined          n stretches of d are n * d long
 --     begins, turn, ends     the loop's proof, where every stretch is d long: what is left after c turns is `joined c (n - c) f`
 --     inside                 stretch c lies within the buffer
-use mathlib.Core.Path.{_≡_, refl, ap₂}
+use mathlib.Core.Path.{_≡_, refl, sym, ap₂}
 use mathlib.Core.List.{List, [], _++_}
 use Prim.Native.Nat.{ℕ, zero, suc, _+_, _*_, _-_, _≤_, _<_}
-use native.Mathlib.Nat.{zero-mul, add-mul, one-mul, sub-zero, mul-le-mul-right}
+use native.Mathlib.Nat.{zero-mul, suc-mul, add-mul, one-mul, sub-zero, mul-le-mul-right}
 use native.Mathlib.Numerals.{add-one}
 use native.Mathlib.Omega.{arith}
-use lib.ListN.{length, take, drop}
+use lib.ListN.{length, take, drop, length-append}
 use Rattle.lists.specs.Fill.{Filling, fill-start, fill-part, fill-end, lent}
 
 unfoldable pub joined : (from n : ℕ) → (ℕ → List ℕ) → List ℕ
@@ -29,6 +30,12 @@ inside c n d m h k =
     omega (arith, add-mul c 1 d, one-mul d, mul-le-mul-right d l)
 
 module _ (f : ℕ → List ℕ) (d : ℕ) (each : (c : ℕ) → length (f c) ≡ d) where
+  pub length-joined : (c n : ℕ) → length (joined c n f) ≡ n * d
+  unfolding joined
+  length-joined c zero = sym (zero-mul d)
+  length-joined c (suc n) =
+      rw (length-append (f c) (joined (suc c) n f), each c, length-joined (suc c) n, suc-mul n d) (omega arith)
+
   more : (c n : ℕ) → c < n → joined c (n - c) f ≡ f c ++ joined (c + 1) (n - (c + 1)) f
   unfolding joined
   more c n h = let e : n - c ≡ suc (n - (c + 1)) = omega arith in rw (e, add-one c)

@@ -1,15 +1,18 @@
 -- What callers use of the definitions: bounds that hold of any registers, and what an accepted page gives. Assumes nothing.
 use Prim.Native.Nat.{ℕ, _*_, _/_, _%_, _≤_, _<_}
 use mathlib.Core.Path.{_≡_, refl}
-use mathlib.Core.Bool.{Bool, false, _||_}
+use mathlib.Core.Bool.{Bool, true, false, _||_}
 use mathlib.Core.List.{List}
 use native.Mathlib.Nat.{mul-le-mul}
 use native.Mathlib.Omega.{arith}
 use borrow.Author.Tests.{ltb-false, leb-false, eqb-false}
 use lib.Dec.{eqb, ltb, leb}
-use Rattle.lists.specs.Choice.{neither, pick-le}
+use Rattle.lists.specs.Choice.{pick, neither, pick-le}
+use Rattle.units.specs.declared.Lines.{Lines}
+use Rattle.units.specs.declared.Dots.{Dots}
 use Rattle.units.specs.Units.{clocksOf}
 use Rattle.refusal.specs.declared.Refusal.the-variants.{Done, Size, Reserved, Porch, Width, Range, Room, Address}
+use Rattle.refusal.specs.Number.{doneOf}
 use Rattle.refusal.specs.Laws.{passed, not-refused}
 use Rattle.raster.specs.Moves.{Bounded}
 use Rattle.raster.specs.Raster.{Good}
@@ -17,7 +20,7 @@ use Rattle.board.specs.declared.Page.{Page}
 use Rattle.board.specs.declared.Board.{Board}
 use Rattle.board.specs.Range.{startsRefused, addressRefused, cellsRefused, pointerRefused}
 use Rattle.timing.specs.Fields.{ir, linesOf, rowsOf, hactOf, htOf, hfpOf, vsyncOf, vtOf, bufferOf, shapeOf}
-use Rattle.timing.specs.Check.{reservedRefused, porchRefused, widthRefused, pageCheck, stateRefused, callCheck}
+use Rattle.timing.specs.Check.{reservedRefused, porchRefused, widthRefused, pageCheck, sized, sizeOf, stateRefused, callCheck}
 
 -- ---- any registers
 
@@ -163,3 +166,12 @@ call-passed b size asked room e =
       in-reach = q .1;
       roomy = o .0;
     }
+
+-- the refusal that comes with the size is the page's own
+pub size-refusal : (p : Page) → sizeOf p .refusal ≡ pageCheck p
+unfolding sizeOf
+size-refusal p = go (doneOf (pageCheck p)) _ _ _ _
+  where
+    go : (t : Bool) (l k : Lines) (d e : Dots) → (pick t (sized (pageCheck p) l d) (sized (pageCheck p) k e)) .refusal ≡ pageCheck p
+    go true l k d e = refl
+    go false l k d e = refl

@@ -7,7 +7,8 @@ use lib.ListN.{length, length-take, length-drop}
 use Rattle.refusal.specs.Laws.{done-is, checked}
 use Rattle.timing.specs.declared.Size.{Size}
 use Rattle.timing.specs.Check.{pageCheck}
-use Rattle.listing_lines.specs.Head.{Measured, size-refusal, head-refused, head-short, head-put}
+use Rattle.timing.specs.Laws.{size-refusal}
+use Rattle.listing_lines.specs.Head.{Measured, head-refused, head-short, head-put}
 use Rattle.listing_lines.proofs.listing_head.Statement.{statement}
 use Rattle.listing_lines.proofs.listing_head.Tie as tie
 
