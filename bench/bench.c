@@ -222,8 +222,8 @@ static int boards_differ(const feldrime_board *a, const feldrime_board *b)
         || differ("the next field", a->place.field, b->place.field)
         || differ("the next line", a->place.line, b->place.line)
         || differ("the next clock in the line", a->place.clock, b->place.clock)
-        || differ("the next address", a->place.now, b->place.now)
-        || differ("the next row start", a->place.kept, b->place.kept)
+        || differ("the next address", a->place.beam.address, b->place.beam.address)
+        || differ("the next row start", a->place.row.address, b->place.row.address)
         || differ("the next pointer", a->pointer, b->pointer)
         || differ("the next count of resets", a->resets, b->resets);
 }

@@ -64,10 +64,10 @@ feldrime_step_answer plain_step(
 
     unsigned line = board->place.line;
     unsigned clock = board->place.clock;
-    unsigned at = board->place.now;
-    unsigned kept = board->place.kept;
+    unsigned at = board->place.beam.address;
+    unsigned row_start = board->place.row.address;
     unsigned field = board->place.field;
-    if (line >= vt || clock >= ht || at >= MEMORY || kept >= MEMORY || board->pointer > 14) {
+    if (line >= vt || clock >= ht || at >= MEMORY || row_start >= MEMORY || board->pointer > 14) {
         a.refusal = 7;
         return a;
     }
@@ -97,14 +97,14 @@ feldrime_step_answer plain_step(
 
         if (clock == 0) {
             if (scan != 0) {
-                at = kept;
+                at = row_start;
             } else if (ir[2] & 128) {
                 unsigned entry = start2 + 2 * row;
                 at = chars[entry % MEMORY] + (chars[(entry + 1) % MEMORY] & 63u) * 256;
             } else if (row == 0) {
                 at = start1;
             }
-            kept = at;
+            row_start = at;
         }
 
         a.cursor = switches & CURSOR && at == cursor && ir[6] >> 4 <= scan && scan <= (ir[6] & 15u)
@@ -144,8 +144,8 @@ feldrime_step_answer plain_step(
         bits >>= 1;
     }
 
-    board->place.now = next;
-    board->place.kept = kept;
+    board->place.beam.address = next;
+    board->place.row.address = row_start;
     if (clock + 1 < ht) {
         board->place.clock = clock + 1;
         return a;

@@ -211,7 +211,9 @@ typedef struct {
     struct {
         uint8_t field;
         uint32_t line, clock; /* line of the frame, clock of the line */
-        uint16_t now, kept;   /* the cell's address, and the row's start */
+        struct {
+            uint16_t address;
+        } beam, row; /* what the beam carries, and what its row began with */
     } place;
     uint8_t pointer; /* the IR that a write at address 0 goes to */
     uint8_t resets;  /* master resets in a row: 0 and 1 are an inactive board, 2 and above an active one */

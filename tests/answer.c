@@ -309,8 +309,8 @@ static feldrime_board unpacked(const uint8_t *from)
     b.place.field = (uint8_t)next_bytes(&from, 1);
     b.place.line = next_bytes(&from, 4);
     b.place.clock = next_bytes(&from, 4);
-    b.place.now = (uint16_t)next_bytes(&from, 2);
-    b.place.kept = (uint16_t)next_bytes(&from, 2);
+    b.place.beam.address = (uint16_t)next_bytes(&from, 2);
+    b.place.row.address = (uint16_t)next_bytes(&from, 2);
     b.pointer = (uint8_t)next_bytes(&from, 1);
     b.resets = (uint8_t)next_bytes(&from, 1);
     return b;
@@ -328,7 +328,7 @@ static const char *board_text(void)
     at += sprintf(at, "%08" PRIx32 "%02x%02x", board->page.video.dots, (unsigned)board->page.video.strike,
                   (unsigned)board->place.field);
     at += sprintf(at, "%08" PRIx32 "%08" PRIx32 "%04x%04x", board->place.line, board->place.clock,
-                  (unsigned)board->place.now, (unsigned)board->place.kept);
+                  (unsigned)board->place.beam.address, (unsigned)board->place.row.address);
     sprintf(at, "%02x%02x", (unsigned)board->pointer, (unsigned)board->resets);
     return text;
 }
@@ -542,8 +542,8 @@ static void add_step(void)
 {
     const feldrime_step_answer *a = &steps.last;
     const uint32_t before[] = { a->refusal, a->beside, a->hsync, a->vsync, a->blank, a->cursor, a->blink, a->address };
-    const uint32_t after[] = { board->place.field, board->place.line, board->place.clock, board->place.now,
-                               board->place.kept };
+    const uint32_t after[] = { board->place.field, board->place.line, board->place.clock, board->place.beam.address,
+                               board->place.row.address };
 
     for (size_t i = 0; i < sizeof before / sizeof *before; i++)
         steps.sum = add(steps.sum, before[i]);

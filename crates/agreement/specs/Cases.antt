@@ -12,7 +12,7 @@ use Rattle.board.specs.declared.Page.{Page}
 use Rattle.board.specs.declared.Board.{Board}
 use Rattle.board.specs.State.{clockZero}
 use Rattle.board.specs.Range.{addressRefused}
-use Rattle.timing.specs.Fields.{htOf, hfpOf, vtOf, bufferOf, cursorOf, shapeOf}
+use Rattle.timing.specs.Fields.{htOf, hfpOf, vtOf, bufferOf, cursorOf, countsOf}
 use Rattle.timing.specs.Check.{pageCheck}
 use Rattle.fetch.specs.Rows.{rowStart, cellAt}
 use Rattle.video.specs.declared.Look.{Look}
@@ -72,7 +72,7 @@ pub holds : Page → Fact → Bool
 holds p (HT n) = eqb (htOf (p .irs)) n
 holds p (HFP n) = eqb (hfpOf (p .irs)) n
 holds p (VT n) = eqb (vtOf (p .irs)) n
-holds p (frame n) = eqb ((clocksOf (shapeOf (p .irs) .vt) (shapeOf (p .irs) .ht)) .0) n
+holds p (frame n) = eqb ((clocksOf (countsOf (p .irs) .vt) (countsOf (p .irs) .ht)) .0) n
 holds p (answers n) = eqb (numberOf (pageCheck p)) n
 holds p (column r c a) = eqb (fetched p r c) a
 holds p (columns r n a) = run p r n a
@@ -122,5 +122,5 @@ cases =
     ∷ []
 
 pub worked : all cases ≡ true
-unfolding all cases true-of holds run fetched page board same ones look pageCheck addressRefused shapeOf bufferOf cursorOf rowStart cellAt startOf cellOf advance advanceBy toLast around sceneOf lookOf cellDots litBits cellBits lead bits xor
+unfolding all cases true-of holds run fetched page board same ones look pageCheck addressRefused countsOf bufferOf cursorOf rowStart cellAt startOf cellOf advance advanceBy toLast around sceneOf lookOf cellDots litBits cellBits lead bits xor
 worked = refl

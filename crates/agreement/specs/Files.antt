@@ -20,7 +20,7 @@ use Rattle.board.specs.Range.{memoriesRefused}
 use Rattle.timing.specs.Check.{pageCheck, stateRefused, callCheck}
 use Rattle.shape.specs.Font.{Font, fontRefused}
 use Rattle.files.specs.Page.{wordAt, pageAt, numbersIn}
-use Rattle.files.specs.File.{longAt, versionRefused, lengthRefused, fileCheck, readCheck, pageRead, readOf, charsRead, attrsRead, headOf, fileOf, writeCheck, written}
+use Rattle.files.specs.File.{longAt, versionRefused, lengthRefused, fileCheck, readCheck, pageRead, readPageOf, charsRead, attrsRead, headOf, fileOf, writeCheck, written}
 use Rattle.files.specs.FontFile.{fontCheck, fontIn, fontRead, fontWriteCheck, fontWritten}
 use Rattle.files.specs.Laws.{sized, length-part, FilePassed, file-passed, head-all, write-passed}
 use Rattle.files.specs.Round.{Bytes, page-again, page-kept, numbers-page}
@@ -42,7 +42,7 @@ abbrev pub atZero : Page → Board
 atZero p = record { page = p; place = clockZero; pointer = 0; resets = 2 }
 
 zero-ok : (p : Page) → stateRefused (atZero p) ≡ false
-zero-ok p = range-ok (atZero p) (record { line-lt = omega arith; clock-lt = omega arith; now-le = omega arith; kept-le = omega arith; pointer-le = omega arith })
+zero-ok p = range-ok (atZero p) (record { line-lt = omega arith; clock-lt = omega arith; beam-le = omega arith; row-le = omega arith; pointer-le = omega arith })
 
 write-ok : (p : Page) (n : ℕ) → pageCheck p ≡ Done → 32797 ≤ n → writeCheck (atZero p) 16384 16384 n ≡ Done
 unfolding writeCheck
@@ -72,9 +72,9 @@ module _ (file : List ℕ) (bytes : Bytes file) (size : Bool) (ok : readCheck fi
 
   -- the write answers 0, and out begins with the file
   pub page-same : (chars attrs out : List ℕ) → 32797 ≤ length out
-      → (writeCheck (readOf file size .board) (length (charsRead file size chars)) (length (attrsRead file size attrs)) (length out) ≡ Done)
-      × (written (readOf file size .board) (charsRead file size chars) (attrsRead file size attrs) out ≡ file ++ drop 32797 out)
-  unfolding readOf
+      → (writeCheck (readPageOf file size .board) (length (charsRead file size chars)) (length (attrsRead file size attrs)) (length out) ≡ Done)
+      × (written (readPageOf file size .board) (charsRead file size chars) (attrsRead file size attrs) out ≡ file ++ drop 32797 out)
+  unfolding readPageOf
   page-same chars attrs out l = rw ok (again chars attrs out l)
 
 -- ---- the same from C
@@ -139,8 +139,8 @@ module _ (b : Board) (irs-all : length (b .page .irs) ≡ 15) (chars attrs out :
 
   -- the file is read as that page at clock 0, and its memories are those that were written
   pub board-same : (c a file : List ℕ) → file ≡ take 32797 (written b chars attrs out)
-      → (readOf file false ≡ pageRead Done (atZero (b .page))) × (charsRead file false c ≡ chars) × (attrsRead file false a ≡ attrs)
-  unfolding readOf charsRead attrsRead
+      → (readPageOf file false ≡ pageRead Done (atZero (b .page))) × (charsRead file false c ≡ chars) × (attrsRead file false a ≡ attrs)
+  unfolding readPageOf charsRead attrsRead
   board-same c a file e = rw (e ∙ file-is, read-ok) (rw page-is, chars-are, attrs-are)
 
 -- ---- a font file, read and written again

@@ -10,36 +10,36 @@ use Rattle.raster.specs.Moves.{cell, Inside}
 use Rattle.raster.specs.Frame.{just-then, no-sooner}
 use Rattle.raster.specs.Cells.{cells-inside}
 use Rattle.board.specs.declared.Board.{Board}
-use Rattle.timing.specs.Fields.{htOf, vtOf, hactOf, linesOf, visibleOf, tableOf, bufferOf, shapeOf}
+use Rattle.timing.specs.Fields.{htOf, vtOf, hactOf, linesOf, visibleOf, tableOf, bufferOf, countsOf}
 use Rattle.timing.specs.Laws.{accepted-good, buffer-bounded, frame-bound}
 use Rattle.fetch.specs.Rows.{feedIn, tallyIn, cellAt}
 use Rattle.shape.specs.Font.{Font}
-use Rattle.clock.specs.Place.{shapeIn, rowsIn, placeAt}
+use Rattle.clock.specs.Place.{countsIn, rowsIn, placeAt}
 use Rattle.clock.specs.Step.{stepCheck, stepOf}
 use Rattle.agreement.specs.Steps.{after, fits, steps-are}
 use Rattle.agreement.specs.Lines.{clockOf, address-is}
 
 -- the clocks of a frame
 abbrev pub frameClocks : Board → ℕ
-frameClocks b = (clocksOf (shapeOf (b .page .irs) .vt) (shapeOf (b .page .irs) .ht)) .0
+frameClocks b = (clocksOf (countsOf (b .page .irs) .vt) (countsOf (b .page .irs) .ht)) .0
 
 module _ (b : Board) (chars attrs : List ℕ) (f : Font) (ok : stepCheck b chars attrs f ≡ Done) where
   in-frame : frameClocks b ≡ htOf (b .page .irs) * vtOf (b .page .irs)
-  unfolding shapeOf
+  unfolding countsOf
   in-frame = mul-comm (vtOf (b .page .irs)) (htOf (b .page .irs))
 
   -- after a frame's clocks line and clock are 0 again
   pub frame-ends : (after b chars attrs f (frameClocks b) .place .line .0 ≡ 0) × (after b chars attrs f (frameClocks b) .place .clock .0 ≡ 0)
-  unfolding placeAt shapeOf
+  unfolding placeAt countsOf
   frame-ends =
       rw (steps-are b chars attrs f ok (frameClocks b), in-frame)
-      (just-then (shapeIn (b .page)) (rowsIn (b .page) chars) (accepted-good (b .page) (fits b chars attrs f ok .page)) (cell 0))
+      (just-then (countsIn (b .page)) (rowsIn (b .page) chars) (accepted-good (b .page) (fits b chars attrs f ok .page)) (cell 0))
 
   -- and no sooner
   pub frame-no-sooner : (n : ℕ) → n < frameClocks b → after b chars attrs f n .place .line .0 ≡ 0 → after b chars attrs f n .place .clock .0 ≡ 0 → n ≡ 0
-  unfolding placeAt shapeOf
+  unfolding placeAt countsOf
   frame-no-sooner n h p q =
-      no-sooner (shapeIn (b .page)) (rowsIn (b .page) chars) (accepted-good (b .page) (fits b chars attrs f ok .page)) (cell 0) n (rw in-frame at h)
+      no-sooner (countsIn (b .page)) (rowsIn (b .page) chars) (accepted-good (b .page) (fits b chars attrs f ok .page)) (cell 0) n (rw in-frame at h)
       (ap (λ (x : Board). x .place .line .0) (sym (steps-are b chars attrs f ok n)) ∙ p)
       (ap (λ (x : Board). x .place .clock .0) (sym (steps-are b chars attrs f ok n)) ∙ q)
 

@@ -18,7 +18,7 @@ use Rattle.raster.specs.Cells.{cells-lawful}
 use Rattle.board.specs.declared.Page.{Page}
 use Rattle.board.specs.declared.Place.{Place}
 use Rattle.board.specs.declared.Board.{Board}
-use Rattle.timing.specs.Fields.{htOf, vtOf, hactOf, linesOf, visibleOf, shapeOf}
+use Rattle.timing.specs.Fields.{htOf, vtOf, hactOf, linesOf, visibleOf, countsOf}
 use Rattle.timing.specs.Laws.{accepted-good}
 use Rattle.fetch.specs.Rows.{feedIn, tallyIn, cellAt}
 use Rattle.fetch.specs.Laws.{fed, tallied}
@@ -27,31 +27,31 @@ use Rattle.video.specs.Scene.{sceneOf}
 use Rattle.line.specs.Length.{length-dots}
 use Rattle.line.specs.Line.{dotsAt, columnDots, lineDots, lineLength, lentRefused, drawCheck, drawnOf}
 use Rattle.clock.specs.declared.Carried.{Carried}
-use Rattle.clock.specs.Place.{shapeIn, carrierIn, rowsIn, carriedOf, loadedIn, placeAt}
-use Rattle.clock.specs.Signals.{activeIn, padded, dotsOf}
+use Rattle.clock.specs.Place.{countsIn, carrierIn, rowsIn, carriedOf, loadedIn, placeAt}
+use Rattle.clock.specs.Signals.{activeIn, padded, clockDots}
 use Rattle.clock.specs.Step.{steppedOf, stepCheck, stepOf, addressOf}
-use Rattle.agreement.specs.Steps.{after, fits, boardAt, step-is, steps-are}
+use Rattle.agreement.specs.Steps.{after, fits, atClock, step-is, steps-are}
 
 -- clock c of line l of frame k, counted from clock 0
 unfoldable pub clockOf : Board → (k l c : ℕ) → ℕ
 clockOf b k l c = (k * vtOf (b .page .irs) + l) * htOf (b .page .irs) + c
 
 loaded-visible : (p : Page) (chars : List ℕ) (q : Place) → q .line .0 < visibleOf (p .irs) .0
-    → loadedIn p chars q ≡ carriedOf (loaded (shapeIn p) (carrierIn p chars) (q .line .0) (q .clock .0) (pair (q .now) (q .kept)))
-unfolding loadedIn shapeOf
+    → loadedIn p chars q ≡ carriedOf (loaded (countsIn p) (carrierIn p chars) (q .line .0) (q .clock .0) (pair (q .beam) (q .row)))
+unfolding loadedIn countsOf
 loaded-visible p chars q h = rw (lt-ltb (q .line .0) (visibleOf (p .irs) .0) h)
 
 module _ (b : Board) (chars attrs : List ℕ) (f : Font) (ok : stepCheck b chars attrs f ≡ Done) where
   -- what the step at clock n puts out on a visible line
   fetched-at : (n : ℕ) → n / htOf (b .page .irs) % vtOf (b .page .irs) < visibleOf (b .page .irs) .0
-      → addressOf (boardAt b chars attrs f ok n) chars
+      → addressOf (atClock b chars attrs f ok n) chars
       ≡ cellAt (b .page) chars (n / htOf (b .page .irs) % vtOf (b .page .irs) / linesOf (b .page .irs)) (n % htOf (b .page .irs))
-  unfolding placeAt scanAt cellAt shapeOf
+  unfolding placeAt scanAt cellAt countsOf
   fetched-at n h =
-      ap (λ (x : Carried). x .now .at) (loaded-visible (b .page) chars (placeAt (b .page) chars n) h)
-      ∙ (ap (λ (x : Pair Cell). x .now .at)
-      (loaded-meets (shapeIn (b .page)) (carrierIn (b .page) chars) (rowsIn (b .page) chars) (accepted-good (b .page) (fits b chars attrs f ok .page))
-      (cells-lawful (shapeIn (b .page)) (feedIn (b .page) chars) (tallyIn (b .page)) (fed (b .page) chars (fits b chars attrs f ok .page)) (tallied (b .page) chars (fits b chars attrs f ok .page)))
+      ap (λ (x : Carried). x .beam .address) (loaded-visible (b .page) chars (placeAt (b .page) chars n) h)
+      ∙ (ap (λ (x : Pair Cell). x .beam .address)
+      (loaded-meets (countsIn (b .page)) (carrierIn (b .page) chars) (rowsIn (b .page) chars) (accepted-good (b .page) (fits b chars attrs f ok .page))
+      (cells-lawful (countsIn (b .page)) (feedIn (b .page) chars) (tallyIn (b .page)) (fed (b .page) chars (fits b chars attrs f ok .page)) (tallied (b .page) chars (fits b chars attrs f ok .page)))
       (cell 0) (n % htOf (b .page .irs)) (n / htOf (b .page .irs) % vtOf (b .page .irs)) (n / htOf (b .page .irs) / vtOf (b .page .irs)) h))
 
   module _ (k l c : ℕ) (hl : l < visibleOf (b .page .irs) .0) (hc : c < hactOf (b .page .irs)) where
@@ -83,12 +83,12 @@ module _ (b : Board) (chars attrs : List ℕ) (f : Font) (ok : stepCheck b chars
         (fetched-at (clockOf b k l c) (rw line-is hl)
         ∙ rw (line-is, clock-is))
 
-    active : activeIn (boardAt b chars attrs f ok (clockOf b k l c)) ≡ true
-    unfolding placeAt scanAt shapeOf
+    active : activeIn (atClock b chars attrs f ok (clockOf b k l c)) ≡ true
+    unfolding placeAt scanAt countsOf
     active = rw (line-is, clock-is, lt-ltb l (visibleOf (b .page .irs) .0) hl, lt-ltb c (hactOf (b .page .irs)) hc)
 
     pub dots-are : stepOf (after b chars attrs f (clockOf b k l c)) chars attrs f .dots ≡ padded (columnDots b chars attrs f l (k % 256) c) (b .page .video .dots .0)
-    unfolding steppedOf dotsOf columnDots dotsAt sceneOf placeAt scanAt shapeOf
+    unfolding steppedOf clockDots columnDots dotsAt sceneOf placeAt scanAt countsOf
     dots-are =
         rw (steps-are b chars attrs f ok (clockOf b k l c), step-is b chars attrs f ok (clockOf b k l c), active, fetched-at (clockOf b k l c) (rw line-is hl), line-is, clock-is, frame-is)
 

@@ -30,8 +30,7 @@ use Rattle.video.specs.Look.{effective, lookOf}
 use Rattle.line.specs.Line.{lentRefused, drawCheck, drawnOf}
 use Rattle.clock.specs.Step.{stepOf, stateOf}
 use Rattle.files.specs.declared.PageRead.{PageRead}
-use Rattle.files.specs.File.{readCheck, charsRead, attrsRead, writeCheck, written}
-use Rattle.files.specs.File as page
+use Rattle.files.specs.File.{readCheck, readPageOf, charsRead, attrsRead, writeCheck, written}
 use Rattle.files.specs.FontFile.{fontCheck, fontRead, fontWriteCheck, fontWritten}
 use Rattle.listing_lines.specs.declared.Listed.{Listed}
 use Rattle.listing_lines.specs.Listing.{listingHead, listingLine, headCheck, lineCheck, listedOf, listedIn}
@@ -83,12 +82,12 @@ state-at-one b chars attrs n = only (stateOf b chars attrs n)
 
 -- the answer and both memories
 pub read-page-one : (file chars attrs : List ℕ)
-    → OneAnswer (λ (r : PageRead × List ℕ × List ℕ). (r .0 ≡ page.readOf file (memoriesRefused (length chars) (length attrs)))
+    → OneAnswer (λ (r : PageRead × List ℕ × List ℕ). (r .0 ≡ readPageOf file (memoriesRefused (length chars) (length attrs)))
     × (r .1 ≡ charsRead file (memoriesRefused (length chars) (length attrs)) chars)
     × (r .2 ≡ attrsRead file (memoriesRefused (length chars) (length attrs)) attrs))
 read-page-one file chars attrs =
     let size = memoriesRefused (length chars) (length attrs) in
-    only-three (page.readOf file size) (charsRead file size chars) (attrsRead file size attrs)
+    only-three (readPageOf file size) (charsRead file size chars) (attrsRead file size attrs)
 
 pub write-page-one : (b : Board) (chars attrs out : List ℕ)
     → OneAnswer (λ (r : Refusal × List ℕ). (r .0 ≡ writeCheck b (length chars) (length attrs) (length out)) × (r .1 ≡ written b chars attrs out))
@@ -183,11 +182,11 @@ number-one x = only (numberOf x)
 pub is-done-one : (x : Refusal) → OneAnswer (λ r. r ≡ doneOf x)
 is-done-one x = only (doneOf x)
 
-pub advance-one-one : (b : Buffer) (c : Cell) → OneAnswer (λ r. r ≡ cell (advance b (c .at)))
-advance-one-one b c = only (cell (advance b (c .at)))
+pub advance-one-one : (b : Buffer) (c : Cell) → OneAnswer (λ r. r ≡ cell (advance b (c .address)))
+advance-one-one b c = only (cell (advance b (c .address)))
 
-pub advance-by-one : (b : Buffer) (k : ℕ) (c : Cell) → OneAnswer (λ r. r ≡ cell (advanceBy b k (c .at)))
-advance-by-one b k c = only (cell (advanceBy b k (c .at)))
+pub advance-by-one : (b : Buffer) (k : ℕ) (c : Cell) → OneAnswer (λ r. r ≡ cell (advanceBy b k (c .address)))
+advance-by-one b k c = only (cell (advanceBy b k (c .address)))
 
 pub clock-zero-one : OneAnswer (λ r. r ≡ clockZero)
 clock-zero-one = only clockZero

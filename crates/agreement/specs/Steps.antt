@@ -18,7 +18,7 @@ use Rattle.board.specs.declared.Page.{Page}
 use Rattle.board.specs.declared.Board.{Board}
 use Rattle.board.specs.State.{clockZero}
 use Rattle.board.specs.Range.{memoriesRefused}
-use Rattle.timing.specs.Fields.{htOf, vtOf, visibleOf, shapeOf}
+use Rattle.timing.specs.Fields.{htOf, vtOf, visibleOf, countsOf}
 use Rattle.timing.specs.Check.{pageCheck, stateRefused, callCheck}
 use Rattle.timing.specs.Laws.{Accepted, InRange, accepted-good, call-passed}
 use Rattle.fetch.specs.Rows.{feedIn, tallyIn}
@@ -26,7 +26,7 @@ use Rattle.fetch.specs.Laws.{fed, tallied, cell-at-lt, row-start-lt}
 use Rattle.shape.specs.Font.{Font}
 use Rattle.line.specs.Line.{lentRefused}
 use Rattle.clock.specs.declared.Carried.{Carried}
-use Rattle.clock.specs.Place.{shapeIn, carrierIn, rowsIn, placeOf, nextPlace, rowAt, lineAt, carriedBefore, placeAt}
+use Rattle.clock.specs.Place.{countsIn, carrierIn, rowsIn, placeOf, nextPlace, rowAt, lineAt, carriedBefore, placeAt}
 use Rattle.clock.specs.Step.{withPlace, steppedOf, stepCheck, stepOf, stateCheck, stateOf, Fit}
 use Rattle.clock.specs.Laws.{fit, line-shown, line-idle, carried-on, carried-line, carried-frame, carried-zero}
 
@@ -36,7 +36,7 @@ pub range-ok : (b : Board) → InRange b → stateRefused b ≡ false
 unfolding stateRefused
 range-ok b i =
     rw
-    (lt-leb (vtOf (b .page .irs)) (b .place .line .0) (i .line-lt), lt-leb (htOf (b .page .irs)) (b .place .clock .0) (i .clock-lt), le-ltb 16383 (b .place .now .at) (i .now-le), le-ltb 16383 (b .place .kept .at) (i .kept-le), le-ltb 14 (b .pointer) (i .pointer-le))
+    (lt-leb (vtOf (b .page .irs)) (b .place .line .0) (i .line-lt), lt-leb (htOf (b .page .irs)) (b .place .clock .0) (i .clock-lt), le-ltb 16383 (b .place .beam .address) (i .beam-le), le-ltb 16383 (b .place .row .address) (i .row-le), le-ltb 14 (b .pointer) (i .pointer-le))
 
 pub call-ok : (b : Board) (size : Bool) → size ≡ false → pageCheck (b .page) ≡ Done → stateRefused b ≡ false → callCheck b size false false ≡ Done
 unfolding callCheck
@@ -45,13 +45,13 @@ call-ok b size s p r = rw (s, p, r)
 -- ---- every state at once is in range
 
 record Small (c : Carried) : Type 0 where
-  now-lt : c .now .at < 16384
-  kept-lt : c .kept .at < 16384
+  beam-lt : c .beam .address < 16384
+  row-address-lt : c .row .address < 16384
 
 module _ (p : Page) (chars : List ℕ) (a : Accepted p) where
   row-small : (r c : ℕ) → Small (rowAt p chars r c)
   unfolding rowAt
-  row-small r c = record { now-lt = cell-at-lt p chars r c; kept-lt = row-start-lt p chars a r }
+  row-small r c = record { beam-lt = cell-at-lt p chars r c; row-address-lt = row-start-lt p chars a r }
 
   line-small : (c line : ℕ) → Small (lineAt p chars c line)
   line-small c line = go (decLt line (visibleOf (p .irs) .0))
@@ -64,14 +64,14 @@ module _ (p : Page) (chars : List ℕ) (a : Accepted p) where
   carried-small (suc c) line frame = rw (← carried-on p chars (suc c) line frame (omega arith)) (line-small (suc c) line)
   carried-small zero (suc line) frame = rw (← carried-line p chars 0 (suc line) frame refl (omega arith)) (line-small (htOf (p .irs)) _)
   carried-small zero zero (suc frame) = rw (← carried-frame p chars 0 0 (suc frame) refl refl (omega arith)) (row-small _ (htOf (p .irs)))
-  carried-small zero zero zero = rw (← carried-zero p chars 0 0 0 refl refl refl) (record { now-lt = omega arith; kept-lt = omega arith })
+  carried-small zero zero zero = rw (← carried-zero p chars 0 0 0 refl refl refl) (record { beam-lt = omega arith; row-address-lt = omega arith })
 
   pub next-place : (n : ℕ) → nextPlace p chars (placeAt p chars n) ≡ placeAt p chars (suc n)
   unfolding nextPlace placeAt
   next-place n =
       ap placeOf
-      (step-meets (shapeIn p) (carrierIn p chars) (rowsIn p chars) (accepted-good p a)
-      (cells-lawful (shapeIn p) (feedIn p chars) (tallyIn p) (fed p chars a) (tallied p chars a)) (cell 0) n)
+      (step-meets (countsIn p) (carrierIn p chars) (rowsIn p chars) (accepted-good p a)
+      (cells-lawful (countsIn p) (feedIn p chars) (tallyIn p) (fed p chars a) (tallied p chars a)) (cell 0) n)
 
 -- ---- the steps
 
@@ -92,11 +92,11 @@ module _ (b : Board) (chars attrs : List ℕ) (f : Font) (ok : stepCheck b chars
   size-ok = call-passed b (lentRefused chars attrs f) false false ok .sized
 
   -- the board at clock n, at once
-  abbrev pub boardAt : ℕ → Board
-  boardAt n = withPlace b (placeAt (b .page) chars n)
+  abbrev pub atClock : ℕ → Board
+  atClock n = withPlace b (placeAt (b .page) chars n)
 
-  in-range : (n : ℕ) → InRange (boardAt n)
-  unfolding placeAt scanAt carriedBefore shapeOf
+  in-range : (n : ℕ) → InRange (atClock n)
+  unfolding placeAt scanAt carriedBefore countsOf
   in-range n =
       let h : 0 < htOf (b .page .irs) = omega arith in
       let v : 0 < vtOf (b .page .irs) = omega arith in
@@ -104,28 +104,28 @@ module _ (b : Board) (chars attrs : List ℕ) (f : Font) (ok : stepCheck b chars
       record {
         line-lt = mod-lt (n / htOf (b .page .irs)) v;
         clock-lt = mod-lt n h;
-        now-le = omega (arith, c .now-lt);
-        kept-le = omega (arith, c .kept-lt);
+        beam-le = omega (arith, c .beam-lt);
+        row-le = omega (arith, c .row-address-lt);
         pointer-le = fits .state .pointer-le;
       }
 
-  pub accepts : (n : ℕ) → stepCheck (boardAt n) chars attrs f ≡ Done
-  accepts n = call-ok (boardAt n) (lentRefused chars attrs f) size-ok page-ok (range-ok (boardAt n) (in-range n))
+  pub accepts : (n : ℕ) → stepCheck (atClock n) chars attrs f ≡ Done
+  accepts n = call-ok (atClock n) (lentRefused chars attrs f) size-ok page-ok (range-ok (atClock n) (in-range n))
 
   -- a step that nothing refuses
-  pub step-is : (n : ℕ) → stepOf (boardAt n) chars attrs f ≡ steppedOf (boardAt n) chars attrs f
+  pub step-is : (n : ℕ) → stepOf (atClock n) chars attrs f ≡ steppedOf (atClock n) chars attrs f
   unfolding stepOf
   step-is n = rw (accepts n)
 
-  at-zero : withPlace b clockZero ≡ boardAt 0
+  at-zero : withPlace b clockZero ≡ atClock 0
   unfolding placeAt scanAt carriedAt
   at-zero = simp (zero-div, zero-mod)
 
-  step-on : (n : ℕ) → stepOf (boardAt n) chars attrs f .board ≡ boardAt (suc n)
+  step-on : (n : ℕ) → stepOf (atClock n) chars attrs f .board ≡ atClock (suc n)
   unfolding steppedOf
   step-on n = rw (step-is n) (ap (withPlace b) (next-place (b .page) chars (fits .page) n))
 
-  pub steps-are : (n : ℕ) → after b chars attrs f n ≡ boardAt n
+  pub steps-are : (n : ℕ) → after b chars attrs f n ≡ atClock n
   unfolding after
   steps-are zero = at-zero
   steps-are (suc n) = ap (λ (x : Board). stepOf x chars attrs f .board) (steps-are n) ∙ step-on n

@@ -6,7 +6,7 @@ use lib.ListN.{replicate}
 use Rattle.refusal.specs.declared.Refusal.the-variants.{Done}
 use Rattle.board.specs.declared.Board.{Board}
 use Rattle.board.specs.Range.{addressRefused}
-use Rattle.timing.specs.Fields.{shapeOf}
+use Rattle.timing.specs.Fields.{countsOf}
 use Rattle.timing.specs.Check.{pageCheck, stateRefused, callCheck}
 use Rattle.shape.specs.Font.{Font, fontOf}
 use Rattle.clock.specs.Step.{stepCheck}
@@ -30,5 +30,5 @@ not-refused = refl
 
 -- A5, by single steps of the board
 pub after-27234 : (after sheet memory memory font 27234 .place .line .0 ≡ 0) × (after sheet memory memory font 27234 .place .clock .0 ≡ 0)
-unfolding sheet board page shapeOf
+unfolding sheet board page countsOf
 after-27234 = frame-ends sheet memory memory font not-refused

@@ -23,7 +23,7 @@ addressRefused p = startsRefused (p .starts) || ltb 15 (p .switches) || ltb 15 (
 
 -- 7: a state's address or row start out of range
 abbrev pub cellsRefused : Place → Bool
-cellsRefused p = ltb 16383 (p .now .at) || ltb 16383 (p .kept .at)
+cellsRefused p = ltb 16383 (p .beam .address) || ltb 16383 (p .row .address)
 
 -- 7: a state's IR pointer out of range
 abbrev pub pointerRefused : ℕ → Bool

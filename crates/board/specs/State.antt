@@ -7,7 +7,7 @@ use Rattle.board.specs.declared.Board.{Board}
 
 -- the field counter is 0, as are line, clock, address and row start
 abbrev pub clockZero : Place
-clockZero = record { field = 0; line = lines 0; clock = clocks 0; now = cell 0; kept = cell 0 }
+clockZero = record { field = 0; line = lines 0; clock = clocks 0; beam = cell 0; row = cell 0 }
 
 -- power gives zeros throughout
 abbrev pub powerOf : Board

@@ -31,8 +31,8 @@ pub struct Place {
     pub field: u8,
     pub line: units::Lines,
     pub clock: units::Clocks,
-    pub now: raster::Cell,
-    pub kept: raster::Cell,
+    pub beam: raster::Cell,
+    pub row: raster::Cell,
 }
 
 // The pointer names an IR. The count of master resets in a row is the power state: 0 or 1 is inactive, 2 and above active.
@@ -51,8 +51,8 @@ pub fn clock_zero() -> Place
         field: 0,
         line: units::Lines(0),
         clock: units::Clocks(0),
-        now: raster::Cell { at: 0 },
-        kept: raster::Cell { at: 0 },
+        beam: raster::Cell { address: 0 },
+        row: raster::Cell { address: 0 },
     }
 }
 
@@ -97,7 +97,7 @@ pub fn address_refused(p: Page) -> bool
 pub fn cells_refused(p: Place) -> bool
     ensures { λ r. ⌜ r ≡ cellsRefused p ⌝ }
 {
-    (16383 < p.now.at) | (16383 < p.kept.at)
+    (16383 < p.beam.address) | (16383 < p.row.address)
 }
 
 // 7, for the IR pointer.

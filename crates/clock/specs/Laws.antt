@@ -14,7 +14,7 @@ use Rattle.lists.specs.Choice.{pick, pick-lt, both, neither}
 use Rattle.refusal.specs.declared.Refusal.the-variants.{Done}
 use Rattle.raster.specs.declared.Cell.{Cell}
 use Rattle.raster.specs.Moves.{cell, advance}
-use Rattle.raster.specs.Raster.{Pair, pair, loaded, beam, turn, step, tail, inLine, carriedAt, scanAt}
+use Rattle.raster.specs.Raster.{Pair, pair, loaded, onward, turn, step, tail, inLine, carriedAt, scanAt}
 use Rattle.raster.specs.Cells.{begins, movesOn}
 use Rattle.board.specs.declared.Page.{Page}
 use Rattle.board.specs.declared.Place.{Place}
@@ -22,7 +22,7 @@ use Rattle.board.specs.declared.Board.{Board}
 use Rattle.board.specs.Range.{memoriesRefused}
 use Rattle.board.specs.Laws.{memories-all}
 use Rattle.timing.specs.declared.Timing.{Timing}
-use Rattle.timing.specs.Fields.{linesOf, rowsOf, hactOf, htOf, vtOf, tableOf, visibleOf, bufferOf, timingOf, shapeOf}
+use Rattle.timing.specs.Fields.{linesOf, rowsOf, hactOf, htOf, vtOf, tableOf, visibleOf, bufferOf, timingOf, countsOf}
 use Rattle.timing.specs.Check.{callCheck}
 use Rattle.timing.specs.Laws.{Accepted, InRange, call-passed, ht-bound, vt-bound}
 use Rattle.fetch.specs.Laws.{entry-lt}
@@ -40,37 +40,37 @@ use Rattle.clock.specs.declared.Carried.{Carried}
 use Rattle.clock.specs.declared.Signals.{Signals}
 use Rattle.clock.specs.declared.Spot.{Spot}
 use Rattle.clock.specs.declared.Stepped.{Stepped}
-use Rattle.clock.specs.Place.{shapeIn, carrierIn, carriedOf, loadedIn, movedIn, turnedIn, nextPlace, rowAt, lineAt, carriedBefore, placeAt}
+use Rattle.clock.specs.Place.{countsIn, carrierIn, carriedOf, loadedIn, movedIn, turnedIn, nextPlace, rowAt, lineAt, carriedBefore, placeAt}
 use Rattle.clock.specs.Spot.{spotIn, spotBefore}
-use Rattle.clock.specs.Signals.{activeIn, scanIn, signalsOf, padded, dotsOf}
+use Rattle.clock.specs.Signals.{activeIn, scanIn, signalsOf, padded, clockDots}
 use Rattle.clock.specs.Step.{withPlace, steppedOf, stateCheck, Fit}
 
 -- ---- the counts
 
 module _ (t : Timing) (irs : List ℕ) (e : t ≡ timingOf irs) where
-  pub lines-is : t .shape .lines .0 ≡ linesOf irs
-  unfolding timingOf shapeOf
+  pub lines-is : t .counts .lines .0 ≡ linesOf irs
+  unfolding timingOf countsOf
   lines-is = rw e
 
-  pub hact-is : t .shape .hact .0 ≡ hactOf irs
-  unfolding timingOf shapeOf
+  pub hact-is : t .counts .hact .0 ≡ hactOf irs
+  unfolding timingOf countsOf
   hact-is = rw e
 
-  pub ht-is : t .shape .ht .0 ≡ htOf irs
-  unfolding timingOf shapeOf
+  pub ht-is : t .counts .ht .0 ≡ htOf irs
+  unfolding timingOf countsOf
   ht-is = rw e
 
-  pub vt-is : t .shape .vt .0 ≡ vtOf irs
-  unfolding timingOf shapeOf
+  pub vt-is : t .counts .vt .0 ≡ vtOf irs
+  unfolding timingOf countsOf
   vt-is = rw e
 
-  pub lines-some : 0 < t .shape .lines .0
+  pub lines-some : 0 < t .counts .lines .0
   lines-some = rw lines-is (omega arith)
 
-  pub ht-some : 0 < t .shape .ht .0
+  pub ht-some : 0 < t .counts .ht .0
   ht-some = rw ht-is (omega arith)
 
-  pub vt-some : 0 < t .shape .vt .0
+  pub vt-some : 0 < t .counts .vt .0
   vt-some = rw vt-is (omega arith)
 
 pub row-of : (p : Page) (line l : ℕ) → l ≡ linesOf (p .irs) → line < visibleOf (p .irs) .0 → line / l < 8192
@@ -119,30 +119,30 @@ module _ (p : Page) (chars : List ℕ) (q : Place) (n l : ℕ) (en : n ≡ visib
       row-of p (q .line .0) l el v
 
   pub loaded-first : (ltb (q .line .0) n && eqb (q .clock .0) 0) ≡ true → q .line .0 % l ≡ 0
-      → (x : Cell) → x ≡ cell (begins (feedIn p chars) (q .line .0 / l) (q .now .at)) → carriedOf (pair x x) ≡ loadedIn p chars q
-  unfolding loadedIn loaded shapeOf
+      → (x : Cell) → x ≡ cell (begins (feedIn p chars) (q .line .0 / l) (q .beam .address)) → carriedOf (pair x x) ≡ loadedIn p chars q
+  unfolding loadedIn loaded countsOf
   loaded-first t z x e =
       let b = both (ltb (q .line .0) n) (eqb (q .clock .0) 0) t in
       rw (rw en at (b .0), b .1, eq-eqb _ _ (rw el at z)) (rw (e, el))
 
   pub loaded-again : (ltb (q .line .0) n && eqb (q .clock .0) 0) ≡ true → (q .line .0 % l ≡ 0 → ⊥)
-      → carriedOf (pair (q .kept) (q .kept)) ≡ loadedIn p chars q
-  unfolding loadedIn loaded shapeOf
+      → carriedOf (pair (q .row) (q .row)) ≡ loadedIn p chars q
+  unfolding loadedIn loaded countsOf
   loaded-again t z =
       let b = both (ltb (q .line .0) n) (eqb (q .clock .0) 0) t in
       rw (rw en at (b .0), b .1, ne-eqb _ _ (rw el at z))
 
-  pub loaded-on : (ltb (q .line .0) n && eqb (q .clock .0) 0) ≡ false → carriedOf (pair (q .now) (q .kept)) ≡ loadedIn p chars q
-  unfolding loadedIn loaded shapeOf
+  pub loaded-on : (ltb (q .line .0) n && eqb (q .clock .0) 0) ≡ false → carriedOf (pair (q .beam) (q .row)) ≡ loadedIn p chars q
+  unfolding loadedIn loaded countsOf
   loaded-on t = go (ltb (q .line .0) (visibleOf (p .irs) .0)) (eqb (q .clock .0) 0) (rw en at t)
     where
       m : Pair Cell
       m = pick (eqb (q .line .0 % linesOf (p .irs)) 0)
-          (pair (cell (begins (feedIn p chars) (q .line .0 / linesOf (p .irs)) (q .now .at))) (cell (begins (feedIn p chars) (q .line .0 / linesOf (p .irs)) (q .now .at))))
-          (pair (q .kept) (q .kept))
+          (pair (cell (begins (feedIn p chars) (q .line .0 / linesOf (p .irs)) (q .beam .address))) (cell (begins (feedIn p chars) (q .line .0 / linesOf (p .irs)) (q .beam .address))))
+          (pair (q .row) (q .row))
 
       go : (u v : Bool) → (u && v) ≡ false
-          → carriedOf (pair (q .now) (q .kept)) ≡ carriedOf (pick u (pick v m (pair (q .now) (q .kept))) (pair (q .now) (q .kept)))
+          → carriedOf (pair (q .beam) (q .row)) ≡ carriedOf (pick u (pick v m (pair (q .beam) (q .row))) (pair (q .beam) (q .row)))
       go true true w = absurd (true≢false w)
       go true false w = refl
       go false v w = refl
@@ -150,8 +150,8 @@ module _ (p : Page) (chars : List ℕ) (q : Place) (n l : ℕ) (en : n ≡ visib
 -- ---- the place after a clock
 
 module _ (p : Page) (q : Place) (c : Carried) (n h : ℕ) (en : n ≡ visibleOf (p .irs) .0) (eh : h ≡ hactOf (p .irs)) where
-  pub moved-active : (ltb (q .line .0) n && ltb (q .clock .0) h) ≡ true → (x : Cell) → x ≡ cell (advance (bufferOf (p .irs)) (c .now .at))
-      → _≡_ {A = Carried} (record { now = x; kept = c .kept }) (movedIn p q c)
+  pub moved-active : (ltb (q .line .0) n && ltb (q .clock .0) h) ≡ true → (x : Cell) → x ≡ cell (advance (bufferOf (p .irs)) (c .beam .address))
+      → _≡_ {A = Carried} (record { beam = x; row = c .row }) (movedIn p q c)
   unfolding movedIn
   moved-active t x e = rw (rw (en, eh) at t, e)
 
@@ -161,34 +161,34 @@ module _ (p : Page) (q : Place) (c : Carried) (n h : ℕ) (en : n ≡ visibleOf 
 
 module _ (p : Page) (q : Place) (c : Carried) (ht vt : ℕ) (eh : ht ≡ htOf (p .irs)) (ev : vt ≡ vtOf (p .irs)) where
   pub turned-clock : q .clock .0 + 1 < ht
-      → _≡_ {A = Place} (record { field = q .field; line = q .line; clock = record { 0 = q .clock .0 + 1 }; now = c .now; kept = c .kept }) (turnedIn p q c)
-  unfolding turnedIn turn shapeOf
+      → _≡_ {A = Place} (record { field = q .field; line = q .line; clock = record { 0 = q .clock .0 + 1 }; beam = c .beam; row = c .row }) (turnedIn p q c)
+  unfolding turnedIn turn countsOf
   turned-clock h = rw (lt-ltb (q .clock .0 + 1) _ (rw eh at h))
 
   pub turned-line : ht ≤ q .clock .0 + 1 → q .line .0 + 1 < vt
-      → _≡_ {A = Place} (record { field = q .field; line = record { 0 = q .line .0 + 1 }; clock = record { 0 = 0 }; now = c .now; kept = c .kept }) (turnedIn p q c)
-  unfolding turnedIn turn shapeOf
+      → _≡_ {A = Place} (record { field = q .field; line = record { 0 = q .line .0 + 1 }; clock = record { 0 = 0 }; beam = c .beam; row = c .row }) (turnedIn p q c)
+  unfolding turnedIn turn countsOf
   turned-line h g = rw (le-ltb (q .clock .0 + 1) _ (rw eh at h), lt-ltb (q .line .0 + 1) _ (rw ev at g))
 
   pub turned-frame : ht ≤ q .clock .0 + 1 → vt ≤ q .line .0 + 1 → (f : ℕ) → f ≡ (q .field + 1) % 256
-      → _≡_ {A = Place} (record { field = f; line = record { 0 = 0 }; clock = record { 0 = 0 }; now = c .now; kept = c .kept }) (turnedIn p q c)
-  unfolding turnedIn turn shapeOf
+      → _≡_ {A = Place} (record { field = f; line = record { 0 = 0 }; clock = record { 0 = 0 }; beam = c .beam; row = c .row }) (turnedIn p q c)
+  unfolding turnedIn turn countsOf
   turned-frame h g f e = rw (le-ltb (q .clock .0 + 1) _ (rw eh at h), le-ltb (q .line .0 + 1) _ (rw ev at g), e)
 
 -- loaded, moved on and turned is one step
 pub one-clock : (p : Page) (chars : List ℕ) (q : Place) → turnedIn p q (movedIn p q (loadedIn p chars q)) ≡ nextPlace p chars q
-unfolding nextPlace step turnedIn movedIn loadedIn beam movesOn shapeOf
+unfolding nextPlace step turnedIn movedIn loadedIn onward movesOn countsOf
 one-clock p chars q = go (ltb (q .line .0) (visibleOf (p .irs) .0)) (ltb (q .clock .0) (hactOf (p .irs)))
   where
     a : Pair Cell
-    a = loaded (shapeIn p) (carrierIn p chars) (q .line .0) (q .clock .0) (pair (q .now) (q .kept))
+    a = loaded (countsIn p) (carrierIn p chars) (q .line .0) (q .clock .0) (pair (q .beam) (q .row))
 
     b : Pair Cell
-    b = pair (q .now) (q .kept)
+    b = pair (q .beam) (q .row)
 
     go : (u v : Bool)
-        → turnedIn p q (pick (u && v) (record { now = cell (advance (bufferOf (p .irs)) (carriedOf (pick u a b) .now .at)); kept = carriedOf (pick u a b) .kept }) (carriedOf (pick u a b)))
-        ≡ turnedIn p q (carriedOf (pick u (pair (cell (pick v (advance (bufferOf (p .irs)) (a .now .at)) (a .now .at))) (a .kept)) b))
+        → turnedIn p q (pick (u && v) (record { beam = cell (advance (bufferOf (p .irs)) (carriedOf (pick u a b) .beam .address)); row = carriedOf (pick u a b) .row }) (carriedOf (pick u a b)))
+        ≡ turnedIn p q (carriedOf (pick u (pair (cell (pick v (advance (bufferOf (p .irs)) (a .beam .address)) (a .beam .address))) (a .row)) b))
     go true true = refl
     go true false = refl
     go false v = refl
@@ -231,16 +231,16 @@ padded-cell d out k l w v h e p q = over-zeros d out (cellDots l v d) h (rw (p, 
 
 module _ (p : Page) (chars : List ℕ) where
   pub row-at : (r c : ℕ) (a s : Cell) → a ≡ cell (cellAt p chars r c) → s ≡ cell (rowStart p chars r)
-      → _≡_ {A = Carried} (record { now = a; kept = s }) (rowAt p chars r c)
+      → _≡_ {A = Carried} (record { beam = a; row = s }) (rowAt p chars r c)
   unfolding rowAt
   row-at r c a s e d = rw (e, d)
 
   pub line-shown : (c line : ℕ) → line < visibleOf (p .irs) .0 → rowAt p chars (line / linesOf (p .irs)) c ≡ lineAt p chars c line
-  unfolding rowAt cellAt rowStart lineAt inLine shapeOf
+  unfolding rowAt cellAt rowStart lineAt inLine countsOf
   line-shown c line h = rw (lt-ltb line (visibleOf (p .irs) .0) h)
 
   pub line-idle : (c line : ℕ) → visibleOf (p .irs) .0 ≤ line → rowAt p chars (rowsOf (p .irs) - 1) (htOf (p .irs)) ≡ lineAt p chars c line
-  unfolding rowAt cellAt rowStart lineAt inLine tail shapeOf
+  unfolding rowAt cellAt rowStart lineAt inLine tail countsOf
   line-idle c line h = rw (le-ltb line (visibleOf (p .irs) .0) h, sub-one (rowsOf (p .irs)))
 
   pub carried-on : (c line frame : ℕ) → 0 < c → lineAt p chars c line ≡ carriedBefore p chars c line frame
@@ -249,12 +249,12 @@ module _ (p : Page) (chars : List ℕ) where
   carried-on (suc c) line frame h = refl
 
   pub carried-line : (c line frame : ℕ) → c ≡ 0 → 0 < line → lineAt p chars (htOf (p .irs)) (line - 1) ≡ carriedBefore p chars c line frame
-  unfolding lineAt carriedBefore carriedAt shapeOf
+  unfolding lineAt carriedBefore carriedAt countsOf
   carried-line c zero frame e h = absurd (omega arith)
   carried-line c (suc line) frame e h = rw (e, sub-one (suc line))
 
   pub carried-frame : (c line frame : ℕ) → c ≡ 0 → line ≡ 0 → 0 < frame → rowAt p chars (rowsOf (p .irs) - 1) (htOf (p .irs)) ≡ carriedBefore p chars c line frame
-  unfolding rowAt cellAt rowStart carriedBefore carriedAt tail shapeOf
+  unfolding rowAt cellAt rowStart carriedBefore carriedAt tail countsOf
   carried-frame c line zero e d h = absurd (omega arith)
   carried-frame c line (suc frame) e d h = rw (e, d, sub-one (rowsOf (p .irs)))
 
@@ -295,9 +295,9 @@ module _ (p : Page) (chars : List ℕ) where
 
   pub place-at : (n ht vt : ℕ) → ht ≡ htOf (p .irs) → vt ≡ vtOf (p .irs) → (x : Carried) → x ≡ carriedBefore p chars (n % ht) (n / ht % vt) (n / ht / vt)
       → _≡_ {A = Place}
-      (record { field = n / ht / vt % 256; line = record { 0 = n / ht % vt }; clock = record { 0 = n % ht }; now = x .now; kept = x .kept })
+      (record { field = n / ht / vt % 256; line = record { 0 = n / ht % vt }; clock = record { 0 = n % ht }; beam = x .beam; row = x .row })
       (placeAt p chars n)
-  unfolding carriedBefore placeAt scanAt shapeOf
+  unfolding carriedBefore placeAt scanAt countsOf
   place-at n ht vt eh ev x e = rw e (rw (eh, ev))
 
 -- ---- the step
@@ -310,18 +310,18 @@ module _ (p : Page) (chars : List ℕ) (a : Accepted p) where
       (pick-lt 16384 (eqb r 0) (p .starts .start1) x (omega (arith, a .start1)) h)
 
   -- what is fetched or held is an address
-  pub loaded-lt : (q : Place) → q .now .at ≤ 16383 → q .kept .at ≤ 16383 → loadedIn p chars q .now .at < 16384
-  unfolding loadedIn loaded shapeOf
+  pub loaded-lt : (q : Place) → q .beam .address ≤ 16383 → q .row .address ≤ 16383 → loadedIn p chars q .beam .address < 16384
+  unfolding loadedIn loaded countsOf
   loaded-lt q h k = go (ltb (q .line .0) (visibleOf (p .irs) .0)) (eqb (q .clock .0) 0) (eqb (q .line .0 % linesOf (p .irs)) 0)
     where
       x : ℕ
-      x = begins (feedIn p chars) (q .line .0 / linesOf (p .irs)) (q .now .at)
+      x = begins (feedIn p chars) (q .line .0 / linesOf (p .irs)) (q .beam .address)
 
       held : Pair Cell
-      held = pair (q .now) (q .kept)
+      held = pair (q .beam) (q .row)
 
-      go : (u v w : Bool) → carriedOf (pick u (pick v (pick w (pair (cell x) (cell x)) (pair (q .kept) (q .kept))) held) held) .now .at < 16384
-      go true true true = begins-lt (q .line .0 / linesOf (p .irs)) (q .now .at) (omega arith)
+      go : (u v w : Bool) → carriedOf (pick u (pick v (pick w (pair (cell x) (cell x)) (pair (q .row) (q .row))) held) held) .beam .address < 16384
+      go true true true = begins-lt (q .line .0 / linesOf (p .irs)) (q .beam .address) (omega arith)
       go true true false = omega arith
       go true false w = omega arith
       go false v w = omega arith
@@ -343,24 +343,24 @@ module _ (b : Board) (chars attrs : List ℕ) (f : Font) where
   pub in-frame : InRange b → (b .place .line .0 < 8192) × (b .place .clock .0 < 384)
   in-frame i = (omega (arith, i .line-lt, vt-bound (b .page .irs)), omega (arith, i .clock-lt, ht-bound (b .page .irs)))
 
-  pub address-lt : Fit b chars attrs f → (c : Carried) → c ≡ loadedIn (b .page) chars (b .place) → c .now .at < 16384
-  address-lt k c e = rw e (loaded-lt (b .page) chars (k .page) (b .place) (k .state .now-le) (k .state .kept-le))
+  pub address-lt : Fit b chars attrs f → (c : Carried) → c ≡ loadedIn (b .page) chars (b .place) → c .beam .address < 16384
+  address-lt k c e = rw e (loaded-lt (b .page) chars (k .page) (b .place) (k .state .beam-le) (k .state .row-le))
 
   module _ (scene : Scene) (e : scene ≡ sceneOf b (scanIn b) (b .place .field)) (a : ℕ) (r : List ℕ) where
     pub dots-active : activeIn b ≡ true
         → r ≡ padded (cellDots (lookOf scene (effective (getD attrs a 0)) (cursorAt scene a)) (wordOf f (getD chars a 0) (scanIn b)) (b .page .video .dots .0)) (b .page .video .dots .0)
-        → r ≡ dotsOf b chars attrs f a
-    unfolding dotsOf dotsAt
+        → r ≡ clockDots b chars attrs f a
+    unfolding clockDots dotsAt
     dots-active t q = rw t (rw e at q)
 
-    pub dots-blank : activeIn b ≡ false → r ≡ padded (replicate (b .page .video .dots .0) (scene .blank)) (b .page .video .dots .0) → r ≡ dotsOf b chars attrs f a
-    unfolding dotsOf
+    pub dots-blank : activeIn b ≡ false → r ≡ padded (replicate (b .page .video .dots .0) (scene .blank)) (b .page .video .dots .0) → r ≡ clockDots b chars attrs f a
+    unfolding clockDots
     dots-blank t q = rw t (rw e at q)
 
   -- the parts of a step put together
   pub stepped : (c : Carried) → c ≡ loadedIn (b .page) chars (b .place) → (q : Place) → q ≡ turnedIn (b .page) (b .place) (movedIn (b .page) (b .place) c)
-      → (s : Signals) → s ≡ signalsOf b (c .now .at) → (d : List ℕ) → d ≡ dotsOf b chars attrs f (c .now .at) → (n : Board) → n ≡ withPlace b q
-      → _≡_ {A = Stepped} (record { refusal = Done; signals = s; address = c .now .at; dots = d; board = n }) (steppedOf b chars attrs f)
+      → (s : Signals) → s ≡ signalsOf b (c .beam .address) → (d : List ℕ) → d ≡ clockDots b chars attrs f (c .beam .address) → (n : Board) → n ≡ withPlace b q
+      → _≡_ {A = Stepped} (record { refusal = Done; signals = s; address = c .beam .address; dots = d; board = n }) (steppedOf b chars attrs f)
   unfolding steppedOf
   stepped c ec q eq s es d ed n en = rw (en, eq, es, ed, ec, one-clock (b .page) chars (b .place))
 

@@ -6,40 +6,40 @@ use lib.Dec.{ltb}
 use Rattle.lists.specs.Choice.{pick}
 use Rattle.units.specs.Units.{clocks, lines}
 use Rattle.raster.specs.declared.Cell.{Cell}
-use Rattle.raster.specs.declared.Shape.{Shape}
+use Rattle.raster.specs.declared.Counts.{Counts}
 use Rattle.raster.specs.Moves.{cell, advance}
 use Rattle.raster.specs.Raster.{L, R, Carrier, Rows, Pair, pair, Scan, scan, loaded, turn, step, inLine, carriedAt, scanAt}
-use Rattle.raster.specs.Cells.{carrier, rowsOf}
+use Rattle.raster.specs.Cells.{carrier, cellRows}
 use Rattle.board.specs.declared.Page.{Page}
 use Rattle.board.specs.declared.Place.{Place}
-use Rattle.timing.specs.Fields.{hactOf, visibleOf, bufferOf, shapeOf}
+use Rattle.timing.specs.Fields.{hactOf, visibleOf, bufferOf, countsOf}
 use Rattle.fetch.specs.Rows.{feedIn, tallyIn, rowStart, cellAt}
 use Rattle.clock.specs.declared.Carried.{Carried}
 
 -- a place as the raster has it, and back
-abbrev pub scanOf : Place → Scan Cell
-scanOf p = scan (p .field) (p .line .0) (p .clock .0) (pair (p .now) (p .kept))
+abbrev pub rasterOf : Place → Scan Cell
+rasterOf p = scan (p .field) (p .line .0) (p .clock .0) (pair (p .beam) (p .row))
 
 abbrev pub placeOf : Scan Cell → Place
 placeOf s = record {
   field = s .field;
   line = lines (s .line);
   clock = clocks (s .clock);
-  now = s .carried .now;
-  kept = s .carried .kept;
+  beam = s .carried .beam;
+  row = s .carried .row;
 }
 
 abbrev pub carriedOf : Pair Cell → Carried
-carriedOf p = record { now = p .now; kept = p .kept }
+carriedOf p = record { beam = p .beam; row = p .row }
 
-abbrev pub shapeIn : Page → Shape
-shapeIn p = shapeOf (p .irs)
+abbrev pub countsIn : Page → Counts
+countsIn p = countsOf (p .irs)
 
 abbrev pub carrierIn : Page → List ℕ → Carrier Cell
 carrierIn p chars = carrier (feedIn p chars)
 
 abbrev pub rowsIn : Page → List ℕ → Rows Cell
-rowsIn p chars = rowsOf (feedIn p chars) (tallyIn p)
+rowsIn p chars = cellRows (feedIn p chars) (tallyIn p)
 
 -- ---- one clock
 
@@ -47,34 +47,34 @@ rowsIn p chars = rowsOf (feedIn p chars) (tallyIn p)
 unfoldable pub loadedIn : Page → List ℕ → Place → Carried
 loadedIn p chars q =
     carriedOf
-    (pick (ltb (q .line .0) (R (shapeIn p) * L (shapeIn p)))
-    (loaded (shapeIn p) (carrierIn p chars) (q .line .0) (q .clock .0) (pair (q .now) (q .kept)))
-    (pair (q .now) (q .kept)))
+    (pick (ltb (q .line .0) (R (countsIn p) * L (countsIn p)))
+    (loaded (countsIn p) (carrierIn p chars) (q .line .0) (q .clock .0) (pair (q .beam) (q .row)))
+    (pair (q .beam) (q .row)))
 
 -- each active clock of a visible line moves on
 unfoldable pub movedIn : Page → Place → Carried → Carried
 movedIn p q c =
     pick (ltb (q .line .0) (visibleOf (p .irs) .0) && ltb (q .clock .0) (hactOf (p .irs)))
-    (record { now = cell (advance (bufferOf (p .irs)) (c .now .at)); kept = c .kept })
+    (record { beam = cell (advance (bufferOf (p .irs)) (c .beam .address)); row = c .row })
     c
 
 unfoldable pub turnedIn : Page → Place → Carried → Place
-turnedIn p q c = placeOf (turn (shapeIn p) (q .field) (q .line .0) (q .clock .0) (pair (c .now) (c .kept)))
+turnedIn p q c = placeOf (turn (countsIn p) (q .field) (q .line .0) (q .clock .0) (pair (c .beam) (c .row)))
 
 unfoldable pub nextPlace : Page → List ℕ → Place → Place
-nextPlace p chars q = placeOf (step (shapeIn p) (carrierIn p chars) (scanOf q))
+nextPlace p chars q = placeOf (step (countsIn p) (carrierIn p chars) (rasterOf q))
 
 -- ---- at once
 
 unfoldable pub rowAt : Page → List ℕ → (row c : ℕ) → Carried
-rowAt p chars r c = record { now = cell (cellAt p chars r c); kept = cell (rowStart p chars r) }
+rowAt p chars r c = record { beam = cell (cellAt p chars r c); row = cell (rowStart p chars r) }
 
 unfoldable pub lineAt : Page → List ℕ → (c line : ℕ) → Carried
-lineAt p chars c line = carriedOf (inLine (shapeIn p) (rowsIn p chars) c line)
+lineAt p chars c line = carriedOf (inLine (countsIn p) (rowsIn p chars) c line)
 
 unfoldable pub carriedBefore : Page → List ℕ → (c line frame : ℕ) → Carried
-carriedBefore p chars c line frame = carriedOf (carriedAt (shapeIn p) (rowsIn p chars) (cell 0) c line frame)
+carriedBefore p chars c line frame = carriedOf (carriedAt (countsIn p) (rowsIn p chars) (cell 0) c line frame)
 
 -- the place for clock n, counted from clock 0
 unfoldable pub placeAt : Page → List ℕ → ℕ → Place
-placeAt p chars n = placeOf (scanAt (shapeIn p) (rowsIn p chars) (cell 0) n)
+placeAt p chars n = placeOf (scanAt (countsIn p) (rowsIn p chars) (cell 0) n)

@@ -45,8 +45,8 @@ abbrev pub padded : List ℕ → ℕ → List ℕ
 padded dots d = dots ++ replicate (12 - d) 0
 
 -- the cell's dots on an active clock, the blank level off it
-unfoldable pub dotsOf : Board → (chars attrs : List ℕ) → Font → (address : ℕ) → List ℕ
-dotsOf b chars attrs f address =
+unfoldable pub clockDots : Board → (chars attrs : List ℕ) → Font → (address : ℕ) → List ℕ
+clockDots b chars attrs f address =
     padded
     (pick (activeIn b)
     (dotsAt b chars attrs f (scanIn b) (b .place .field) address)

@@ -19,14 +19,14 @@ use Rattle.clock.specs.declared.Signals.{Signals}
 use Rattle.clock.specs.declared.Stepped.{Stepped}
 use Rattle.clock.specs.declared.StateAt.{StateAt}
 use Rattle.clock.specs.Place.{loadedIn, nextPlace, placeAt}
-use Rattle.clock.specs.Signals.{signalsOf, dotsOf}
+use Rattle.clock.specs.Signals.{signalsOf, clockDots}
 
 abbrev pub withPlace : Board → Place → Board
 withPlace b q = record { page = b .page; place = q; pointer = b .pointer; resets = b .resets }
 
 -- the address fetched, or off the active clocks the one held
 abbrev pub addressOf : Board → (chars : List ℕ) → ℕ
-addressOf b chars = loadedIn (b .page) chars (b .place) .now .at
+addressOf b chars = loadedIn (b .page) chars (b .place) .beam .address
 
 -- a clock's signals, address and dots, and the board for the next clock
 unfoldable pub steppedOf : Board → (chars attrs : List ℕ) → Font → Stepped
@@ -34,7 +34,7 @@ steppedOf b chars attrs f = record {
   refusal = Done;
   signals = signalsOf b (addressOf b chars);
   address = addressOf b chars;
-  dots = dotsOf b chars attrs f (addressOf b chars);
+  dots = clockDots b chars attrs f (addressOf b chars);
   board = withPlace b (nextPlace (b .page) chars (b .place));
 }
 

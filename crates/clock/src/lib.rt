@@ -12,13 +12,13 @@ ghost use Rattle.video.specs.Look.{effective, lookOf};
 ghost use Rattle.video.specs.Cell.{cellDots};
 ghost use Rattle.clock.specs.Place.{loadedIn, movedIn, turnedIn, rowAt, carriedBefore, placeAt};
 ghost use Rattle.clock.specs.Spot.{spotIn, spotBefore};
-ghost use Rattle.clock.specs.Signals.{during, activeIn, scanIn, hsyncIn, vsyncIn, signalsOf, padded, dotsOf};
+ghost use Rattle.clock.specs.Signals.{during, activeIn, scanIn, hsyncIn, vsyncIn, signalsOf, padded, clockDots};
 ghost use Rattle.clock.specs.Step.{withPlace, Fit, steppedOf, stepOf, stateOf};
 
 // What the beam carries along, and what its row began with.
 pub struct Carried {
-    pub now: raster::Cell,
-    pub kept: raster::Cell,
+    pub beam: raster::Cell,
+    pub row: raster::Cell,
 }
 
 pub struct Signals {
@@ -54,14 +54,14 @@ fn table_on(p: board::Page) -> bool
 // What a row begins with, where a cell is held.
 fn begun(p: board::Page, chars: &[u8], row: u32, held: raster::Cell) -> raster::Cell
     requires { ⌜ (length (now chars) ≡ 16384) × (row < 8192) ⌝ }
-    ensures { λ r. ⌜ r ≡ cell (begins (feedIn p (now (chars .entry))) row (held .at)) ⌝ }
+    ensures { λ r. ⌜ r ≡ cell (begins (feedIn p (now (chars .entry))) row (held .address)) ⌝ }
 {
     if table_on(p) {
         return fetch::entry(p, chars, row);
     }
     if row == 0 {
         return raster::Cell {
-            at: p.starts.start1,
+            address: p.starts.start1,
         };
     }
     held
@@ -75,26 +75,26 @@ fn loaded_at(p: board::Page, chars: &[u8], q: board::Place) -> Carried
     let irs = p.irs;
     let t = timing::timing_of(irs);
     let shown = timing::visible_of(irs);
-    let kept = q.kept;
-    let held = q.now;
+    let kept = q.row;
+    let held = q.beam;
     let line = q.line.0;
-    let lines = t.shape.lines.0;
+    let lines = t.counts.lines.0;
     if (line < shown.0) & (q.clock.0 == 0) {
         if line % lines == 0 {
             let first = begun(p, chars, line / lines, held);
             return Carried {
-                now: first,
-                kept: first,
+                beam: first,
+                row: first,
             };
         }
         return Carried {
-            now: kept,
-            kept: kept,
+            beam: kept,
+            row: kept,
         };
     }
     Carried {
-        now: held,
-        kept: kept,
+        beam: held,
+        row: kept,
     }
 }
 
@@ -105,12 +105,12 @@ fn moved_on(p: board::Page, q: board::Place, c: Carried) -> Carried
     let irs = p.irs;
     let t = timing::timing_of(irs);
     let shown = timing::visible_of(irs);
-    let cell = c.now;
-    let kept = c.kept;
-    if (q.line.0 < shown.0) & (q.clock.0 < t.shape.hact.0) {
+    let cell = c.beam;
+    let kept = c.row;
+    if (q.line.0 < shown.0) & (q.clock.0 < t.counts.hact.0) {
         return Carried {
-            now: raster::advance_one(timing::buffer_of(irs), cell),
-            kept: kept,
+            beam: raster::advance_one(timing::buffer_of(irs), cell),
+            row: kept,
         };
     }
     c
@@ -123,35 +123,35 @@ fn turned(p: board::Page, q: board::Place, c: Carried) -> board::Place
 {
     let irs = p.irs;
     let t = timing::timing_of(irs);
-    let cell = c.now;
-    let kept = c.kept;
+    let cell = c.beam;
+    let kept = c.row;
     let line = q.line;
     let clock = q.clock.0 + 1;
     let below = q.line.0 + 1;
-    if clock < t.shape.ht.0 {
+    if clock < t.counts.ht.0 {
         return board::Place {
             field: q.field,
             line: line,
             clock: units::Clocks(clock),
-            now: cell,
-            kept: kept,
+            beam: cell,
+            row: kept,
         };
     }
-    if below < t.shape.vt.0 {
+    if below < t.counts.vt.0 {
         return board::Place {
             field: q.field,
             line: units::Lines(below),
             clock: units::Clocks(0),
-            now: cell,
-            kept: kept,
+            beam: cell,
+            row: kept,
         };
     }
     board::Place {
         field: std::num::wrapping_add_u8(q.field, 1),
         line: units::Lines(0),
         clock: units::Clocks(0),
-        now: cell,
-        kept: kept,
+        beam: cell,
+        row: kept,
     }
 }
 
@@ -162,7 +162,7 @@ fn active_in(b: board::Board) -> bool
     let irs = b.page.irs;
     let t = timing::timing_of(irs);
     let shown = timing::visible_of(irs);
-    (b.place.line.0 < shown.0) & (b.place.clock.0 < t.shape.hact.0)
+    (b.place.line.0 < shown.0) & (b.place.clock.0 < t.counts.hact.0)
 }
 
 // The scan line of the place.
@@ -171,7 +171,7 @@ fn scan_in(b: board::Board) -> u32
 {
     let irs = b.page.irs;
     let t = timing::timing_of(irs);
-    b.place.line.0 % t.shape.lines.0
+    b.place.line.0 % t.counts.lines.0
 }
 
 // From lo on, n of them.
@@ -187,7 +187,7 @@ fn hsync_in(b: board::Board) -> bool
 {
     let irs = b.page.irs;
     let t = timing::timing_of(irs);
-    within(t.shape.hact.0 + t.hfp.0, t.hsync.0, b.place.clock.0)
+    within(t.counts.hact.0 + t.hfp.0, t.hsync.0, b.place.clock.0)
 }
 
 fn vsync_in(b: board::Board) -> bool
@@ -259,7 +259,7 @@ fn scene_in(b: board::Board) -> video::Scene
 }
 
 // The twelve dot places of a clock that fetches or holds an address.
-fn dots_of(
+fn clock_dots(
     b: board::Board,
     scene: video::Scene,
     chars: &[u8],
@@ -271,7 +271,7 @@ fn dots_of(
     address: usize,
 ) -> [u8; 12]
     requires { ⌜ Fit b (now chars) (now attrs) (fontOf (now words) (now flags) (now unshifted) (now shifted)) × (scene ≡ sceneOf b (scanIn b) (b .place .field)) × (address < 16384) ⌝ }
-    ensures { λ r. ⌜ r ≡ dotsOf b (now (chars .entry)) (now (attrs .entry)) (fontOf (now (words .entry)) (now (flags .entry)) (now (unshifted .entry)) (now (shifted .entry))) address ⌝ }
+    ensures { λ r. ⌜ r ≡ clockDots b (now (chars .entry)) (now (attrs .entry)) (fontOf (now (words .entry)) (now (flags .entry)) (now (unshifted .entry)) (now (shifted .entry))) address ⌝ }
 {
     if active_in(b) {
         let code = chars[address];
@@ -317,9 +317,9 @@ fn one_step(
     let c = loaded_at(page, chars, place);
     let next = turned(page, place, moved_on(page, place, c));
     let scene = scene_in(b);
-    let at = c.now.at;
+    let at = c.beam.address;
     let address = at as usize;
-    let dots = dots_of(
+    let dots = clock_dots(
         b,
         scene,
         chars,
@@ -377,8 +377,8 @@ fn row_at(p: board::Page, chars: &[u8], row: u32, c: u32) -> Carried
     ensures { λ r. ⌜ r ≡ rowAt p (now (chars .entry)) row c ⌝ }
 {
     Carried {
-        now: fetch::cell_at(p, chars, row, c),
-        kept: fetch::row_start(p, chars, row),
+        beam: fetch::cell_at(p, chars, row, c),
+        row: fetch::row_start(p, chars, row),
     }
 }
 
@@ -395,15 +395,15 @@ fn spot_in(p: board::Page, c: u32, line: u32) -> Spot
     let irs = p.irs;
     let t = timing::timing_of(irs);
     let shown = timing::visible_of(irs);
-    let ht = t.shape.ht;
+    let ht = t.counts.ht;
     if line < shown.0 {
         return Spot {
-            row: line / t.shape.lines.0,
+            row: line / t.counts.lines.0,
             clocks: units::Clocks(c),
         };
     }
     Spot {
-        row: t.shape.rows - 1,
+        row: t.counts.rows - 1,
         clocks: ht,
     }
 }
@@ -418,11 +418,11 @@ fn spot_before(p: board::Page, c: u32, line: u32) -> Spot
     let irs = p.irs;
     let t = timing::timing_of(irs);
     if 0 < line {
-        return spot_in(p, t.shape.ht.0, line - 1);
+        return spot_in(p, t.counts.ht.0, line - 1);
     }
-    let ht = t.shape.ht;
+    let ht = t.counts.ht;
     Spot {
-        row: t.shape.rows - 1,
+        row: t.counts.rows - 1,
         clocks: ht,
     }
 }
@@ -436,8 +436,8 @@ fn carried_before(p: board::Page, chars: &[u8], c: u32, line: u32, frame: u32) -
     let carried = row_at(p, chars, spot.row, spot.clocks.0);
     if (c == 0) & (line == 0) & (frame == 0) {
         return Carried {
-            now: raster::Cell { at: 0 },
-            kept: raster::Cell { at: 0 },
+            beam: raster::Cell { address: 0 },
+            row: raster::Cell { address: 0 },
         };
     }
     carried
@@ -450,20 +450,20 @@ fn place_at(p: board::Page, chars: &[u8], n: u32) -> board::Place
 {
     let irs = p.irs;
     let t = timing::timing_of(irs);
-    let ht = t.shape.ht.0;
-    let vt = t.shape.vt.0;
+    let ht = t.counts.ht.0;
+    let vt = t.counts.vt.0;
     let clock = n % ht;
     let line = n / ht % vt;
     let frame = n / ht / vt;
     let c = carried_before(p, chars, clock, line, frame);
-    let cell = c.now;
-    let kept = c.kept;
+    let cell = c.beam;
+    let kept = c.row;
     board::Place {
         field: (frame % 256) as u8,
         line: units::Lines(line),
         clock: units::Clocks(clock),
-        now: cell,
-        kept: kept,
+        beam: cell,
+        row: kept,
     }
 }
 

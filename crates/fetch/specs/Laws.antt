@@ -20,7 +20,7 @@ use Rattle.board.specs.declared.Page.{Page}
 use Rattle.board.specs.declared.Board.{Board}
 use Rattle.board.specs.Range.{memoryRefused}
 use Rattle.board.specs.Laws.{memory-all}
-use Rattle.timing.specs.Fields.{rowsOf, hactOf, tableOf, bufferOf, shapeOf}
+use Rattle.timing.specs.Fields.{rowsOf, hactOf, tableOf, bufferOf, countsOf}
 use Rattle.timing.specs.Laws.{Accepted, call-passed}
 use Rattle.timing.specs.Feed.{accepted-fed, accepted-tallied}
 use Rattle.fetch.specs.declared.Span.{Span}
@@ -35,17 +35,17 @@ module _ (p : Page) (chars : List ℕ) (a : Accepted p) where
   pub fed : Fed (feedIn p chars)
   fed = accepted-fed p (entryOf p chars) a (entry-lt p chars)
 
-  pub tallied : Tallied (shapeOf (p .irs)) (feedIn p chars) (tallyIn p)
+  pub tallied : Tallied (countsOf (p .irs)) (feedIn p chars) (tallyIn p)
   tallied = accepted-tallied p (entryOf p chars) a
 
   pub row-start-lt : (r : ℕ) → rowStart p chars r < 16384
   unfolding rowStart
-  row-start-lt r = start-lt (shapeOf (p .irs)) (feedIn p chars) (tallyIn p) fed tallied r
+  row-start-lt r = start-lt (countsOf (p .irs)) (feedIn p chars) (tallyIn p) fed tallied r
 
   -- the first column fetches the row's start
   pub first-column : (r : ℕ) → cellAt p chars r 0 ≡ rowStart p chars r
   unfolding cellAt rowStart
-  first-column r = cell-zero (shapeOf (p .irs)) (feedIn p chars) (tallyIn p) fed tallied r
+  first-column r = cell-zero (countsOf (p .irs)) (feedIn p chars) (tallyIn p) fed tallied r
 
 pub cell-at-lt : (p : Page) (chars : List ℕ) (r c : ℕ) → cellAt p chars r c < 16384
 unfolding cellAt cellOf
@@ -65,11 +65,11 @@ module _ (p : Page) (chars : List ℕ) (r : ℕ) where
   start-table e = rw e
 
   pub start-sheet : tableOf (p .irs) ≡ false → advanceBy (bufferOf (p .irs)) (r * hactOf (p .irs)) (p .starts .start1) ≡ rowStart p chars r
-  unfolding rowStart startOf shapeOf
+  unfolding rowStart startOf countsOf
   start-sheet e = rw e
 
   pub cell-moved : (c : ℕ) → advanceBy (bufferOf (p .irs)) (min c (hactOf (p .irs))) (rowStart p chars r) ≡ cellAt p chars r c
-  unfolding cellAt cellOf rowStart shapeOf
+  unfolding cellAt cellOf rowStart countsOf
   cell-moved c = refl
 
 -- ---- runs

@@ -4,7 +4,7 @@ use mathlib.Core.List.{List}
 use lib.ListN.{getD}
 use Rattle.raster.specs.Cells.{Feed, Tally, tallyOf, startOf, cellOf}
 use Rattle.board.specs.declared.Page.{Page}
-use Rattle.timing.specs.Fields.{shapeOf}
+use Rattle.timing.specs.Fields.{countsOf}
 use Rattle.timing.specs.Feed.{feedOf}
 
 -- the character byte at an address, modulo 16,384
@@ -19,7 +19,7 @@ abbrev pub feedIn : Page → List ℕ → Feed
 feedIn p chars = feedOf p (entryOf p chars)
 
 abbrev pub tallyIn : Page → Tally
-tallyIn p = tallyOf (shapeOf (p .irs))
+tallyIn p = tallyOf (countsOf (p .irs))
 
 -- where row r starts
 unfoldable pub rowStart : Page → List ℕ → ℕ → ℕ

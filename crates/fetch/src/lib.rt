@@ -35,7 +35,7 @@ pub fn entry(p: board::Page, chars: &[u8], row: u32) -> raster::Cell
     let low = (start % 16384) as usize;
     let high = ((start + 1) % 16384) as usize;
     raster::Cell {
-        at: wide(chars[low]) % 256 + 256 * (wide(chars[high]) % 64),
+        address: wide(chars[low]) % 256 + 256 * (wide(chars[high]) % 64),
     }
 }
 
@@ -49,9 +49,9 @@ pub fn row_start(p: board::Page, chars: &[u8], row: u32) -> raster::Cell
         return entry(p, chars, row);
     }
     let t = timing::timing_of(irs);
-    let moves = row * t.shape.hact.0;
+    let moves = row * t.counts.hact.0;
     let start = raster::Cell {
-        at: p.starts.start1,
+        address: p.starts.start1,
     };
     raster::advance_by(timing::buffer_of(irs), moves, start)
 }
@@ -63,7 +63,7 @@ pub fn cell_at(p: board::Page, chars: &[u8], row: u32, column: u32) -> raster::C
 {
     let irs = p.irs;
     let t = timing::timing_of(irs);
-    let moves = least(column, t.shape.hact.0);
+    let moves = least(column, t.counts.hact.0);
     let start = row_start(p, chars, row);
     raster::advance_by(timing::buffer_of(irs), moves, start)
 }
@@ -78,7 +78,7 @@ fn run_count(p: board::Page, start: u16) -> u32
     let b = timing::buffer_of(irs);
     let at = start as u32;
     let to_last = (b.last as u32 + 16384 - at % 16384) % 16384;
-    least(t.shape.hact.0, least(to_last + 1, 16384 - at))
+    least(t.counts.hact.0, least(to_last + 1, 16384 - at))
 }
 
 fn run_check(b: board::Board, n: usize, row: u32) -> refusal::Refusal
@@ -86,7 +86,7 @@ fn run_check(b: board::Board, n: usize, row: u32) -> refusal::Refusal
 {
     let irs = b.page.irs;
     let t = timing::timing_of(irs);
-    timing::call_check(b, n != 16384, t.shape.rows <= row, false)
+    timing::call_check(b, n != 16384, t.counts.rows <= row, false)
 }
 
 pub fn span_of(b: board::Board, chars: &[u8], row: u32) -> Span
@@ -98,8 +98,8 @@ pub fn span_of(b: board::Board, chars: &[u8], row: u32) -> Span
         let start = row_start(page, chars, row);
         return Span {
             refusal: refused,
-            start: start.at as usize,
-            count: run_count(page, start.at) as usize,
+            start: start.address as usize,
+            count: run_count(page, start.address) as usize,
         };
     }
     Span {

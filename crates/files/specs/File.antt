@@ -40,8 +40,8 @@ abbrev pub pageRead : Refusal → Board → PageRead
 pageRead r b = record { refusal = r; board = b }
 
 -- a refused read gives the board that power gives
-unfoldable pub readOf : List ℕ → (size : Bool) → PageRead
-readOf file size = pageRead (readCheck file size) (pick (doneOf (readCheck file size)) (boardAt file 5) powerOf)
+unfoldable pub readPageOf : List ℕ → (size : Bool) → PageRead
+readPageOf file size = pageRead (readCheck file size) (pick (doneOf (readCheck file size)) (boardAt file 5) powerOf)
 
 -- the memories afterwards: those of the file, and on a refusal as they were
 unfoldable pub charsRead : List ℕ → (size : Bool) → List ℕ → List ℕ

@@ -23,7 +23,7 @@ use Rattle.timing.specs.Check.{pageCheck}
 use Rattle.timing.specs.Laws.{call-passed}
 use Rattle.files.specs.Page.{pageAt, boardAt, numbersIn}
 use Rattle.files.specs.Put.{putAt, laid-none, put-on}
-use Rattle.files.specs.File.{longAt, versionRefused, lengthRefused, fileCheck, readCheck, pageRead, readOf, charsRead, attrsRead, bytesOf, headOf, fileOf, writeCheck, written}
+use Rattle.files.specs.File.{longAt, versionRefused, lengthRefused, fileCheck, readCheck, pageRead, readPageOf, charsRead, attrsRead, bytesOf, headOf, fileOf, writeCheck, written}
 
 -- a copy of all of s over a list of its length
 pub whole : (s d x : List ℕ) → length s ≡ length d → x ≡ take (length s) s ++ drop (length s) d → x ≡ s
@@ -95,13 +95,13 @@ read-passed file chars attrs e =
 module _ (file : List ℕ) (size : Bool) (chars attrs : List ℕ) (x : Refusal) (e : x ≡ readCheck file size) where
   pub read-done : doneOf (readCheck file size) ≡ true → (b : Board) → b ≡ boardAt file 5 → (c a : List ℕ)
       → c ≡ take 16384 (drop 29 file) → a ≡ take 16384 (drop 16413 file)
-      → (pageRead x b ≡ readOf file size) × (c ≡ charsRead file size chars) × (a ≡ attrsRead file size attrs)
-  unfolding readOf charsRead attrsRead
+      → (pageRead x b ≡ readPageOf file size) × (c ≡ charsRead file size chars) × (a ≡ attrsRead file size attrs)
+  unfolding readPageOf charsRead attrsRead
   read-done t b eb c a ec ea = (rw (t, e, eb), rw t ec, rw t ea)
 
   pub read-refused : doneOf (readCheck file size) ≡ false → (b : Board) → b ≡ powerOf
-      → (pageRead x b ≡ readOf file size) × (chars ≡ charsRead file size chars) × (attrs ≡ attrsRead file size attrs)
-  unfolding readOf charsRead attrsRead
+      → (pageRead x b ≡ readPageOf file size) × (chars ≡ charsRead file size chars) × (attrs ≡ attrsRead file size attrs)
+  unfolding readPageOf charsRead attrsRead
   read-refused t b eb = (rw (t, e, eb), rw t, rw t)
 
 tab-all : (xs : List ℕ) (n : ℕ) → length xs ≡ n → tab n (λ i. getD xs i 0) ≡ xs

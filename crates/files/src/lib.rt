@@ -4,7 +4,7 @@ ghost use Prim.Native.Nat.{_+_, _*_, _/_, _%_, _≤_};
 ghost use mathlib.Core.List.{_++_};
 ghost use lib.ListN.{length, take, drop};
 ghost use Rattle.files.specs.Page.{wordAt, startsAt, videoOf, pageAt, boardAt, numbersIn};
-ghost use Rattle.files.specs.File.{longAt, versionRefused, lengthRefused, fileCheck, readCheck, readOf, charsRead, attrsRead, headOf, fileOf, writeCheck, written};
+ghost use Rattle.files.specs.File.{longAt, versionRefused, lengthRefused, fileCheck, readCheck, readPageOf, charsRead, attrsRead, headOf, fileOf, writeCheck, written};
 ghost use Rattle.files.specs.FontFile.{wordsOf, byteOf, bytesIn, fontCheck, fontRead, fontFileOf, fontWriteCheck, fontWritten};
 ghost use Rattle.files.specs.Put.{putAt};
 ghost use Rattle.board.specs.Range.{memoriesRefused};
@@ -178,7 +178,7 @@ pub fn read_check(file: &[u8], size: bool) -> refusal::Refusal
 
 // Reads a page file into the two memories. A refusal leaves both as they were.
 pub fn read_page(file: &[u8], chars: &mut [u8], attrs: &mut [u8]) -> PageRead
-    ensures { λ r. ⌜ (r ≡ readOf (now (file .entry)) (memoriesRefused (length (now (chars .entry))) (length (now (attrs .entry)))))
+    ensures { λ r. ⌜ (r ≡ readPageOf (now (file .entry)) (memoriesRefused (length (now (chars .entry))) (length (now (attrs .entry)))))
         × (now (chars .exit) ≡ charsRead (now (file .entry)) (memoriesRefused (length (now (chars .entry))) (length (now (attrs .entry)))) (now (chars .entry)))
         × (now (attrs .exit) ≡ attrsRead (now (file .entry)) (memoriesRefused (length (now (chars .entry))) (length (now (attrs .entry)))) (now (attrs .entry))) ⌝ }
 {

@@ -20,7 +20,7 @@ use Rattle.board.specs.declared.Board.{Board}
 use Rattle.board.specs.Range.{memoriesRefused}
 use Rattle.board.specs.Laws.{memories-all}
 use Rattle.timing.specs.declared.Timing.{Timing}
-use Rattle.timing.specs.Fields.{hactOf, rowsOf, linesOf, visibleOf, bufferOf, timingOf, shapeOf}
+use Rattle.timing.specs.Fields.{hactOf, rowsOf, linesOf, visibleOf, bufferOf, timingOf, countsOf}
 use Rattle.timing.specs.Laws.{Accepted, call-passed, buffer-bounded}
 use Rattle.fetch.specs.Rows.{rowStart}
 use Rattle.fetch.specs.Laws.{cell-moved, row-start-lt}
@@ -70,17 +70,17 @@ length-column w chars attrs words flags start m c = length-cell _ _ (w .width) (
 -- ---- a turn of the drawer's loop
 
 module _ (b : Buffer) (start c : ℕ) (x : Cell) (e : x ≡ cell (advanceBy b c start)) where
-  pub at-lt : x .at < 16384
+  pub at-lt : x .address < 16384
   at-lt = rw e (advanceBy-lt b c start)
 
-  pub moved-on : Bounded b → start < 16384 → (y : Cell) → y ≡ cell (advance b (x .at)) → y ≡ cell (advanceBy b (c + 1) start)
+  pub moved-on : Bounded b → start < 16384 → (y : Cell) → y ≡ cell (advance b (x .address)) → y ≡ cell (advanceBy b (c + 1) start)
   moved-on o h y q = q ∙ rw (e, add-one c) (ap cell (sym (advanceBy-suc b o c start h)))
 
-pub not-moved : (b : Buffer) (x : Cell) → x .at < 16384 → x ≡ cell (advanceBy b 0 (x .at))
-not-moved b x h = ap cell (sym (advanceBy-zero b (x .at) h))
+pub not-moved : (b : Buffer) (x : Cell) → x .address < 16384 → x ≡ cell (advanceBy b 0 (x .address))
+not-moved b x h = ap cell (sym (advanceBy-zero b (x .address) h))
 
 pub as-column : (w : Walk) (chars attrs words flags : List ℕ) (start c : ℕ) (x : Cell) (out rest : List ℕ) → x ≡ cell (advanceBy (w .buffer) c start)
-    → out ≡ cellBy w words flags (getD chars (x .at) 0) (getD attrs (x .at) 0) (x .at) ++ rest → out ≡ columnBy w chars attrs words flags start c ++ rest
+    → out ≡ cellBy w words flags (getD chars (x .address) 0) (getD attrs (x .address) 0) (x .address) ++ rest → out ≡ columnBy w chars attrs words flags start c ++ rest
 unfolding columnBy
 as-column w chars attrs words flags start c x out rest e q = rw e at q
 
@@ -100,9 +100,9 @@ module _ (b : Board) (chars attrs : List ℕ) (f : Font) (line field : ℕ) wher
       let k : min c (hactOf (b .page .irs)) ≡ c = omega arith in
       rw (← cell-moved (b .page) chars (line / linesOf (b .page .irs)) c, k)
 
-  pub same-line : joined 0 (hactOf (b .page .irs)) (columnBy w chars attrs (f .words) (f .flags) (rowStart (b .page) chars r)) ≡ lineDots b chars attrs f line field
+  pub walk-line : joined 0 (hactOf (b .page .irs)) (columnBy w chars attrs (f .words) (f .flags) (rowStart (b .page) chars r)) ≡ lineDots b chars attrs f line field
   unfolding lineDots
-  same-line = same-joined 0 (hactOf (b .page .irs)) _ _ (λ c l u. same-column c (omega arith))
+  walk-line = same-joined 0 (hactOf (b .page .irs)) _ _ (λ c l u. same-column c (omega arith))
 
 -- ---- a call that is not refused
 
@@ -134,25 +134,25 @@ draw-passed b chars attrs f line room e =
 -- what the drawer has worked out before it goes along the line: the counts, the line's constants, and the row's start
 pub record Prepared (b : Board) (chars unshifted shifted : List ℕ) (line field : ℕ) (t : Timing) (w : Walk) (start : Cell) : Type 0 where
   pub timed : t ≡ timingOf (b .page .irs)
-  pub walked : w ≡ walkOf b unshifted shifted (line % t .shape .lines .0) field
-  pub started : start ≡ cell (rowStart (b .page) chars (line / t .shape .lines .0))
+  pub walked : w ≡ walkOf b unshifted shifted (line % t .counts .lines .0) field
+  pub started : start ≡ cell (rowStart (b .page) chars (line / t .counts .lines .0))
 
-pub lines-some : (t : Timing) (irs : List ℕ) → t ≡ timingOf irs → 0 < t .shape .lines .0
-unfolding timingOf shapeOf
+pub lines-some : (t : Timing) (irs : List ℕ) → t ≡ timingOf irs → 0 < t .counts .lines .0
+unfolding timingOf countsOf
 lines-some t irs e = rw e (omega arith)
 
-pub hact-le : (t : Timing) (irs : List ℕ) → t ≡ timingOf irs → t .shape .hact .0 ≤ 256
-unfolding timingOf shapeOf
+pub hact-le : (t : Timing) (irs : List ℕ) → t ≡ timingOf irs → t .counts .hact .0 ≤ 256
+unfolding timingOf countsOf
 hact-le t irs e = rw e (omega arith)
 
 module _ (b : Board) (chars attrs : List ℕ) (f : Font) (line field : ℕ) (t : Timing) where
-  pub row-lt : {room : ℕ} → t ≡ timingOf (b .page .irs) → Drawn b chars attrs f line room → line / t .shape .lines .0 < 8192
-  unfolding timingOf shapeOf
+  pub row-lt : {room : ℕ} → t ≡ timingOf (b .page .irs) → Drawn b chars attrs f line room → line / t .counts .lines .0 < 8192
+  unfolding timingOf countsOf
   row-lt e k = rw e (omega (arith, k .row-lt))
 
   module _ (w : Walk) (start : Cell) (q : Prepared b chars (f .unshifted) (f .shifted) line field t w start) where
-    pub ready : {room : ℕ} → Drawn b chars attrs f line room → Ready w chars attrs (f .words) (f .flags) (start .at) × (t .shape .hact .0 * w .width ≤ room)
-    unfolding timingOf shapeOf walkOf
+    pub ready : {room : ℕ} → Drawn b chars attrs f line room → Ready w chars attrs (f .words) (f .flags) (start .address) × (t .counts .hact .0 * w .width ≤ room)
+    unfolding timingOf countsOf walkOf
     ready k =
         rw (q .started, q .walked, q .timed) (
           record {
@@ -169,12 +169,12 @@ module _ (b : Board) (chars attrs : List ℕ) (f : Font) (line field : ℕ) (t :
         )
 
     pub drawn : (out out₀ : List ℕ)
-        → out ≡ joined 0 (t .shape .hact .0) (columnBy w chars attrs (f .words) (f .flags) (start .at)) ++ drop (t .shape .hact .0 * w .width) out₀
+        → out ≡ joined 0 (t .counts .hact .0) (columnBy w chars attrs (f .words) (f .flags) (start .address)) ++ drop (t .counts .hact .0 * w .width) out₀
         → out ≡ lineDots b chars attrs f line field ++ drop (lineLength b) out₀
-    unfolding timingOf shapeOf walkOf
+    unfolding timingOf countsOf walkOf
     drawn out out₀ e =
         (rw (q .started, q .walked, q .timed) at e)
-        ∙ ap (λ (l : List ℕ). l ++ drop (lineLength b) out₀) (same-line b chars attrs f line field)
+        ∙ ap (λ (l : List ℕ). l ++ drop (lineLength b) out₀) (walk-line b chars attrs f line field)
 
 -- ---- what the call leaves
 

@@ -40,9 +40,9 @@ fn cells(
     start: raster::Cell,
     n: usize,
 )
-    requires { ⌜ Ready w (now chars) (now attrs) (now words) (now flags) (start .at) ⌝ }
+    requires { ⌜ Ready w (now chars) (now attrs) (now words) (now flags) (start .address) ⌝ }
     requires { ⌜ n * w .width ≤ length (now out) ⌝ }
-    ensures { λ _. ⌜ now (out .exit) ≡ joined 0 n (columnBy w (now (chars .entry)) (now (attrs .entry)) (now (words .entry)) (now (flags .entry)) (start .at)) ++ drop (n * w .width) (now (out .entry)) ⌝ }
+    ensures { λ _. ⌜ now (out .exit) ≡ joined 0 n (columnBy w (now (chars .entry)) (now (attrs .entry)) (now (words .entry)) (now (flags .entry)) (start .address)) ++ drop (n * w .width) (now (out .entry)) ⌝ }
 {
     let d = w.width;
     let buffer = w.buffer;
@@ -50,7 +50,7 @@ fn cells(
     let mut c = 0;
     while c < n {
         let a = c * d;
-        let address = cell.at;
+        let address = cell.address;
         let at = address as usize;
         put(&mut out[a..], w, words, flags, chars[at], attrs[at], at);
         cell = raster::advance_one(buffer, cell);
@@ -100,7 +100,7 @@ fn draw_check(b: board::Board, size: bool, line: u32, room: usize) -> refusal::R
     let irs = b.page.irs;
     let t = timing::timing_of(irs);
     let shown = timing::visible_of(irs);
-    let hact = t.shape.hact;
+    let hact = t.counts.hact;
     let dots = b.page.video.dots;
     let needed = line_bytes(hact, dots);
     timing::call_check(b, size, shown.0 <= line, (room as u64) < needed)
@@ -125,8 +125,8 @@ fn whole_line(
     let page = b.page;
     let irs = page.irs;
     let t = timing::timing_of(irs);
-    let row = line / t.shape.lines.0;
-    let scan = line % t.shape.lines.0;
+    let row = line / t.counts.lines.0;
+    let scan = line % t.counts.lines.0;
     let w = walk_of(b, unshifted, shifted, scan, field);
     let start = fetch::row_start(page, chars, row);
     cells(
@@ -137,7 +137,7 @@ fn whole_line(
         words,
         flags,
         start,
-        t.shape.hact.0 as usize,
+        t.counts.hact.0 as usize,
     );
 }
 

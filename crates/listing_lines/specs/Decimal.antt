@@ -70,7 +70,7 @@ fewest n (suc (suc k)) f =
 -- digits at the front of their bytes
 pub record Spelled (d : Digits) (n : ℕ) : Type 0 where
   pub front : take (d .count) (d .bytes) ≡ decimal n
-  pub within : d .count ≤ length (d .bytes)
+  pub digits-within : d .count ≤ length (d .bytes)
 
 pub spelled : (d : Digits) (n : ℕ) → Counts (d .count) (d .bytes) → Fewest 10 1 n (d .count) → take (d .count) (d .bytes) ≡ digits 10 (d .count) n → Spelled d n
-spelled d n c f e = record { front = e ∙ fewest n (d .count) f; within = c .0 }
+spelled d n c f e = record { front = e ∙ fewest n (d .count) f; digits-within = c .0 }

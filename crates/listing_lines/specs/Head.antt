@@ -69,10 +69,10 @@ module _ (p : Page) (out : List ℕ) where
     is-head = rw (m .lines .front, m .dots .front, m .whole)
 
     length-first : length first ≡ a
-    length-first = simp (length-append, length-take) (omega (arith, m .lines .within))
+    length-first = simp (length-append, length-take) (omega (arith, m .lines .digits-within))
 
     length-second : length second ≡ d .count + 1
-    length-second = simp (length-append, length-take) (omega (arith, m .dots .within))
+    length-second = simp (length-append, length-take) (omega (arith, m .dots .digits-within))
 
     length-head : length (listingHead p) ≡ n
     length-head = rw (← is-head, length-append first second, length-first, length-second) (omega arith)

@@ -2,8 +2,8 @@
 --     joined                 f c, f (c + 1), .., n of them, end to end
 --     same-joined            stretches that agree one by one make the same list
 --     length-joined          n stretches of d are n * d long
---     begins, turn, ends     the loop's proof, where every stretch is d long: what is left after c turns is `joined c (n - c) f`
---     inside                 stretch c lies within the buffer
+--     join-begins, join-turn, join-ends     the loop's proof, where every stretch is d long: what is left after c turns is `joined c (n - c) f`
+--     stretch-inside                 stretch c lies within the buffer
 use mathlib.Core.Path.{_≡_, refl, sym, ap₂}
 use mathlib.Core.List.{List, [], _++_}
 use Prim.Native.Nat.{ℕ, zero, suc, _+_, _*_, _-_, _≤_, _<_}
@@ -24,8 +24,8 @@ same-joined c (suc n) f g h =
     ap₂ (λ (x y : List ℕ). x ++ y) (h c (omega arith) (omega arith))
     (same-joined (suc c) n f g (λ k l u. h k (omega arith) (omega arith)))
 
-pub inside : (c n d m : ℕ) → c < n → n * d ≤ m → c * d + d ≤ m
-inside c n d m h k =
+pub stretch-inside : (c n d m : ℕ) → c < n → n * d ≤ m → c * d + d ≤ m
+stretch-inside c n d m h k =
     let l : c + 1 ≤ n = omega arith in
     omega (arith, add-mul c 1 d, one-mul d, mul-le-mul-right d l)
 
@@ -44,16 +44,16 @@ module _ (f : ℕ → List ℕ) (d : ℕ) (each : (c : ℕ) → length (f c) ≡
   unfolding joined
   none c n h = let e : n - c ≡ 0 = omega arith in rw e
 
-  pub begins : (out : List ℕ) (n : ℕ) → Filling (joined 0 n f ++ drop (n * d) out) out (n * d) out (0 * d) (joined 0 (n - 0) f)
-  begins out n = rw (sub-zero, zero-mul) (fill-start out (n * d) (joined 0 n f))
+  pub join-begins : (out : List ℕ) (n : ℕ) → Filling (joined 0 n f ++ drop (n * d) out) out (n * d) out (0 * d) (joined 0 (n - 0) f)
+  join-begins out n = rw (sub-zero, zero-mul) (fill-start out (n * d) (joined 0 n f))
 
-  pub turn : {final out₀ out : List ℕ} (ys : List ℕ) (c n : ℕ) → Filling final out₀ (n * d) out (c * d) (joined c (n - c) f)
+  pub join-turn : {final out₀ out : List ℕ} (ys : List ℕ) (c n : ℕ) → Filling final out₀ (n * d) out (c * d) (joined c (n - c) f)
       → c < n → n * d ≤ length out₀ → ys ≡ f c ++ drop d (take (length out - c * d) (drop (c * d) out))
       → Filling final out₀ (n * d) (take (c * d) out ++ (ys ++ drop (length out - c * d) (drop (c * d) out))) ((c + 1) * d) (joined (c + 1) (n - (c + 1)) f)
-  turn {out = out} ys c n g h l q =
-      let room : c * d + d ≤ length out = omega (arith, g .same, inside c n d _ h l) in
+  join-turn {out = out} ys c n g h l q =
+      let room : c * d + d ≤ length out = omega (arith, g .same, stretch-inside c n d _ h l) in
       let next : (c + 1) * d ≡ c * d + d = omega (arith, add-mul c 1 d, one-mul d) in
       rw (lent out ys (f c) (c * d) d room q, next) (fill-part (f c) d (each c) room (rw (more c n h) at g))
 
-  pub ends : {final out₀ out : List ℕ} (c n : ℕ) → Filling final out₀ (n * d) out (c * d) (joined c (n - c) f) → c ≤ n → n ≤ c → out ≡ final
-  ends c n g l h = let e : c ≡ n = omega arith in fill-end (rw (none c n h, e) at g)
+  pub join-ends : {final out₀ out : List ℕ} (c n : ℕ) → Filling final out₀ (n * d) out (c * d) (joined c (n - c) f) → c ≤ n → n ≤ c → out ≡ final
+  join-ends c n g l h = let e : c ≡ n = omega arith in fill-end (rw (none c n h, e) at g)

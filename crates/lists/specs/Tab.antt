@@ -1,7 +1,7 @@
 -- A list given element by element, and the loop that stores it: after i turns the buffer is `tab i f ++ drop i d`. Assumes nothing.
 --     tab                      f 0, f 1, .., n of them
 --     length-tab, getD-tab     how many there are, and each one
---     turn, ends               one turn of such a loop, and its end, as a loop's proof asks for them
+--     tab-turn, tab-ends               one tab-turn of such a loop, and its end, as a loop's proof asks for them
 --     tab-part                 where f reads a list from a place on, it is a part of that list
 use mathlib.Core.Path.{_≡_, refl, sym, ap, _∙_, subst}
 use mathlib.Core.List.{List, [], _∷_, _++_, append-nil}
@@ -42,11 +42,11 @@ stored n f d l =
     ∙ sym (append-snoc (tab n f) (f n) (drop (suc n) d)))
 
 module _ (f : ℕ → ℕ) (d₀ d : List ℕ) (i : ℕ) (e : d ≡ tab i f ++ drop i d₀) where
-  pub turn : (v : ℕ) → i < length d₀ → v ≡ f i → set d i v ≡ tab (i + 1) f ++ drop (i + 1) d₀
-  turn v l q = rw (e, q) (stored i f d₀ l)
+  pub tab-turn : (v : ℕ) → i < length d₀ → v ≡ f i → set d i v ≡ tab (i + 1) f ++ drop (i + 1) d₀
+  tab-turn v l q = rw (e, q) (stored i f d₀ l)
 
-  pub ends : i ≡ length d₀ → d ≡ tab (length d₀) f
-  ends q = e ∙ rw (q, drop-length d₀) (append-nil (tab (length d₀) f))
+  pub tab-ends : i ≡ length d₀ → d ≡ tab (length d₀) f
+  tab-ends q = e ∙ rw (q, drop-length d₀) (append-nil (tab (length d₀) f))
 
 pub tab-part : (xs : List ℕ) (a n : ℕ) → a + n ≤ length xs → tab n (λ i. getD xs (a + i) 0) ≡ take n (drop a xs)
 tab-part xs a n l =

@@ -9,17 +9,17 @@ use native.Mathlib.Decide.{decLt}
 use native.Mathlib.Numerals.{add-one}
 use native.Mathlib.Omega.{arith}
 use borrow.Author.Tests.{lt-ltb, le-ltb, eq-eqb, ne-eqb}
-use Rattle.raster.specs.declared.Shape.{Shape}
-use Rattle.raster.specs.Tick.{Tick, within, carry, tick}
-use Rattle.raster.specs.Raster.{HT, VT, L, R, Good, clocks-some, frame-some, Carrier, Pair, pair, scan, turn, loaded, beam, step, steps, origin, Rows, tail, inLine, carriedAt, scanAt}
+use Rattle.raster.specs.declared.Counts.{Counts}
+use Rattle.raster.specs.Tick.{Tick, up, carry, tick}
+use Rattle.raster.specs.Raster.{HT, VT, L, R, Good, clocks-some, frame-some, Carrier, Pair, pair, scan, turn, loaded, onward, step, steps, origin, Rows, tail, inLine, carriedAt, scanAt}
 
-pub record Laws {D : Type 0} (g : Shape) (m : Carrier D) (w : Rows D) : Type 0 where
+pub record Laws {D : Type 0} (g : Counts) (m : Carrier D) (w : Rows D) : Type 0 where
   pub walk-zero : (r : ℕ) → r < R g → w .walk r 0 ≡ w .start r
   pub walk-suc : (r c : ℕ) → r < R g → c < HT g → w .walk r (suc c) ≡ m .move r c (w .walk r c)
   pub start-zero : (d : D) → m .begin 0 d ≡ w .start 0
   pub start-suc : (r : ℕ) → suc r < R g → m .begin (suc r) (w .walk r (HT g)) ≡ w .start (suc r)
 
-module _ {D : Type 0} (g : Shape) (w : Rows D) where
+module _ {D : Type 0} (g : Counts) (w : Rows D) where
   visible : (c line : ℕ) → line < R g * L g → inLine g w c line ≡ pair (w .walk (line / L g) c) (w .start (line / L g))
   unfolding inLine
   visible c line h = rw (lt-ltb line (R g * L g) h)
@@ -28,30 +28,30 @@ module _ {D : Type 0} (g : Shape) (w : Rows D) where
   unfolding inLine
   hidden c line h = rw (le-ltb line (R g * L g) h)
 
-module _ {D : Type 0} (g : Shape) (m : Carrier D) where
+module _ {D : Type 0} (g : Counts) (m : Carrier D) where
   loaded-on : (line c : ℕ) (p : Pair D) → loaded g m line (suc c) p ≡ p
   unfolding loaded
   loaded-on line c p = rw (ne-eqb (suc c) 0 (omega arith))
 
   loaded-first : (line : ℕ) (p : Pair D) → line % L g ≡ 0
-      → loaded g m line 0 p ≡ pair (m .begin (line / L g) (p .now)) (m .begin (line / L g) (p .now))
+      → loaded g m line 0 p ≡ pair (m .begin (line / L g) (p .beam)) (m .begin (line / L g) (p .beam))
   unfolding loaded
   loaded-first line p e = rw (eq-eqb (line % L g) 0 e)
 
-  loaded-again : (line : ℕ) (p : Pair D) → (line % L g ≡ 0 → ⊥) → loaded g m line 0 p ≡ pair (p .kept) (p .kept)
+  loaded-again : (line : ℕ) (p : Pair D) → (line % L g ≡ 0 → ⊥) → loaded g m line 0 p ≡ pair (p .row) (p .row)
   unfolding loaded
   loaded-again line p f = rw (ne-eqb (line % L g) 0 f)
 
-  beam-shown : (line c : ℕ) (p : Pair D) (a b : D) → line < R g * L g → loaded g m line c p ≡ pair a b
-      → beam g m line c p ≡ pair (m .move (line / L g) c a) b
-  unfolding beam
-  beam-shown line c p a b h e = rw (lt-ltb line (R g * L g) h, e)
+  onward-shown : (line c : ℕ) (p : Pair D) (a b : D) → line < R g * L g → loaded g m line c p ≡ pair a b
+      → onward g m line c p ≡ pair (m .move (line / L g) c a) b
+  unfolding onward
+  onward-shown line c p a b h e = rw (lt-ltb line (R g * L g) h, e)
 
-  beam-hidden : (line c : ℕ) (p : Pair D) → R g * L g ≤ line → beam g m line c p ≡ p
-  unfolding beam
-  beam-hidden line c p h = rw (le-ltb line (R g * L g) h)
+  onward-hidden : (line c : ℕ) (p : Pair D) → R g * L g ≤ line → onward g m line c p ≡ p
+  unfolding onward
+  onward-hidden line c p h = rw (le-ltb line (R g * L g) h)
 
-module _ {D : Type 0} (g : Shape) (m : Carrier D) (w : Rows D) (s : Good g) (k : Laws g m w) where
+module _ {D : Type 0} (g : Counts) (m : Carrier D) (w : Rows D) (s : Good g) (k : Laws g m w) where
   row-lt : (line : ℕ) → line < R g * L g → line / L g < R g
   row-lt line h = div-lt-iff-lt-mul (s .lines-some) .1 h
 
@@ -62,7 +62,7 @@ module _ {D : Type 0} (g : Shape) (m : Carrier D) (w : Rows D) (s : Good g) (k :
       e = omega arith
 
       go : Tick (L g) line → line / L g ≡ pred (R g)
-      go (within a p q) =
+      go (up a p q) =
           let z : suc line % L g ≡ 0 = ap (λ (x : ℕ). x % L g) e ∙ mul-mod-left (R g) (L g) in
           absurd (omega arith)
       go (carry a p q) =
@@ -77,13 +77,13 @@ module _ {D : Type 0} (g : Shape) (m : Carrier D) (w : Rows D) (s : Good g) (k :
   top : (p : Pair D) → 0 < R g * L g → loaded g m 0 0 p ≡ pair (w .walk (0 / L g) 0) (w .start (0 / L g))
   top p h =
       loaded-first g m 0 p (zero-mod (L g))
-      ∙ started 0 (m .begin (0 / L g) (p .now)) h
-      (ap (λ (x : ℕ). m .begin x (p .now)) (zero-div (L g)) ∙ k .start-zero (p .now) ∙ ap (w .start) (sym (zero-div (L g))))
+      ∙ started 0 (m .begin (0 / L g) (p .beam)) h
+      (ap (λ (x : ℕ). m .begin x (p .beam)) (zero-div (L g)) ∙ k .start-zero (p .beam) ∙ ap (w .start) (sym (zero-div (L g))))
 
   down : (line : ℕ) → suc line < R g * L g → Tick (L g) line
       → loaded g m (suc line) 0 (pair (w .walk (line / L g) (HT g)) (w .start (line / L g)))
       ≡ pair (w .walk (suc line / L g) 0) (w .start (suc line / L g))
-  down line h (within a p q) =
+  down line h (up a p q) =
       loaded-again g m (suc line) (pair (w .walk (line / L g) (HT g)) (w .start (line / L g))) (λ z. omega arith)
       ∙ started (suc line) (w .start (line / L g)) h (ap (w .start) (sym q))
   down line h (carry a p q) =
@@ -117,8 +117,8 @@ module _ {D : Type 0} (g : Shape) (m : Carrier D) (w : Rows D) (s : Good g) (k :
           ∙ ap (λ (x : ℕ). pair (w .walk x (HT g)) (w .start x)) (last-row line h l)
       go (no f) = hidden g w (HT g) line (omega arith)
 
-  beam-meets : (z : D) (c line frame : ℕ) → c < HT g → beam g m line c (carriedAt g w z c line frame) ≡ inLine g w (suc c) line
-  beam-meets z c line frame hc = go (decLt line (R g * L g))
+  onward-meets : (z : D) (c line frame : ℕ) → c < HT g → onward g m line c (carriedAt g w z c line frame) ≡ inLine g w (suc c) line
+  onward-meets z c line frame hc = go (decLt line (R g * L g))
     where
       p : Pair D
       p = carriedAt g w z c line frame
@@ -126,14 +126,14 @@ module _ {D : Type 0} (g : Shape) (m : Carrier D) (w : Rows D) (s : Good g) (k :
       r : ℕ
       r = line / L g
 
-      go : Dec (line < R g * L g) → beam g m line c p ≡ inLine g w (suc c) line
+      go : Dec (line < R g * L g) → onward g m line c p ≡ inLine g w (suc c) line
       go (yes h) =
-          beam-shown g m line c p (w .walk r c) (w .start r) h (loaded-meets z c line frame h)
+          onward-shown g m line c p (w .walk r c) (w .start r) h (loaded-meets z c line frame h)
           ∙ ap (λ (x : D). pair x (w .start r)) (sym (k .walk-suc r c (row-lt line h) hc))
           ∙ sym (visible g w (suc c) line h)
       go (no f) =
           let l : R g * L g ≤ line = omega arith in
-          beam-hidden g m line c p l ∙ idle-meets z c line frame l ∙ sym (hidden g w (suc c) line l)
+          onward-hidden g m line c p l ∙ idle-meets z c line frame l ∙ sym (hidden g w (suc c) line l)
 
   -- the place after a clock
   turn-on : (f l c : ℕ) (p : Pair D) → suc c < HT g → turn g f l c p ≡ scan f l (suc c) p
@@ -154,7 +154,7 @@ module _ {D : Type 0} (g : Shape) (m : Carrier D) (w : Rows D) (s : Good g) (k :
   pub step-meets : (z : D) (n : ℕ) → step g m (scanAt g w z n) ≡ scanAt g w z (suc n)
   unfolding step scanAt carriedAt
   step-meets z n =
-      ap (turn g (f % 256) l c) (beam-meets z c l f (mod-lt n (clocks-some g s)))
+      ap (turn g (f % 256) l c) (onward-meets z c l f (mod-lt n (clocks-some g s)))
       ∙ go (tick n (clocks-some g s))
     where
       c : ℕ
@@ -172,14 +172,14 @@ module _ {D : Type 0} (g : Shape) (m : Carrier D) (w : Rows D) (s : Good g) (k :
       below : suc c ≡ HT g → Tick (VT g) y
           → turn g (f % 256) l c (inLine g w (HT g) l)
           ≡ scan (suc y / VT g % 256) (suc y % VT g) 0 (carriedAt g w z 0 (suc y % VT g) (suc y / VT g))
-      below e (within a p q) = rw (p, q) (turn-line (f % 256) l c (inLine g w (HT g) l) e a)
+      below e (up a p q) = rw (p, q) (turn-line (f % 256) l c (inLine g w (HT g) l) e a)
       below e (carry a p q) =
           rw (p, q)
           (turn-frame (f % 256) l c (inLine g w (HT g) l) e a
           ∙ ap₂ (λ (x : ℕ) (d : Pair D). scan x 0 0 d) (counted f) (hidden g w (HT g) l (omega (arith, s .porch))))
 
       go : Tick (HT g) n → turn g (f % 256) l c (inLine g w (suc c) l) ≡ scanAt g w z (suc n)
-      go (within a p q) = rw (p, q) (turn-on (f % 256) l c (inLine g w (suc c) l) a)
+      go (up a p q) = rw (p, q) (turn-on (f % 256) l c (inLine g w (suc c) l) a)
       go (carry a p q) = rw (p, q, a) (below a (tick y (frame-some g s)))
 
   at-origin : origin g m ≡ scanAt g w (m .zeroth) 0

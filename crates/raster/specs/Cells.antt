@@ -2,7 +2,7 @@
 --     Feed          the buffer, screen start 1, the row table, and at which clocks of a row the address moves on
 --     Tally         how often it has moved on by a column of a row, at once
 --     carrier       the cell as the beam carries it
---     rowsOf        each row's start, and the cell at each of its columns, at once
+--     cellRows        each row's start, and the cell at each of its columns, at once
 --     cells-meet    n single steps from clock 0 come to `scanAt` of these
 --     cells-inside  with the table off and an ordered buffer every cell is in the buffer
 use mathlib.Core.Path.{_≡_, refl, sym, ap, _∙_}
@@ -14,7 +14,7 @@ use native.Mathlib.Omega.{arith}
 use lib.Dec.{ltb, eqb}
 use borrow.Author.Tests.{lt-ltb, le-ltb, ne-eqb}
 use Rattle.lists.specs.Choice.{pick}
-use Rattle.raster.specs.declared.Shape.{Shape}
+use Rattle.raster.specs.declared.Counts.{Counts}
 use Rattle.raster.specs.declared.Buffer.{Buffer}
 use Rattle.raster.specs.declared.Cell.{Cell}
 use Rattle.raster.specs.Moves.{cell, advance, advanceBy, Bounded, advanceBy-zero, advanceBy-suc, advanceBy-add, advanceBy-lt, advanceBy-inside, Inside}
@@ -45,8 +45,8 @@ movesOn e r c a = pick (e .moves r c) (advance (e .buffer) a) a
 abbrev pub carrier : Feed → Carrier Cell
 carrier e = record {
   zeroth = cell 0;
-  begin = λ r d. cell (begins e r (d .at));
-  move = λ r c d. cell (movesOn e r c (d .at));
+  begin = λ r d. cell (begins e r (d .address));
+  move = λ r c d. cell (movesOn e r c (d .address));
 }
 
 -- ---- at once
@@ -57,14 +57,14 @@ startOf e t r = pick (e .table) (e .entry r) (advanceBy (e .buffer) (r * t .perR
 unfoldable pub cellOf : Feed → Tally → ℕ → ℕ → ℕ
 cellOf e t r c = advanceBy (e .buffer) (t .moved r c) (startOf e t r)
 
-abbrev pub rowsOf : Feed → Tally → Rows Cell
-rowsOf e t = record { start = λ r. cell (startOf e t r); walk = λ r c. cell (cellOf e t r c) }
+abbrev pub cellRows : Feed → Tally → Rows Cell
+cellRows e t = record { start = λ r. cell (startOf e t r); walk = λ r c. cell (cellOf e t r c) }
 
 -- each active clock moves on
-abbrev pub everyClock : Shape → ℕ → ℕ → Bool
+abbrev pub everyClock : Counts → ℕ → ℕ → Bool
 everyClock g r c = ltb c (HACT g)
 
-abbrev pub tallyOf : Shape → Tally
+abbrev pub tallyOf : Counts → Tally
 tallyOf g = record { moved = λ r c. min c (HACT g); perRow = HACT g }
 
 -- ---- the two agree
@@ -74,12 +74,12 @@ pub record Fed (e : Feed) : Type 0 where
   pub start1-lt : e .start1 < 16384
   pub entry-lt : (r : ℕ) → e .entry r < 16384
 
-pub record Tallied (g : Shape) (e : Feed) (t : Tally) : Type 0 where
+pub record Tallied (g : Counts) (e : Feed) (t : Tally) : Type 0 where
   pub none-yet : (r : ℕ) → t .moved r 0 ≡ 0
   pub one-more : (r c : ℕ) → c < HT g → t .moved r (suc c) ≡ pick (e .moves r c) (suc (t .moved r c)) (t .moved r c)
   pub in-a-row : e .table ≡ false → (r : ℕ) → t .moved r (HT g) ≡ t .perRow
 
-pub every-clock-tallied : (g : Shape) (e : Feed) → Good g → e .moves ≡ everyClock g → Tallied g e (tallyOf g)
+pub every-clock-tallied : (g : Counts) (e : Feed) → Good g → e .moves ≡ everyClock g → Tallied g e (tallyOf g)
 every-clock-tallied g e o q = record {
   none-yet = λ r. omega arith;
   one-more = λ r c h. rw q (go c (decLt c (HACT g)));
@@ -90,7 +90,7 @@ every-clock-tallied g e o q = record {
     go c (yes h) = rw (lt-ltb c (HACT g) h) (omega arith)
     go c (no f) = rw (le-ltb c (HACT g) (omega arith)) (omega arith)
 
-module _ (g : Shape) (e : Feed) (t : Tally) (d : Fed e) (v : Tallied g e t) where
+module _ (g : Counts) (e : Feed) (t : Tally) (d : Fed e) (v : Tallied g e t) where
   pub start-lt : (r : ℕ) → startOf e t r < 16384
   unfolding startOf
   start-lt r = go (e .table)
@@ -146,16 +146,16 @@ module _ (g : Shape) (e : Feed) (t : Tally) (d : Fed e) (v : Tallied g e t) wher
           (ap (λ (x : ℕ). advanceBy (e .buffer) x (e .start1)) more
           ∙ advanceBy-add (e .buffer) (d .bounded) (t .perRow) (r * t .perRow) (e .start1) (d .start1-lt)))
 
-  pub cells-lawful : Laws g (carrier e) (rowsOf e t)
+  pub cells-lawful : Laws g (carrier e) (cellRows e t)
   cells-lawful = record {
     walk-zero = λ r h. ap cell (cell-zero r);
     walk-suc = λ r c h l. ap cell (cell-suc r c l);
-    start-zero = λ x. ap cell (begin-zero (x .at));
+    start-zero = λ x. ap cell (begin-zero (x .address));
     start-suc = λ r h. ap cell (begin-suc r);
   }
 
-  pub cells-meet : Good g → (n : ℕ) → steps g (carrier e) n (origin g (carrier e)) ≡ scanAt g (rowsOf e t) (cell 0) n
-  cells-meet o n = steps-meet g (carrier e) (rowsOf e t) o cells-lawful n
+  pub cells-meet : Good g → (n : ℕ) → steps g (carrier e) n (origin g (carrier e)) ≡ scanAt g (cellRows e t) (cell 0) n
+  cells-meet o n = steps-meet g (carrier e) (cellRows e t) o cells-lawful n
 
 -- ---- the range
 

@@ -2,11 +2,11 @@
 use mathlib.Core.Path.{_≡_, sym, _∙_}
 use Prim.Native.Nat.{ℕ, _*_, _%_, _<_}
 use native.Mathlib.Nat.{mod-self, mod-eq-of-lt}
-use Rattle.raster.specs.declared.Shape.{Shape}
+use Rattle.raster.specs.declared.Counts.{Counts}
 use Rattle.raster.specs.Tick.{origin→, origin←}
 use Rattle.raster.specs.Raster.{HT, VT, Good, clocks-some, frame-some, Rows, scanAt}
 
-module _ {D : Type 0} (g : Shape) (w : Rows D) (s : Good g) (z : D) where
+module _ {D : Type 0} (g : Counts) (w : Rows D) (s : Good g) (z : D) where
   -- after a whole number of frames line and clock are 0, and at no other clock
   pub frame→ : (n : ℕ) → n % (HT g * VT g) ≡ 0 → ((scanAt g w z n) .line ≡ 0) × ((scanAt g w z n) .clock ≡ 0)
   unfolding scanAt

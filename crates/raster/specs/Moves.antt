@@ -14,10 +14,10 @@ use borrow.Author.Tests.{le-leb, lt-leb, eq-eqb, ne-eqb}
 use Rattle.lists.specs.Choice.{pick}
 use Rattle.raster.specs.declared.Buffer.{Buffer}
 use Rattle.raster.specs.declared.Cell.{Cell}
-use Rattle.raster.specs.Tick.{Tick, within, carry, tick}
+use Rattle.raster.specs.Tick.{Tick, up, carry, tick}
 
 abbrev pub cell : ℕ → Cell
-cell a = record { at = a }
+cell a = record { address = a }
 
 -- after the last buffer address comes the first; otherwise add 1, and 16383 is followed by 0
 unfoldable pub advance : Buffer → ℕ → ℕ
@@ -91,7 +91,7 @@ module _ (b : Buffer) (o : Bounded b) where
   -- a move from j % around cells beyond the first address
   beyond : (j : ℕ) → Tick (around b) j → (b .first + suc j % around b) % 16384 ≡ advance b ((b .first + j % around b) % 16384)
   unfolding around
-  beyond j (within l p q) =
+  beyond j (up l p q) =
       ap (λ (x : ℕ). (b .first + x) % 16384) p ∙ sym (move-near (b .first) (j % around b) (o .first-lt) (omega arith))
   beyond j (carry e p q) =
       ap (λ (x : ℕ). (b .first + x) % 16384) p ∙ omega (arith, o .first-lt, move-at (b .first) (j % around b) (o .first-lt) (omega arith))

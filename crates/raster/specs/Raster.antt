@@ -9,26 +9,26 @@ use Prim.Native.Nat.{ℕ, zero, suc, pred, _+_, _*_, _/_, _%_, _≤_, _<_}
 use native.Mathlib.Omega.{arith}
 use lib.Dec.{ltb, eqb}
 use Rattle.lists.specs.Choice.{pick}
-use Rattle.raster.specs.declared.Shape.{Shape}
+use Rattle.raster.specs.declared.Counts.{Counts}
 
 -- clocks per line, active clocks, lines per frame, lines per row, rows
-abbrev pub HT : Shape → ℕ
+abbrev pub HT : Counts → ℕ
 HT g = g .ht .0
 
-abbrev pub HACT : Shape → ℕ
+abbrev pub HACT : Counts → ℕ
 HACT g = g .hact .0
 
-abbrev pub VT : Shape → ℕ
+abbrev pub VT : Counts → ℕ
 VT g = g .vt .0
 
-abbrev pub L : Shape → ℕ
+abbrev pub L : Counts → ℕ
 L g = g .lines .0
 
-abbrev pub R : Shape → ℕ
+abbrev pub R : Counts → ℕ
 R g = g .rows
 
 -- no more than this is asked, so that another chip fits
-pub record Good (g : Shape) : Type 0 where
+pub record Good (g : Counts) : Type 0 where
   pub ht-le : HT g ≤ 384
   pub hact-some : 0 < HACT g
   pub hact-lt : HACT g < HT g
@@ -38,10 +38,10 @@ pub record Good (g : Shape) : Type 0 where
   pub porch : R g * L g < VT g
   pub vt-le : VT g ≤ 8192
 
-pub clocks-some : (g : Shape) → Good g → 0 < HT g
+pub clocks-some : (g : Counts) → Good g → 0 < HT g
 clocks-some g o = omega (arith, o .hact-lt)
 
-pub frame-some : (g : Shape) → Good g → 0 < VT g
+pub frame-some : (g : Counts) → Good g → 0 < VT g
 frame-some g o = omega (arith, o .porch)
 
 pub record Carrier (D : Type 0) : Type 0 where
@@ -50,11 +50,11 @@ pub record Carrier (D : Type 0) : Type 0 where
   pub move : ℕ → ℕ → D → D
 
 pub record Pair (D : Type 0) : Type 0 where
-  pub now : D
-  pub kept : D
+  pub beam : D
+  pub row : D
 
 abbrev pub pair : {D : Type 0} → D → D → Pair D
-pair a b = record { now = a; kept = b }
+pair a b = record { beam = a; row = b }
 
 pub record Scan (D : Type 0) : Type 0 where
   pub field : ℕ
@@ -67,7 +67,7 @@ scan f l c p = record { field = f; line = l; clock = c; carried = p }
 
 -- ---- one clock
 
-module _ {D : Type 0} (g : Shape) where
+module _ {D : Type 0} (g : Counts) where
   -- where the beam is after this clock
   unfoldable pub turn : (field line clock : ℕ) → Pair D → Scan D
   turn field line clock p =
@@ -77,25 +77,25 @@ module _ {D : Type 0} (g : Shape) where
       (scan field (line + 1) 0 p)
       (scan ((field + 1) % 256) 0 0 p))
 
-module _ {D : Type 0} (g : Shape) (m : Carrier D) where
+module _ {D : Type 0} (g : Counts) (m : Carrier D) where
   -- on column 0 of a visible line what is carried is loaded: the first line of a row begins the row, the later lines load its start again
   unfoldable pub loaded : (line clock : ℕ) → Pair D → Pair D
   loaded line clock p =
       pick (eqb clock 0)
       (pick (eqb (line % L g) 0)
-      (pair (m .begin (line / L g) (p .now)) (m .begin (line / L g) (p .now)))
-      (pair (p .kept) (p .kept)))
+      (pair (m .begin (line / L g) (p .beam)) (m .begin (line / L g) (p .beam)))
+      (pair (p .row) (p .row)))
       p
 
   -- what is carried after this clock
-  unfoldable pub beam : (line clock : ℕ) → Pair D → Pair D
-  beam line clock p =
+  unfoldable pub onward : (line clock : ℕ) → Pair D → Pair D
+  onward line clock p =
       pick (ltb line (R g * L g))
-      (pair (m .move (line / L g) clock ((loaded line clock p) .now)) ((loaded line clock p) .kept))
+      (pair (m .move (line / L g) clock ((loaded line clock p) .beam)) ((loaded line clock p) .row))
       p
 
   unfoldable pub step : Scan D → Scan D
-  step s = turn g (s .field) (s .line) (s .clock) (beam (s .line) (s .clock) (s .carried))
+  step s = turn g (s .field) (s .line) (s .clock) (onward (s .line) (s .clock) (s .carried))
 
   unfoldable pub steps : ℕ → Scan D → Scan D
   steps zero s = s
@@ -110,7 +110,7 @@ pub record Rows (D : Type 0) : Type 0 where
   pub start : ℕ → D
   pub walk : ℕ → ℕ → D
 
-module _ {D : Type 0} (g : Shape) (w : Rows D) where
+module _ {D : Type 0} (g : Counts) (w : Rows D) where
   -- what is carried when the last row is done, until the next frame
   unfoldable pub tail : Pair D
   tail = pair (w .walk (pred (R g)) (HT g)) (w .start (pred (R g)))

@@ -8,7 +8,7 @@ use native.Mathlib.Omega.{arith}
 use lib.Arith.{digits-div, digits-mod, mod-mul}
 
 pub data Tick (m n : ℕ) : Type 0 where
-  within : suc (n % m) < m → suc n % m ≡ suc (n % m) → suc n / m ≡ n / m → Tick m n
+  up : suc (n % m) < m → suc n % m ≡ suc (n % m) → suc n / m ≡ n / m → Tick m n
   carry : suc (n % m) ≡ m → suc n % m ≡ 0 → suc n / m ≡ suc (n / m) → Tick m n
 
 pub tick : {m : ℕ} (n : ℕ) → 0 < m → Tick m n
@@ -25,7 +25,7 @@ tick {m} n h = go (decLt (suc (n % m)) m)
 
     go : Dec (suc (n % m) < m) → Tick m n
     go (yes l) =
-        within l
+        up l
         (ap (λ (x : ℕ). x % m) inner ∙ digits-mod (n / m) l)
         (ap (λ (x : ℕ). x / m) inner ∙ digits-div (n / m) l)
     go (no f) =

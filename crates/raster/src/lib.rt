@@ -5,11 +5,11 @@ ghost use Rattle.raster.specs.Moves.{cell, advance, advanceBy};
 // What the beam carries along, and what a row keeps: an address.
 #[repr(C)]
 pub struct Cell {
-    pub at: u16,
+    pub address: u16,
 }
 
 // The counts that the beam goes by: clocks per line, of which so many are active; lines per frame; lines per row; rows.
-pub struct Shape {
+pub struct Counts {
     pub ht: units::Clocks,
     pub hact: units::Clocks,
     pub vt: units::Lines,
@@ -25,32 +25,32 @@ pub struct Buffer {
 
 // The cell after this one.
 pub fn advance_one(b: Buffer, c: Cell) -> Cell
-    ensures { λ r. ⌜ r ≡ cell (advance b (c .at)) ⌝ }
+    ensures { λ r. ⌜ r ≡ cell (advance b (c .address)) ⌝ }
 {
-    let a = c.at;
+    let a = c.address;
     if a == b.last {
-        return Cell { at: b.first };
+        return Cell { address: b.first };
     }
     Cell {
-        at: (a % 16384 + 1) % 16384,
+        address: (a % 16384 + 1) % 16384,
     }
 }
 
 // The cell k moves after this one.
 pub fn advance_by(b: Buffer, k: u32, c: Cell) -> Cell
-    ensures { λ r. ⌜ r ≡ cell (advanceBy b k (c .at)) ⌝ }
+    ensures { λ r. ⌜ r ≡ cell (advanceBy b k (c .address)) ⌝ }
 {
     let first = b.first as u32;
     let last = b.last as u32;
-    let a = c.at as u32 % 16384;
+    let a = c.address as u32 % 16384;
     let d = (last + 16384 - a) % 16384;
     if k <= d {
         return Cell {
-            at: ((a + k) % 16384) as u16,
+            address: ((a + k) % 16384) as u16,
         };
     }
     let p = (last + 16384 - first % 16384) % 16384 + 1;
     Cell {
-        at: ((first + (k - d - 1) % p) % 16384) as u16,
+        address: ((first + (k - d - 1) % p) % 16384) as u16,
     }
 }

@@ -6,11 +6,11 @@ use Rattle.refusal.specs.declared.Refusal.the-variants.{Done, Range, Address}
 use Rattle.refusal.specs.Laws.{passed}
 use Rattle.board.specs.declared.Board.{Board}
 use Rattle.board.specs.Range.{addressRefused, pointerRefused}
-use Rattle.registers.specs.Write.{stateCheck}
+use Rattle.registers.specs.Write.{registerCheck}
 
 -- a board that passes has its pointer at one of the fifteen registers
-pub pointer-in : (b : Board) → stateCheck b ≡ Done → b .pointer ≤ 14
-unfolding stateCheck
+pub pointer-in : (b : Board) → registerCheck b ≡ Done → b .pointer ≤ 14
+unfolding registerCheck
 pointer-in b e =
     let a = passed (addressRefused (b .page)) Address _ refl e in
     let p = passed (pointerRefused (b .pointer)) Range _ refl (a .1) in

@@ -8,7 +8,7 @@ use Rattle.board.specs.declared.Starts.{Starts}
 use Rattle.board.specs.declared.Board.{Board}
 use Rattle.registers.specs.declared.ByteRead.{ByteRead}
 use Rattle.registers.specs.Parts.{byteRead}
-use Rattle.registers.specs.Write.{stateCheck}
+use Rattle.registers.specs.Write.{registerCheck}
 
 abbrev pub lowerShown : ℕ → ℕ
 lowerShown x = x % 256
@@ -28,6 +28,6 @@ shownAt s a =
 
 unfoldable pub readOf : Board → ℕ → ByteRead
 readOf b a =
-    pick (doneOf (stateCheck b))
+    pick (doneOf (registerCheck b))
     (pick (ltb 7 a) (byteRead Register 0) (byteRead Done (shownAt (b .page .starts) a)))
-    (byteRead (stateCheck b) 0)
+    (byteRead (registerCheck b) 0)

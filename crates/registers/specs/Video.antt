@@ -20,8 +20,8 @@ videoCheck s switches dots strike =
     firstOf ((startsRefused s || ltb 15 switches || ltb 15 strike, Address) ∷ (widthRefused dots, Width) ∷ []) Done
 
 -- switch 2 is BKGND, 3 RBLANK; display and cursor are kept
-abbrev pub videoOf : Board → Dots → ℕ → Bool → Bool → Board
-videoOf b dots strike bkgnd rblank =
+abbrev pub videoSet : Board → Dots → ℕ → Bool → Bool → Board
+videoSet b dots strike bkgnd rblank =
     withPage b
     (withVideo (withSwitches (b .page) (b .page .switches % 4 + pick bkgnd 4 0 + pick rblank 8 0))
     (record { dots = dots; strike = strike }))
@@ -29,5 +29,5 @@ videoOf b dots strike bkgnd rblank =
 unfoldable pub setVideoOf : Board → Dots → ℕ → Bool → Bool → Written
 setVideoOf b dots strike bkgnd rblank =
     pick (doneOf (videoCheck (b .page .starts) (b .page .switches) dots strike))
-    (answer Done (videoOf b dots strike bkgnd rblank))
+    (answer Done (videoSet b dots strike bkgnd rblank))
     (answer (videoCheck (b .page .starts) (b .page .switches) dots strike) b)

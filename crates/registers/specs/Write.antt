@@ -16,8 +16,8 @@ use Rattle.registers.specs.declared.Written.{Written}
 use Rattle.registers.specs.Parts.{withIrs, withStarts, withSwitches, withPage, withPointer, withResets, answer}
 
 -- register calls give 12, then 7 for the pointer
-unfoldable pub stateCheck : Board → Refusal
-stateCheck b = firstOf ((addressRefused (b .page), Address) ∷ (pointerRefused (b .pointer), Range) ∷ []) Done
+unfoldable pub registerCheck : Board → Refusal
+registerCheck b = firstOf ((addressRefused (b .page), Address) ∷ (pointerRefused (b .pointer), Range) ∷ []) Done
 
 -- ---- the commands
 
@@ -104,6 +104,6 @@ inactiveOf b a v =
 -- 2 resets in a row, or more, and the board is active
 unfoldable pub writeOf : Board → ℕ → ℕ → Written
 writeOf b a v =
-    pick (doneOf (stateCheck b))
+    pick (doneOf (registerCheck b))
     (pick (leb 2 (b .resets)) (activeOf b a v) (inactiveOf b a v))
-    (answer (stateCheck b) b)
+    (answer (registerCheck b) b)

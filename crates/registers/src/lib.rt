@@ -4,9 +4,9 @@ ghost use mathlib.Core.List.{[], _∷_};
 ghost use Prim.Native.Nat.{_≤_, _-_, _+_};
 ghost use Rattle.lists.specs.Choice.{pick, firstOf};
 ghost use Rattle.refusal.specs.declared.Refusal.{Refusal};
-ghost use Rattle.registers.specs.Write.{stateCheck, brokenOf, resetOf, pointedOf, nextPointer, loadedOf, lowerOf, upperOf, startsAfter, startedOf, switchesAfter, switchedOf, commandOf, activeOf, inactiveOf, writeOf};
+ghost use Rattle.registers.specs.Write.{registerCheck, brokenOf, resetOf, pointedOf, nextPointer, loadedOf, lowerOf, upperOf, startsAfter, startedOf, switchesAfter, switchedOf, commandOf, activeOf, inactiveOf, writeOf};
 ghost use Rattle.registers.specs.Read.{shownAt, readOf};
-ghost use Rattle.registers.specs.Video.{videoCheck, videoOf, setVideoOf};
+ghost use Rattle.registers.specs.Video.{videoCheck, videoSet, setVideoOf};
 
 pub struct Written {
     pub refusal: refusal::Refusal,
@@ -31,8 +31,8 @@ fn first_of_two(address: bool, range: bool) -> refusal::Refusal
     }
 }
 
-fn state_check(b: board::Board) -> refusal::Refusal
-    ensures { λ r. ⌜ r ≡ stateCheck b ⌝ }
+fn register_check(b: board::Board) -> refusal::Refusal
+    ensures { λ r. ⌜ r ≡ registerCheck b ⌝ }
 {
     let p = b.page;
     first_of_two(board::address_refused(p), board::pointer_refused(b.pointer))
@@ -251,7 +251,7 @@ fn inactive(b: board::Board, a: u8, v: u8) -> Written
 pub fn write(b: board::Board, a: u8, v: u8) -> Written
     ensures { λ r. ⌜ r ≡ writeOf b a v ⌝ }
 {
-    let refused = state_check(b);
+    let refused = register_check(b);
     if refusal::is_done(refused) {
         if 2 <= b.resets {
             return active(b, a, v);
@@ -282,7 +282,7 @@ fn shown_at(s: board::Starts, a: u8) -> u8
 pub fn read(b: board::Board, a: u8) -> ByteRead
     ensures { λ r. ⌜ r ≡ readOf b a ⌝ }
 {
-    let refused = state_check(b);
+    let refused = register_check(b);
     if refusal::is_done(refused) {
         if 7 < a {
             return ByteRead {
@@ -327,7 +327,7 @@ fn with_video(
     bkgnd: bool,
     rblank: bool,
 ) -> board::Board
-    ensures { λ r. ⌜ r ≡ videoOf b dots strike bkgnd rblank ⌝ }
+    ensures { λ r. ⌜ r ≡ videoSet b dots strike bkgnd rblank ⌝ }
 {
     let background = weight(bkgnd, 4);
     let retrace = weight(rblank, 8);

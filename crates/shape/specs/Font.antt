@@ -35,13 +35,13 @@ positionOf [] scan = 0
 positionOf (x ∷ xs) scan = pick (eqb (x % 16) scan) 0 (suc (positionOf xs scan))
 
 -- the font word of a character at a position of nine (low ten bits count); zeros past the nine
-unfoldable pub wordAt : List ℕ → ℕ → ℕ → ℕ
-wordAt words character position = pick (ltb position 9) (getD words (character * 9 + position) 0 % 1024) 0
+unfoldable pub fontWord : List ℕ → ℕ → ℕ → ℕ
+fontWord words character position = pick (ltb position 9) (getD words (character * 9 + position) 0 % 1024) 0
 
 -- CA7 = 0 gives zeros; a shift flag that is not 0 is shifted
 unfoldable pub wordBy : List ℕ → List ℕ → ℕ → ℕ → ℕ → ℕ
 wordBy words flags plain moved code =
-    pick (ltb code 128) 0 (wordAt words (code % 128) (pick (eqb (getD flags (code % 128) 0) 0) plain moved))
+    pick (ltb code 128) 0 (fontWord words (code % 128) (pick (eqb (getD flags (code % 128) 0) 0) plain moved))
 
 -- the shift flag chooses a list; the first position in it that equals the scan line gives the font word
 unfoldable pub wordOf : Font → ℕ → ℕ → ℕ

@@ -8,7 +8,7 @@ use borrow.Author.Tests.{eqb-true, not-false}
 use lib.ListN.{length, getD}
 use lib.Dec.{eqb, ltb}
 use Rattle.lists.specs.Choice.{pick, neither, pick-lt}
-use Rattle.shape.specs.Font.{Font, Whole, fontRefused, positionOf, wordAt, wordBy, wordOf}
+use Rattle.shape.specs.Font.{Font, Whole, fontRefused, positionOf, fontWord, wordBy, wordOf}
 
 pub font-whole : (f : Font) → fontRefused f ≡ false → Whole f
 font-whole f e =
@@ -25,8 +25,8 @@ font-whole f e =
       shifted-all = eqb-true _ _ (not-false _ (c .1));
     }
 
-word-small : (words : List ℕ) (m p : ℕ) → wordAt words m p < 1024
-unfolding wordAt
+word-small : (words : List ℕ) (m p : ℕ) → fontWord words m p < 1024
+unfolding fontWord
 word-small words m p = pick-lt 1024 (ltb p 9) (getD words (m * 9 + p) 0 % 1024) 0 (omega arith) (omega arith)
 
 pub by-small : (words flags : List ℕ) (plain moved code : ℕ) → wordBy words flags plain moved code < 1024

@@ -2,7 +2,7 @@
 ghost use mathlib.Core.Path.{_≡_};
 ghost use Prim.Native.Nat.{_<_};
 ghost use lib.ListN.{length};
-ghost use Rattle.shape.specs.Font.{fontOf, Whole, fontRefused, positionOf, wordAt, wordBy, wordOf};
+ghost use Rattle.shape.specs.Font.{fontOf, Whole, fontRefused, positionOf, fontWord, wordBy, wordOf};
 
 // The first position in a list of line numbers that equals the scan line, or the list's length. Four bits of a line number count.
 pub fn position(list: &[u8], scan: u32) -> usize
@@ -26,9 +26,9 @@ pub fn font_refused(words: &[u16], flags: &[u8], unshifted: &[u8], shifted: &[u8
 }
 
 // The font word at a position of a character; past the nine there is none.
-fn word_at(words: &[u16], character: usize, position: usize) -> u16
+fn font_word(words: &[u16], character: usize, position: usize) -> u16
     requires { ⌜ (character < 128) × (length (now words) ≡ 1152) ⌝ }
-    ensures { λ r. ⌜ r ≡ wordAt (now (words .entry)) character position ⌝ }
+    ensures { λ r. ⌜ r ≡ fontWord (now (words .entry)) character position ⌝ }
 {
     if position < 9 {
         words[character * 9 + position] % 1024
@@ -47,9 +47,9 @@ pub fn word_by(words: &[u16], flags: &[u8], plain: usize, moved: usize, code: u8
     }
     let character = (code % 128) as usize;
     if flags[character] == 0 {
-        word_at(words, character, plain)
+        font_word(words, character, plain)
     } else {
-        word_at(words, character, moved)
+        font_word(words, character, moved)
     }
 }
 

@@ -7,7 +7,7 @@ use lib.Dec.{eqb}
 use Rattle.lists.specs.Choice.{pick}
 use Rattle.units.specs.declared.Lines.{Lines}
 use Rattle.units.specs.Units.{clocks, lines}
-use Rattle.raster.specs.declared.Shape.{Shape}
+use Rattle.raster.specs.declared.Counts.{Counts}
 use Rattle.raster.specs.declared.Buffer.{Buffer}
 use Rattle.timing.specs.declared.Timing.{Timing}
 use Rattle.timing.specs.declared.CursorLook.{CursorLook}
@@ -96,8 +96,8 @@ visibleOf irs = lines (rowsOf irs * linesOf irs)
 abbrev pub vtOf : List ℕ → ℕ
 vtOf irs = rowsOf irs * linesOf irs + vfpOf irs + vsyncOf (ir irs 7 / 64 % 4) + vbpOf irs
 
-unfoldable pub shapeOf : List ℕ → Shape
-shapeOf irs = record {
+unfoldable pub countsOf : List ℕ → Counts
+countsOf irs = record {
   ht = clocks (htOf irs);
   hact = clocks (hactOf irs);
   vt = lines (vtOf irs);
@@ -114,5 +114,5 @@ timingOf irs = record {
   vfp = lines (vfpOf irs);
   vsync = lines (vsyncOf (ir irs 7 / 64 % 4));
   vbp = lines (vbpOf irs);
-  shape = shapeOf irs;
+  counts = countsOf irs;
 }

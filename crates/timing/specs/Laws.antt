@@ -19,7 +19,7 @@ use Rattle.raster.specs.Raster.{Good}
 use Rattle.board.specs.declared.Page.{Page}
 use Rattle.board.specs.declared.Board.{Board}
 use Rattle.board.specs.Range.{startsRefused, addressRefused, cellsRefused, pointerRefused}
-use Rattle.timing.specs.Fields.{ir, linesOf, rowsOf, hactOf, htOf, hfpOf, vsyncOf, vtOf, bufferOf, shapeOf}
+use Rattle.timing.specs.Fields.{ir, linesOf, rowsOf, hactOf, htOf, hfpOf, vsyncOf, vtOf, bufferOf, countsOf}
 use Rattle.timing.specs.Check.{reservedRefused, porchRefused, widthRefused, pageCheck, sized, sizeOf, stateRefused, callCheck}
 
 -- ---- any registers
@@ -42,8 +42,8 @@ pub vt-bound : (irs : List ℕ) → vtOf irs ≤ 2153
 vt-bound irs = omega (arith, visible-bound irs, vsync-bound (ir irs 7 / 64 % 4))
 
 -- a frame has at most 826,752 clocks
-pub frame-bound : (irs : List ℕ) → (clocksOf (shapeOf irs .vt) (shapeOf irs .ht)) .0 ≤ 826752
-unfolding shapeOf
+pub frame-bound : (irs : List ℕ) → (clocksOf (countsOf irs .vt) (countsOf irs .ht)) .0 ≤ 826752
+unfolding countsOf
 frame-bound irs = mul-le-mul (vt-bound irs) (ht-bound irs)
 
 pub buffer-bounded : (irs : List ℕ) → Bounded (bufferOf irs)
@@ -97,8 +97,8 @@ accepted p e =
     }
 
 -- the counts of an accepted page are good for the beam
-pub accepted-good : (p : Page) → Accepted p → Good (shapeOf (p .irs))
-unfolding shapeOf
+pub accepted-good : (p : Page) → Accepted p → Good (countsOf (p .irs))
+unfolding countsOf
 accepted-good p a =
     let irs = p .irs in
     record {
@@ -123,8 +123,8 @@ dots-bound p a =
 pub record InRange (b : Board) : Type 0 where
   pub line-lt : b .place .line .0 < vtOf (b .page .irs)
   pub clock-lt : b .place .clock .0 < htOf (b .page .irs)
-  pub now-le : b .place .now .at ≤ 16383
-  pub kept-le : b .place .kept .at ≤ 16383
+  pub beam-le : b .place .beam .address ≤ 16383
+  pub row-le : b .place .row .address ≤ 16383
   pub pointer-le : b .pointer ≤ 14
 
 pub in-range : (b : Board) → stateRefused b ≡ false → InRange b
@@ -135,12 +135,12 @@ in-range b e =
     let d = neither (l || k || cellsRefused (b .place)) (pointerRefused (b .pointer)) e in
     let c = neither (l || k) (cellsRefused (b .place)) (d .0) in
     let a = neither l k (c .0) in
-    let n = neither (ltb 16383 (b .place .now .at)) (ltb 16383 (b .place .kept .at)) (c .1) in
+    let n = neither (ltb 16383 (b .place .beam .address)) (ltb 16383 (b .place .row .address)) (c .1) in
     record {
       line-lt = leb-false _ _ (a .0);
       clock-lt = leb-false _ _ (a .1);
-      now-le = ltb-false _ _ (n .0);
-      kept-le = ltb-false _ _ (n .1);
+      beam-le = ltb-false _ _ (n .0);
+      row-le = ltb-false _ _ (n .1);
       pointer-le = ltb-false _ _ (d .1);
     }
 

@@ -4,7 +4,7 @@ ghost use mathlib.Core.List.{[], _∷_};
 ghost use Prim.Native.Nat.{_-_, _/_, _%_, _≤_};
 ghost use Rattle.lists.specs.Choice.{firstOf};
 ghost use Rattle.refusal.specs.declared.Refusal.{Refusal};
-ghost use Rattle.timing.specs.Fields.{ir, linesOf, ecOf, tableOf, hsyncOf, hbpOf, vfpOf, vbpOf, blinkOf, rowsOf, hactOf, cursorOf, vsyncOf, underlineOf, bufferOf, htOf, hfpOf, visibleOf, vtOf, shapeOf, timingOf};
+ghost use Rattle.timing.specs.Fields.{ir, linesOf, ecOf, tableOf, hsyncOf, hbpOf, vfpOf, vbpOf, blinkOf, rowsOf, hactOf, cursorOf, vsyncOf, underlineOf, bufferOf, htOf, hfpOf, visibleOf, vtOf, countsOf, timingOf};
 ghost use Rattle.timing.specs.Check.{reservedRefused, porchRefused, widthRefused, pageCheck, sizeOf, stateRefused, callCheck};
 
 // A line's and a frame's parts, and the counts that the beam goes by.
@@ -16,7 +16,7 @@ pub struct Timing {
     pub vfp: units::Lines,
     pub vsync: units::Lines,
     pub vbp: units::Lines,
-    pub shape: raster::Shape,
+    pub counts: raster::Counts,
 }
 
 // The cursor's first and last scan line; whether it blinks, and over how many fields.
@@ -133,10 +133,10 @@ fn vt_of(irs: [u8; 15]) -> units::Lines
     units::Lines(visible_of(irs).0 + hidden)
 }
 
-fn shape_of(irs: [u8; 15]) -> raster::Shape
-    ensures { λ r. ⌜ r ≡ shapeOf irs ⌝ }
+fn counts_of(irs: [u8; 15]) -> raster::Counts
+    ensures { λ r. ⌜ r ≡ countsOf irs ⌝ }
 {
-    raster::Shape {
+    raster::Counts {
         ht: ht_of(irs),
         hact: hact_of(irs),
         vt: vt_of(irs),
@@ -156,7 +156,7 @@ pub fn timing_of(irs: [u8; 15]) -> Timing
         vfp: vfp_of(irs),
         vsync: vsync_of(irs),
         vbp: vbp_of(irs),
-        shape: shape_of(irs),
+        counts: counts_of(irs),
     }
 }
 

@@ -97,10 +97,10 @@ module _ (look : Look) (word d w : ℕ) (out : List ℕ) (h : word < 1024) (m : 
   abbrev final : List ℕ
   final = cellDots look word d ++ drop d out
 
-  abbrev Drawn : List ℕ → ℕ → ℕ → Type 0
-  Drawn o k bits = Upto final out d (look .symbol) (look .surround) room o k bits
+  abbrev Reached : List ℕ → ℕ → ℕ → Type 0
+  Reached o k bits = Upto final out d (look .symbol) (look .surround) room o k bits
 
-  begun : Drawn out 0 w
+  begun : Reached out 0 w
   unfolding Upto
   begun =
       let x : 0 - (0 - d) ≡ 0 = omega arith in
@@ -108,12 +108,12 @@ module _ (look : Look) (word d w : ℕ) (out : List ℕ) (h : word < 1024) (m : 
 
   pub narrow : (o1 o2 : List ℕ) → d < 8 → o1 ≡ puts d (look .symbol) (look .surround) 6 out 0 w → o2 ≡ putIf o1 6 d (shadeOf (look .symbol) (look .surround) (w / 64 % 2)) → o2 ≡ final
   narrow o1 o2 l p1 p2 =
-      let f1 : Drawn o1 6 (w / 64) = rw p1 (many _ _ _ _ _ room 6 out 0 w begun) in
-      let f2 : Drawn o2 7 (w / 64 / 2) = rw p2 (step _ _ _ _ _ room o1 6 (w / 64) f1) in
+      let f1 : Reached o1 6 (w / 64) = rw p1 (many _ _ _ _ _ room 6 out 0 w begun) in
+      let f2 : Reached o2 7 (w / 64 / 2) = rw p2 (step _ _ _ _ _ room o1 6 (w / 64) f1) in
       past _ _ _ _ _ room _ _ _ (omega arith) f2
 
   pub broad : (o1 o2 : List ℕ) → o1 ≡ puts d (look .symbol) (look .surround) 8 out 0 w → o2 ≡ puts d (look .symbol) (look .surround) 4 o1 8 (w / 256) → o2 ≡ final
   broad o1 o2 p1 p2 =
-      let f1 : Drawn o1 8 (w / 256) = rw p1 (many _ _ _ _ _ room 8 out 0 w begun) in
-      let f2 : Drawn o2 12 (w / 256 / 16) = rw p2 (many _ _ _ _ _ room 4 o1 8 (w / 256) f1) in
+      let f1 : Reached o1 8 (w / 256) = rw p1 (many _ _ _ _ _ room 8 out 0 w begun) in
+      let f2 : Reached o2 12 (w / 256 / 16) = rw p2 (many _ _ _ _ _ room 4 o1 8 (w / 256) f1) in
       past _ _ _ _ _ room _ _ _ m f2

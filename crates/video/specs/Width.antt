@@ -54,19 +54,19 @@ wide-right false w d h m = by-test (ltb 10 d) w d h m refl
 
 -- n dots from the low bits of w
 unfoldable pub shades : ℕ → ℕ → ℕ → ℕ → List ℕ
-shades sym sur n w = map (shadeOf sym sur) (bits n w)
+shades symbol surround n w = map (shadeOf symbol surround) (bits n w)
 
 pub cell-shades : (k : Look) (w d r : ℕ) → w < 1024 → d ≤ 12 → r ≡ wideOf (k .lit) w d → cellDots k w d ≡ shades (k .symbol) (k .surround) (d - 0) r
 unfolding cellDots shades
 cell-shades k w d r h m e = rw (wide-right (k .lit) w d h m, e, sub-zero)
 
-pub shades-more : (sym sur d k w : ℕ) → k < d → shades sym sur (d - k) w ≡ shadeOf sym sur (w % 2) ∷ shades sym sur (d - (k + 1)) (w / 2)
+pub shades-more : (symbol surround d k w : ℕ) → k < d → shades symbol surround (d - k) w ≡ shadeOf symbol surround (w % 2) ∷ shades symbol surround (d - (k + 1)) (w / 2)
 unfolding shades bits
-shades-more sym sur d k w h = let e : d - k ≡ suc (d - (k + 1)) = omega arith in rw e
+shades-more symbol surround d k w h = let e : d - k ≡ suc (d - (k + 1)) = omega arith in rw e
 
-pub shades-none : (sym sur d k w : ℕ) → d ≤ k → shades sym sur (d - k) w ≡ []
+pub shades-none : (symbol surround d k w : ℕ) → d ≤ k → shades symbol surround (d - k) w ≡ []
 unfolding shades bits
-shades-none sym sur d k w h = let e : d - k ≡ 0 = omega arith in rw e
+shades-none symbol surround d k w h = let e : d - k ≡ 0 = omega arith in rw e
 
 length-bits : (n w : ℕ) → length (bits n w) ≡ n
 unfolding bits

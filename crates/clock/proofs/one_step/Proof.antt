@@ -16,8 +16,8 @@ cast-address c =
     let start = c .before .before .before .before .before .before .before .before .before .before .before .before in
     omega (arith, address-lt _ _ _ _ (start .pre) _ (c .before .before .before .loaded-at .ensures))
 
-dots-of-requires : tie.Need-dots-of-requires
-dots-of-requires c κs =
+clock-dots-requires : tie.Need-clock-dots-requires
+clock-dots-requires c κs =
     let start = c .before .before .before .before .before .before .before .before .before .before .before .before in
     (start .pre, c .scene-in .ensures, address-lt _ _ _ _ (start .pre) _ (c .before .before .before .loaded-at .ensures))
 
@@ -25,7 +25,7 @@ returns : tie.Need-returns
 returns c =
     let turned = c .before .before .before .before in
     stepped _ _ _ _ _ (turned .before .before .loaded-at .ensures) _ (turned .turned .ensures ∙ rw (turned .before .moved-on .ensures))
-    _ (c .before .signals-of .ensures) _ (c .before .before .dots-of .ensures) _ (c .with-place .ensures)
+    _ (c .before .signals-of .ensures) _ (c .before .before .clock-dots .ensures) _ (c .with-place .ensures)
 
 pub one-step-spec : {M : Type 1} → statement M
 one-step-spec =
@@ -36,7 +36,7 @@ one-step-spec =
     turned-requires
     (λ c κs. search needs)
     cast-address
-    dots-of-requires
+    clock-dots-requires
     (λ c κs. search needs)
     (λ c κs. search needs)
     returns)

@@ -1,13 +1,13 @@
 use mathlib.Core.Path.{ap, _∙_}
 use borrow.Author.Needs.{needs}
 use Rattle.raster.specs.Moves.{cell}
-use Rattle.timing.specs.Fields.{timingOf, shapeOf}
+use Rattle.timing.specs.Fields.{timingOf, countsOf}
 use Rattle.fetch.specs.Laws.{cell-moved}
 use Rattle.fetch.proofs.cell_at.Statement.{statement}
 use Rattle.fetch.proofs.cell_at.Tie as tie
 
 returns : tie.Need-returns
-unfolding timingOf shapeOf
+unfolding timingOf countsOf
 returns c =
     c .advance-by .ensures
     ∙ rw (c .before .buffer-of .ensures, c .before .before .row-start .ensures, c .before .before .before .least .ensures, c .before .before .before .before .timing-of .ensures)

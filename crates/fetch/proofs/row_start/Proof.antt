@@ -2,7 +2,7 @@ use mathlib.Core.Path.{sym, ap, _∙_}
 use native.Mathlib.Omega.{arith}
 use borrow.Author.Needs.{needs}
 use Rattle.raster.specs.Moves.{cell}
-use Rattle.timing.specs.Fields.{timingOf, shapeOf}
+use Rattle.timing.specs.Fields.{timingOf, countsOf}
 use Rattle.fetch.specs.Laws.{moves-fit, start-table, start-sheet}
 use Rattle.fetch.proofs.row_start.Statement.{statement}
 use Rattle.fetch.proofs.row_start.Tie as tie
@@ -11,13 +11,13 @@ returns : tie.Need-returns
 returns c = c .entry .ensures ∙ ap cell (start-table _ _ _ (sym (c .before .before .table-of .ensures) ∙ c .before .if1 .taken))
 
 mul-moves : tie.Need-mul-moves
-unfolding timingOf shapeOf
+unfolding timingOf countsOf
 mul-moves c =
     let start = c .before .before .before .before .before .before in
     rw (c .before .timing-of .ensures) (omega (arith, moves-fit (start .args .p) (start .args .row) (start .pre .1)))
 
 returns-2 : tie.Need-returns-2
-unfolding timingOf shapeOf
+unfolding timingOf countsOf
 returns-2 c =
     let left = c .before .before .before .before in
     c .advance-by .ensures

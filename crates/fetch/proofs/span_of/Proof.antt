@@ -24,7 +24,7 @@ fits : (b : Board) (chars : List ℕ) (row : ℕ) (s : Span) → s ≡ spanOf b 
 fits b chars row s e = rw e (span-small b chars row)
 
 shown : (b : Board) (chars : List ℕ) (row : ℕ) (x : Refusal) (a : Cell) (n : ℕ) → x ≡ runCheck b (length chars) row → doneOf (runCheck b (length chars) row) ≡ true
-    → a ≡ cell (rowStart (b .page) chars row) → n ≡ runCount (b .page) (a .at) → span x (a .at) n ≡ spanOf b chars row
+    → a ≡ cell (rowStart (b .page) chars row) → n ≡ runCount (b .page) (a .address) → span x (a .address) n ≡ spanOf b chars row
 unfolding spanOf
 shown b chars row x a n p t q r = rw (t, p, r, q)
 

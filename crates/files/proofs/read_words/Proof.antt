@@ -4,7 +4,7 @@ use mathlib.Core.List.{_++_}
 use native.Mathlib.Omega.{arith}
 use borrow.Author.Needs.{needs}
 use lib.ListN.{length, drop}
-use Rattle.lists.specs.Tab.{tab, turn, ends}
+use Rattle.lists.specs.Tab.{tab, tab-turn, tab-ends}
 use Rattle.files.specs.Page.{wordAt}
 use Rattle.files.proofs.read_words.Statement.{statement}
 use Rattle.files.proofs.read_words.Tie as tie
@@ -23,13 +23,13 @@ loop-again : tie.Need-loop-again Inv-loop μ-loop
 loop-again c =
     let at = c .before .before in
     let start = at .before .before .before in
-    (search needs, search needs, turn (λ (k : ℕ). wordAt (start .args .src .now) (2 * k)) (start .args .dst .now) _ (at .loop .i) (at .loop .inv .2) _ (omega arith) (c .word-at .ensures))
+    (search needs, search needs, tab-turn (λ (k : ℕ). wordAt (start .args .src .now) (2 * k)) (start .args .dst .now) _ (at .loop .i) (at .loop .inv .2) _ (omega arith) (c .word-at .ensures))
 
 returns : tie.Need-returns Inv-loop μ-loop
 returns c =
     let at = c .before in
     let start = at .before .before .before in
-    ends (λ (k : ℕ). wordAt (start .args .src .now) (2 * k)) (start .args .dst .now) _ (at .loop .i) (at .loop .inv .2) (omega arith)
+    tab-ends (λ (k : ℕ). wordAt (start .args .src .now) (2 * k)) (start .args .dst .now) _ (at .loop .i) (at .loop .inv .2) (omega arith)
 
 pub read-words-spec : {M : Type 1} → statement M
 read-words-spec =

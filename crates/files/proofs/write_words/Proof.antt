@@ -4,7 +4,7 @@ use mathlib.Core.List.{_++_}
 use native.Mathlib.Omega.{arith}
 use borrow.Author.Needs.{needs}
 use lib.ListN.{length, drop}
-use Rattle.lists.specs.Tab.{tab, turn, ends}
+use Rattle.lists.specs.Tab.{tab, tab-turn, tab-ends}
 use Rattle.files.specs.FontFile.{byteOf}
 use Rattle.files.proofs.write_words.Statement.{statement}
 use Rattle.files.proofs.write_words.Tie as tie
@@ -23,13 +23,13 @@ loop-again : tie.Need-loop-again Inv-loop μ-loop
 loop-again c =
     let at = c .before .before in
     let start = at .before .before .before in
-    (search needs, search needs, turn (byteOf (start .args .src .now)) (start .args .dst .now) _ (at .loop .i) (at .loop .inv .2) _ (omega arith) (c .byte-of .ensures))
+    (search needs, search needs, tab-turn (byteOf (start .args .src .now)) (start .args .dst .now) _ (at .loop .i) (at .loop .inv .2) _ (omega arith) (c .byte-of .ensures))
 
 returns : tie.Need-returns Inv-loop μ-loop
 returns c =
     let at = c .before in
     let start = at .before .before .before in
-    ends (byteOf (start .args .src .now)) (start .args .dst .now) _ (at .loop .i) (at .loop .inv .2) (omega arith)
+    tab-ends (byteOf (start .args .src .now)) (start .args .dst .now) _ (at .loop .i) (at .loop .inv .2) (omega arith)
 
 pub write-words-spec : {M : Type 1} → statement M
 write-words-spec =

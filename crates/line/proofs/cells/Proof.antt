@@ -5,7 +5,7 @@ use native.Mathlib.Omega.{arith}
 use borrow.Author.Needs.{needs}
 use lib.ListN.{drop, length, length-take, length-drop}
 use Rattle.lists.specs.Fill.{Filling}
-use Rattle.lists.specs.Join.{joined, inside, begins, turn, ends}
+use Rattle.lists.specs.Join.{joined, stretch-inside, join-begins, join-turn, join-ends}
 use Rattle.raster.specs.Moves.{advanceBy, cell as cellOf}
 use Rattle.line.specs.Walk.{columnBy, length-column, at-lt, moved-on, not-moved, as-column}
 use Rattle.line.proofs.cells.Statement.{statement}
@@ -13,26 +13,26 @@ use Rattle.line.proofs.cells.Tie as tie
 
 abbrev Inv-loop : tie.InvT-loop
 Inv-loop out₀ w chars attrs words flags n d buffer cell₀ c₀ out cell c =
-    (c ≤ n) × (cell ≡ cellOf (advanceBy (w .buffer) c (cell₀ .at)))
-    × Filling (joined 0 n (columnBy w chars attrs words flags (cell₀ .at)) ++ drop (n * w .width) out₀) out₀ (n * w .width) out (c * w .width) (joined c (n - c) (columnBy w chars attrs words flags (cell₀ .at)))
+    (c ≤ n) × (cell ≡ cellOf (advanceBy (w .buffer) c (cell₀ .address)))
+    × Filling (joined 0 n (columnBy w chars attrs words flags (cell₀ .address)) ++ drop (n * w .width) out₀) out₀ (n * w .width) out (c * w .width) (joined c (n - c) (columnBy w chars attrs words flags (cell₀ .address)))
 
 abbrev μ-loop : tie.MeasureT-loop
 μ-loop out₀ w chars attrs words flags n d buffer cell₀ c₀ out cell c = n - c
 
--- where the function begins, from a turn of the loop
+-- where the function join-begins, from a join-turn of the loop
 abbrev start : tie.In-loop Inv-loop μ-loop → tie.Start Inv-loop μ-loop
 start c = c .before .before .before .before .before .before .before .before
 
 room : (c : tie.In-loop Inv-loop μ-loop) → c .before .loop .c * start c .args .w .width + start c .args .w .width ≤ length (c .before .loop .out)
-room c = omega (arith, c .before .loop .inv .2 .same, inside (c .before .loop .c) (start c .args .n) (start c .args .w .width) _ (c .loop-test .taken) (start c .pre .1))
+room c = omega (arith, c .before .loop .inv .2 .same, stretch-inside (c .before .loop .c) (start c .args .n) (start c .args .w .width) _ (c .loop-test .taken) (start c .pre .1))
 
-at : (c : tie.In-loop Inv-loop μ-loop) → c .before .loop .cell .at < 16384
+at : (c : tie.In-loop Inv-loop μ-loop) → c .before .loop .cell .address < 16384
 at c = at-lt _ _ _ _ (c .before .loop .inv .1)
 
 loop-holds : tie.Need-loop-holds Inv-loop μ-loop
 loop-holds c =
     let ready = c .before .before .before .before .before .before .pre .0 in
-    (omega arith, not-moved _ _ (ready .start-lt), begins _ _ (length-column _ _ _ _ _ _ (ready .most)) _ _)
+    (omega arith, not-moved _ _ (ready .start-lt), join-begins _ _ (length-column _ _ _ _ _ _ (ready .most)) _ _)
 
 mul-a : tie.Need-mul-a Inv-loop μ-loop
 mul-a c = omega (arith, room c)
@@ -78,7 +78,7 @@ loop-again c =
     let ready = start i .pre .0 in (
       omega (arith, i .loop-test .taken),
       moved-on _ _ _ _ (inv .1) (ready .bounded) (ready .start-lt) _ (c .advance-one .ensures),
-      turn _ _ (length-column _ _ _ _ _ _ (ready .most)) _ _ _ (inv .2) (i .loop-test .taken) (start i .pre .1) (as-column _ _ _ _ _ _ _ _ _ _ (inv .1) (put .put .ensures)),
+      join-turn _ _ (length-column _ _ _ _ _ _ (ready .most)) _ _ _ (inv .2) (i .loop-test .taken) (start i .pre .1) (as-column _ _ _ _ _ _ _ _ _ _ (inv .1) (put .put .ensures)),
     )
 
 same-length : tie.Need-same-length Inv-loop μ-loop
@@ -87,7 +87,7 @@ same-length c = c .before .loop .inv .2 .same
 returns : tie.Need-returns Inv-loop μ-loop
 returns c =
     let ready = c .before .before .before .before .before .before .before .before .pre .0 in
-    ends _ _ (length-column _ _ _ _ _ _ (ready .most)) _ _ (c .before .loop .inv .2) (omega arith) (omega arith)
+    join-ends _ _ (length-column _ _ _ _ _ _ (ready .most)) _ _ (c .before .loop .inv .2) (omega arith) (omega arith)
 
 pub cells-spec : {M : Type 1} → statement M
 cells-spec =

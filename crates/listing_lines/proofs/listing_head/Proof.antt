@@ -39,7 +39,7 @@ few : (c : tie.After-digits-of2) → (c .before .digits-of .result .count ≤ 20
 few c =
     let l : length (c .before .digits-of .result .bytes) ≡ 20 = search needs in
     let d : length (c .digits-of2 .result .bytes) ≡ 20 = search needs in
-    (omega (arith, c .before .digits-of .ensures .within), omega (arith, c .digits-of2 .ensures .within))
+    (omega (arith, c .before .digits-of .ensures .digits-within), omega (arith, c .digits-of2 .ensures .digits-within))
 
 add-first : tie.Need-add-first
 add-first c = omega (arith, few (c .before))
@@ -56,10 +56,10 @@ returns-2 c =
     head-short _ _ _ _ _ (measured (then .before .before .before)) (then .if2 .taken) _ (c .nothing2 .ensures)
 
 put-number-requires : tie.Need-put-number-requires
-put-number-requires c κs = (c .before .before .before .before .before .digits-of .ensures .within, omega arith)
+put-number-requires c κs = (c .before .before .before .before .before .digits-of .ensures .digits-within, omega arith)
 
 put-number-requires-2 : tie.Need-put-number-requires-2
-put-number-requires-2 c κs = (c .before .before .before .before .before .before .before .before .digits-of2 .ensures .within, simp (length-take, length-drop) (omega (arith, c .before .before .before .put-number .kept .0)))
+put-number-requires-2 c κs = (c .before .before .before .before .before .before .before .before .digits-of2 .ensures .digits-within, simp (length-take, length-drop) (omega (arith, c .before .before .before .put-number .kept .0)))
 
 returns-3 : tie.Need-returns-3
 returns-3 c =

@@ -13,21 +13,21 @@ returns : tie.Need-returns
 unfolding readOf
 returns c =
     let then = c .before in
-    stop _ (checked (then .before .before .state-check .ensures) (then .before .is-done .ensures) (then .if1 .taken))
+    stop _ (checked (then .before .before .register-check .ensures) (then .before .is-done .ensures) (then .if1 .taken))
     (stop _ (lt-ltb _ _ (c .if2 .taken)) refl)
 
 returns-2 : tie.Need-returns-2
 unfolding readOf
 returns-2 c =
     let then = c .before .before .before in
-    let check = then .before .before .state-check .ensures in
+    let check = then .before .before .register-check .ensures in
     let ok = checked check (then .before .is-done .ensures) (then .if1 .taken) in
     stop _ ok (pass _ (le-ltb _ _ (c .before .before .if2 .left)) (ap₂ byteRead (check ∙ done-is _ ok) (c .shown-at .ensures)))
 
 returns-3 : tie.Need-returns-3
 unfolding readOf
 returns-3 c =
-    let check = c .before .before .state-check .ensures in
+    let check = c .before .before .register-check .ensures in
     pass _ (checked check (c .before .is-done .ensures) (c .if1 .left)) (ap (λ (r : Refusal). byteRead r 0) check)
 
 pub read-spec : {M : Type 1} → statement M

@@ -12,7 +12,7 @@ returns c =
     let hfp = vfp .before in
     let hbp = hfp .before in
     let hsync = hbp .before in
-    rw (hsync .before .ec-of .ensures, hsync .hsync-of .ensures, hbp .hbp-of .ensures, hfp .hfp-of .ensures, vfp .vfp-of .ensures, vsync .vsync-of .ensures .0, vbp .vbp-of .ensures, c .shape-of .ensures)
+    rw (hsync .before .ec-of .ensures, hsync .hsync-of .ensures, hbp .hbp-of .ensures, hfp .hfp-of .ensures, vfp .vfp-of .ensures, vsync .vsync-of .ensures .0, vbp .vbp-of .ensures, c .counts-of .ensures)
 
 pub timing-of-spec : {M : Type 1} → statement M
 timing-of-spec =

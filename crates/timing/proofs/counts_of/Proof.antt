@@ -1,16 +1,16 @@
 use borrow.Author.Needs.{needs}
-use Rattle.timing.specs.Fields.{shapeOf}
-use Rattle.timing.proofs.shape_of.Statement.{statement}
-use Rattle.timing.proofs.shape_of.Tie as tie
+use Rattle.timing.specs.Fields.{countsOf}
+use Rattle.timing.proofs.counts_of.Statement.{statement}
+use Rattle.timing.proofs.counts_of.Tie as tie
 
 returns : tie.Need-returns
-unfolding shapeOf
+unfolding countsOf
 returns c =
     let vt = c .before .before in
     rw (vt .before .before .ht-of .ensures, vt .before .hact-of .ensures, vt .vt-of .ensures, c .before .lines-of .ensures, c .rows-of .ensures)
 
-pub shape-of-spec : {M : Type 1} → statement M
-shape-of-spec =
+pub counts-of-spec : {M : Type 1} → statement M
+counts-of-spec =
     tie.close
     (tie.spec
     (λ c κs. search needs)

@@ -2,8 +2,8 @@ use mathlib.Core.Path.{sym, _∙_}
 use borrow.Author.Needs.{needs}
 use Rattle.shape.specs.Font.{fontOf}
 use Rattle.clock.specs.Laws.{dots-active, dots-blank}
-use Rattle.clock.proofs.dots_of.Statement.{statement}
-use Rattle.clock.proofs.dots_of.Tie as tie
+use Rattle.clock.proofs.clock_dots.Statement.{statement}
+use Rattle.clock.proofs.clock_dots.Tie as tie
 
 returns : tie.Need-returns
 returns c =
@@ -18,8 +18,8 @@ returns-2 c =
     dots-blank (start .args .b) (start .args .chars .now) (start .args .attrs .now) (fontOf (start .args .words .now) (start .args .flags .now) (start .args .unshifted .now) (start .args .shifted .now)) (start .args .scene) (start .pre .1) (start .args .address) _
     (sym (c .before .before .active-in .ensures) ∙ c .before .if1 .left) (c .blank-dots .ensures)
 
-pub dots-of-spec : {M : Type 1} → statement M
-dots-of-spec =
+pub clock-dots-spec : {M : Type 1} → statement M
+clock-dots-spec =
     tie.close
     (tie.spec
     (λ c κs. search needs)
