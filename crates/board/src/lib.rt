@@ -1,7 +1,7 @@
 // The board's whole state, by value. It holds numbers only and is laid out as C lays it out, so that every bit pattern is a value.
 ghost use mathlib.Core.Path.{_≡_};
 ghost use Rattle.board.specs.State.{clockZero, powerOf};
-ghost use Rattle.board.specs.Range.{startsRefused, addressRefused, cellsRefused, pointerRefused};
+ghost use Rattle.board.specs.Range.{memoriesRefused, startsRefused, addressRefused, cellsRefused, pointerRefused};
 
 #[repr(C)]
 pub struct Starts {
@@ -77,6 +77,13 @@ pub fn power() -> Board
         pointer: 0,
         resets: 0,
     }
+}
+
+// 3, for the lengths of the two memories.
+pub fn memories_refused(chars: usize, attrs: usize) -> bool
+    ensures { λ r. ⌜ r ≡ memoriesRefused chars attrs ⌝ }
+{
+    (chars != 16384) | (attrs != 16384)
 }
 
 pub fn starts_refused(s: Starts) -> bool

@@ -22,7 +22,7 @@ use Rattle.board.specs.Range.{memoryRefused}
 use Rattle.board.specs.Laws.{memory-all}
 use Rattle.timing.specs.Fields.{rowsOf, hactOf, tableOf, bufferOf, countsOf}
 use Rattle.timing.specs.Laws.{Accepted, call-passed}
-use Rattle.timing.specs.Feed.{accepted-fed, accepted-tallied}
+use Rattle.fetch.specs.Feed.{accepted-fed, accepted-tallied}
 use Rattle.fetch.specs.declared.Span.{Span}
 use Rattle.fetch.specs.Rows.{entryOf, feedIn, tallyIn, rowStart, cellAt}
 use Rattle.fetch.specs.Run.{runCheck, runCount, span, spanOf, runOf}

@@ -5,7 +5,7 @@ use lib.ListN.{getD}
 use Rattle.raster.specs.Cells.{Feed, Tally, tallyOf, startOf, cellOf}
 use Rattle.board.specs.declared.Page.{Page}
 use Rattle.timing.specs.Fields.{countsOf}
-use Rattle.timing.specs.Feed.{feedOf}
+use Rattle.fetch.specs.Feed.{feedOf}
 
 -- the character byte at an address, modulo 16,384
 abbrev pub byteAt : List ℕ → ℕ → ℕ

@@ -1,7 +1,9 @@
 // Which cell is fetched: the row table, a row's start, the cell at a column, and a row's first run.
 ghost use mathlib.Core.Path.{_≡_};
-ghost use Prim.Native.Nat.{min, _<_, _≤_, _+_};
+ghost use Prim.Native.Nat.{_<_, _≤_, _+_};
+ghost use denote.Ref.{ptr};
 ghost use lib.ListN.{length};
+ghost use Rattle.units.specs.Units.{clocks};
 ghost use Rattle.raster.specs.Moves.{cell};
 ghost use Rattle.refusal.specs.Number.{numberOf};
 ghost use Rattle.fetch.specs.Rows.{entryOf, rowStart, cellAt};
@@ -18,12 +20,6 @@ fn wide(x: u8) -> u16
     ensures { λ r. ⌜ r ≡ x ⌝ }
 {
     x as u16
-}
-
-fn least(a: u32, b: u32) -> u32
-    ensures { λ r. ⌜ r ≡ min a b ⌝ }
-{
-    if a < b { a } else { b }
 }
 
 // The row table's entry of a row.
@@ -49,7 +45,7 @@ pub fn row_start(p: board::Page, chars: &[u8], row: u32) -> raster::Cell
         return entry(p, chars, row);
     }
     let t = timing::timing_of(irs);
-    let moves = row * t.counts.hact.0;
+    let moves = t.counts.hact.times(row);
     let start = raster::Cell {
         address: p.starts.start1,
     };
@@ -57,28 +53,31 @@ pub fn row_start(p: board::Page, chars: &[u8], row: u32) -> raster::Cell
 }
 
 // The cell at a column of a row, at once.
-pub fn cell_at(p: board::Page, chars: &[u8], row: u32, column: u32) -> raster::Cell
+pub fn cell_at(p: board::Page, chars: &[u8], row: u32, column: units::Clocks) -> raster::Cell
     requires { ⌜ (length (now chars) ≡ 16384) × (row < 8192) ⌝ }
-    ensures { λ r. ⌜ r ≡ cell (cellAt p (now (chars .entry)) row column) ⌝ }
+    ensures { λ r. ⌜ r ≡ cell (cellAt p (now (chars .entry)) row (column .0)) ⌝ }
 {
     let irs = p.irs;
     let t = timing::timing_of(irs);
-    let moves = least(column, t.counts.hact.0);
+    let moves = column.least(t.counts.hact);
     let start = row_start(p, chars, row);
     raster::advance_by(timing::buffer_of(irs), moves, start)
 }
 
-// How many cells from a row's start on stand side by side.
-fn run_count(p: board::Page, start: u16) -> u32
+// How many cells from a row's start on stand side by side: so many clocks fetch them.
+fn run_count(p: board::Page, start: u16) -> units::Clocks
     requires { ⌜ start < 16384 ⌝ }
-    ensures { λ r. ⌜ r ≡ runCount p start ⌝ }
+    ensures { λ r. ⌜ r ≡ clocks (runCount p start) ⌝ }
 {
     let irs = p.irs;
     let t = timing::timing_of(irs);
     let b = timing::buffer_of(irs);
     let at = start as u32;
     let to_last = (b.last as u32 + 16384 - at % 16384) % 16384;
-    least(t.counts.hact.0, least(to_last + 1, 16384 - at))
+    let to_top = units::Clocks(16384 - at);
+    t.counts
+        .hact
+        .least(units::Clocks(to_last + 1).least(to_top))
 }
 
 fn run_check(b: board::Board, n: usize, row: u32) -> refusal::Refusal
@@ -90,7 +89,9 @@ fn run_check(b: board::Board, n: usize, row: u32) -> refusal::Refusal
 }
 
 pub fn span_of(b: board::Board, chars: &[u8], row: u32) -> Span
-    ensures { λ r. ⌜ (r ≡ spanOf b (now (chars .entry)) row) × (r .start + r .count ≤ 16384) × (r .start + r .count ≤ length (now (chars .entry))) ⌝ }
+    ensures { λ r. ⌜ (r ≡ spanOf b (now (chars .entry)) row)
+        × (r .start + r .count ≤ 16384)
+        × (r .start + r .count ≤ length (now (chars .entry))) ⌝ }
 {
     let page = b.page;
     let refused = run_check(b, chars.len(), row);
@@ -99,7 +100,7 @@ pub fn span_of(b: board::Board, chars: &[u8], row: u32) -> Span
         return Span {
             refusal: refused,
             start: start.address as usize,
-            count: run_count(page, start.address) as usize,
+            count: run_count(page, start.address).0 as usize,
         };
     }
     Span {
@@ -109,9 +110,13 @@ pub fn span_of(b: board::Board, chars: &[u8], row: u32) -> Span
     }
 }
 
-// A row's first run of cells, as a part of character memory; empty on a refusal, whose number is set beside it.
+// A row's first run of cells, as that part of the caller's character memory: its cells, and where it stands.
+// It is empty on a refusal, whose number is set beside it.
 pub fn row_run<'a>(b: board::Board, chars: &'a [u8], row: u32, refusal: &mut u32) -> &'a [u8]
-    ensures { λ r. ⌜ (now r ≡ runOf b (now (chars .entry)) row) × (now (refusal .exit) ≡ numberOf (runCheck b (length (now (chars .entry))) row)) ⌝ }
+    ensures { λ r. ⌜ (now r ≡ runOf b (now (chars .entry)) row)
+        × (ptr r .0 ≡ ptr (chars .entry) .0)
+        × (ptr r .1 ≡ ptr (chars .entry) .1 + spanOf b (now (chars .entry)) row .start)
+        × (now (refusal .exit) ≡ numberOf (runCheck b (length (now (chars .entry))) row)) ⌝ }
 {
     let s = span_of(b, chars, row);
     let refused = s.refusal;

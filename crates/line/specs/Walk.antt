@@ -1,7 +1,7 @@
 -- The line as the drawer goes along it, and that this is the line of `Line.antt`. Assumes nothing.
 use Prim.Native.Nat.{ℕ, min, _+_, _*_, _/_, _%_, _≤_, _<_}
 use mathlib.Core.Path.{_≡_, sym, ap, _∙_}
-use mathlib.Core.Bool.{true, false}
+use mathlib.Core.Bool.{Bool, true, false}
 use mathlib.Core.List.{List, _++_}
 use native.Mathlib.Nat.{div-lt-iff-lt-mul}
 use native.Mathlib.Numerals.{add-one}
@@ -20,8 +20,10 @@ use Rattle.board.specs.declared.Board.{Board}
 use Rattle.board.specs.Range.{memoriesRefused}
 use Rattle.board.specs.Laws.{memories-all}
 use Rattle.timing.specs.declared.Timing.{Timing}
+use Rattle.timing.specs.declared.Size.{Size as PageSize}
 use Rattle.timing.specs.Fields.{hactOf, rowsOf, linesOf, visibleOf, bufferOf, timingOf, countsOf}
-use Rattle.timing.specs.Laws.{Accepted, call-passed, buffer-bounded}
+use Rattle.timing.specs.Check.{pageCheck, sizeOf}
+use Rattle.timing.specs.Laws.{Accepted, call-passed, buffer-bounded, size-accepted}
 use Rattle.fetch.specs.Rows.{rowStart}
 use Rattle.fetch.specs.Laws.{cell-moved, row-start-lt}
 use Rattle.shape.specs.Font.{Font, Whole, fontRefused, positionOf, wordBy, wordOf}
@@ -30,8 +32,9 @@ use Rattle.video.specs.Scene.{sceneOf, cursorAt}
 use Rattle.video.specs.Look.{effective, lookOf}
 use Rattle.video.specs.Cell.{cellDots}
 use Rattle.video.specs.Width.{length-cell}
+use Rattle.video.specs.At.{lentRefused, scanOf, dotsAt}
 use Rattle.line.specs.declared.Walk.{Walk}
-use Rattle.line.specs.Line.{scanOf, dotsAt, columnDots, lineDots, lineLength, lentRefused, drawCheck, drawnOf}
+use Rattle.line.specs.Line.{columnDots, lineDots, lineLength, drawCheck, drawnOf}
 
 unfoldable pub walkOf : Board → (unshifted shifted : List ℕ) → (scan field : ℕ) → Walk
 walkOf b unshifted shifted scan field = record {
@@ -39,13 +42,13 @@ walkOf b unshifted shifted scan field = record {
   plain = positionOf unshifted scan;
   moved = positionOf shifted scan;
   buffer = bufferOf (b .page .irs);
-  width = b .page .video .dots .0;
+  width = b .page .video .dots;
 }
 
 -- one cell, from its code, its attribute byte and its address
 unfoldable pub cellBy : Walk → (words flags : List ℕ) → (code attr at : ℕ) → List ℕ
 cellBy w words flags code attr at =
-    cellDots (lookOf (w .scene) (effective attr) (cursorAt (w .scene) at)) (wordBy words flags (w .plain) (w .moved) code) (w .width)
+    cellDots (lookOf (w .scene) (effective attr) (cursorAt (w .scene) at)) (wordBy words flags (w .plain) (w .moved) code) (w .width .0)
 
 -- the cell c moves from the row's start
 unfoldable pub columnBy : Walk → (chars attrs words flags : List ℕ) → (start c : ℕ) → List ℕ
@@ -53,8 +56,8 @@ columnBy w chars attrs words flags start c =
     cellBy w words flags (getD chars (advanceBy (w .buffer) c start) 0) (getD attrs (advanceBy (w .buffer) c start) 0) (advanceBy (w .buffer) c start)
 
 pub record Ready (w : Walk) (chars attrs words flags : List ℕ) (start : ℕ) : Type 0 where
-  pub least : 6 ≤ w .width
-  pub most : w .width ≤ 12
+  pub least : 6 ≤ w .width .0
+  pub most : w .width .0 ≤ 12
   pub chars-all : length chars ≡ 16384
   pub attrs-all : length attrs ≡ 16384
   pub words-all : length words ≡ 1152
@@ -62,10 +65,10 @@ pub record Ready (w : Walk) (chars attrs words flags : List ℕ) (start : ℕ) :
   pub bounded : Bounded (w .buffer)
   pub start-lt : start < 16384
 
-pub length-column : (w : Walk) (chars attrs words flags : List ℕ) (start : ℕ) → w .width ≤ 12
-    → (c : ℕ) → length (columnBy w chars attrs words flags start c) ≡ w .width
+pub length-column : (w : Walk) (chars attrs words flags : List ℕ) (start : ℕ) → w .width .0 ≤ 12
+    → (c : ℕ) → length (columnBy w chars attrs words flags start c) ≡ w .width .0
 unfolding columnBy cellBy
-length-column w chars attrs words flags start m c = length-cell _ _ (w .width) (by-small words flags (w .plain) (w .moved) _) m
+length-column w chars attrs words flags start m c = length-cell _ _ (w .width .0) (by-small words flags (w .plain) (w .moved) _) m
 
 -- ---- a turn of the drawer's loop
 
@@ -131,19 +134,18 @@ draw-passed b chars attrs f line room e =
       roomy = ltb-false _ _ (k .roomy);
     }
 
+-- the tests on the page's size, as the code has them
+pub whole-so : (b : Board) (line room : ℕ) (z : PageSize) (t : Bool) → z ≡ sizeOf (b .page) → t ≡ leb (z .lines .0) line → pageCheck (b .page) ≡ Done
+    → (t ≡ leb (visibleOf (b .page .irs) .0) line) × (ltb room (z .dots .0) ≡ ltb room (lineLength b))
+whole-so b line room z t e q ok =
+    let k = size-accepted (b .page) ok in
+    (q ∙ rw (e, k .0), rw (e, k .1))
+
 -- what the drawer has worked out before it goes along the line: the counts, the line's constants, and the row's start
 pub record Prepared (b : Board) (chars unshifted shifted : List ℕ) (line field : ℕ) (t : Timing) (w : Walk) (start : Cell) : Type 0 where
   pub timed : t ≡ timingOf (b .page .irs)
   pub walked : w ≡ walkOf b unshifted shifted (line % t .counts .lines .0) field
   pub started : start ≡ cell (rowStart (b .page) chars (line / t .counts .lines .0))
-
-pub lines-some : (t : Timing) (irs : List ℕ) → t ≡ timingOf irs → 0 < t .counts .lines .0
-unfolding timingOf countsOf
-lines-some t irs e = rw e (omega arith)
-
-pub hact-le : (t : Timing) (irs : List ℕ) → t ≡ timingOf irs → t .counts .hact .0 ≤ 256
-unfolding timingOf countsOf
-hact-le t irs e = rw e (omega arith)
 
 module _ (b : Board) (chars attrs : List ℕ) (f : Font) (line field : ℕ) (t : Timing) where
   pub row-lt : {room : ℕ} → t ≡ timingOf (b .page .irs) → Drawn b chars attrs f line room → line / t .counts .lines .0 < 8192
@@ -151,7 +153,7 @@ module _ (b : Board) (chars attrs : List ℕ) (f : Font) (line field : ℕ) (t :
   row-lt e k = rw e (omega (arith, k .row-lt))
 
   module _ (w : Walk) (start : Cell) (q : Prepared b chars (f .unshifted) (f .shifted) line field t w start) where
-    pub ready : {room : ℕ} → Drawn b chars attrs f line room → Ready w chars attrs (f .words) (f .flags) (start .address) × (t .counts .hact .0 * w .width ≤ room)
+    pub ready : {room : ℕ} → Drawn b chars attrs f line room → Ready w chars attrs (f .words) (f .flags) (start .address) × (t .counts .hact .0 * w .width .0 ≤ room)
     unfolding timingOf countsOf walkOf
     ready k =
         rw (q .started, q .walked, q .timed) (
@@ -169,7 +171,7 @@ module _ (b : Board) (chars attrs : List ℕ) (f : Font) (line field : ℕ) (t :
         )
 
     pub drawn : (out out₀ : List ℕ)
-        → out ≡ joined 0 (t .counts .hact .0) (columnBy w chars attrs (f .words) (f .flags) (start .address)) ++ drop (t .counts .hact .0 * w .width) out₀
+        → out ≡ joined 0 (t .counts .hact .0) (columnBy w chars attrs (f .words) (f .flags) (start .address)) ++ drop (t .counts .hact .0 * w .width .0) out₀
         → out ≡ lineDots b chars attrs f line field ++ drop (lineLength b) out₀
     unfolding timingOf countsOf walkOf
     drawn out out₀ e =

@@ -5,7 +5,8 @@ ghost use Prim.Native.Nat.{_*_, _≤_, _<_};
 ghost use lib.ListN.{length, drop};
 ghost use Rattle.lists.specs.Join.{joined};
 ghost use Rattle.shape.specs.Font.{fontOf};
-ghost use Rattle.line.specs.Line.{lentRefused, drawCheck, drawnOf, lineDots, lineLength};
+ghost use Rattle.video.specs.At.{lentRefused};
+ghost use Rattle.line.specs.Line.{drawCheck, drawnOf, lineDots, lineLength};
 ghost use Rattle.line.specs.Walk.{walkOf, cellBy, columnBy, Ready, Drawn};
 
 // What is the same for all cells of a line: the scene, where the scan line stands in the font's two lists, the buffer, the width of a cell.
@@ -14,13 +15,15 @@ pub struct Walk {
     pub plain: usize,
     pub moved: usize,
     pub buffer: raster::Buffer,
-    pub width: usize,
+    pub width: units::Dots,
 }
 
 // Writes one cell's dots to the front of out.
 fn put(out: &mut [u8], w: Walk, words: &[u16], flags: &[u8], code: u8, attr: u8, at: usize)
-    requires { ⌜ (length (now words) ≡ 1152) × (length (now flags) ≡ 128) × (6 ≤ w .width) × (w .width ≤ 12) × (w .width ≤ length (now out)) ⌝ }
-    ensures { λ _. ⌜ now (out .exit) ≡ cellBy w (now (words .entry)) (now (flags .entry)) code attr at ++ drop (w .width) (now (out .entry)) ⌝ }
+    requires { ⌜ (length (now words) ≡ 1152) × (length (now flags) ≡ 128) ⌝ }
+    requires { ⌜ (6 ≤ w .width .0) × (w .width .0 ≤ 12) × (w .width .0 ≤ length (now out)) ⌝ }
+    ensures { λ _. ⌜ now (out .exit)
+        ≡ cellBy w (now (words .entry)) (now (flags .entry)) code attr at ++ drop (w .width .0) (now (out .entry)) ⌝ }
 {
     let scene = w.scene;
     let cursor = video::cursor_at(scene, at);
@@ -38,17 +41,20 @@ fn cells(
     words: &[u16],
     flags: &[u8],
     start: raster::Cell,
-    n: usize,
+    n: units::Clocks,
 )
     requires { ⌜ Ready w (now chars) (now attrs) (now words) (now flags) (start .address) ⌝ }
-    requires { ⌜ n * w .width ≤ length (now out) ⌝ }
-    ensures { λ _. ⌜ now (out .exit) ≡ joined 0 n (columnBy w (now (chars .entry)) (now (attrs .entry)) (now (words .entry)) (now (flags .entry)) (start .address)) ++ drop (n * w .width) (now (out .entry)) ⌝ }
+    requires { ⌜ n .0 * w .width .0 ≤ length (now out) ⌝ }
+    ensures { λ _. ⌜ now (out .exit)
+        ≡ joined 0 (n .0) (columnBy w (now (chars .entry)) (now (attrs .entry)) (now (words .entry)) (now (flags .entry)) (start .address))
+        ++ drop (n .0 * w .width .0) (now (out .entry)) ⌝ }
 {
-    let d = w.width;
+    let count = n.0 as usize;
+    let d = w.width.0 as usize;
     let buffer = w.buffer;
     let mut cell = start;
     let mut c = 0;
-    while c < n {
+    while c < count {
         let a = c * d;
         let address = cell.address;
         let at = address as usize;
@@ -58,52 +64,31 @@ fn cells(
     }
 }
 
-fn walk_of(b: board::Board, unshifted: &[u8], shifted: &[u8], scan: u32, field: u8) -> Walk
-    ensures { λ r. ⌜ r ≡ walkOf b (now (unshifted .entry)) (now (shifted .entry)) scan field ⌝ }
+fn walk_of(b: board::Board, unshifted: &[u8], shifted: &[u8], scan: units::Lines, field: u8) -> Walk
+    ensures { λ r. ⌜ r ≡ walkOf b (now (unshifted .entry)) (now (shifted .entry)) (scan .0) field ⌝ }
 {
     let irs = b.page.irs;
+    let width = b.page.video.dots;
     Walk {
         scene: video::scene_of(b, scan, field),
         plain: shape::position(unshifted, scan),
         moved: shape::position(shifted, scan),
         buffer: timing::buffer_of(irs),
-        width: b.page.video.dots.0 as usize,
+        width,
     }
 }
 
-// 3, for the memories and the font.
-pub fn lent_refused(
-    chars: &[u8],
-    attrs: &[u8],
-    words: &[u16],
-    flags: &[u8],
-    unshifted: &[u8],
-    shifted: &[u8],
-) -> bool
-    ensures { λ r. ⌜ r ≡ lentRefused (now (chars .entry)) (now (attrs .entry)) (fontOf (now (words .entry)) (now (flags .entry)) (now (unshifted .entry)) (now (shifted .entry))) ⌝ }
+// The page's size is 0 where the page is refused, which comes before 7 and 8.
+fn draw_check(b: board::Board, size: bool, line: units::Lines, room: usize) -> refusal::Refusal
+    ensures { λ r. ⌜ r ≡ drawCheck b size (line .0) room ⌝ }
 {
-    (chars.len() != 16384)
-        | (attrs.len() != 16384)
-        | shape::font_refused(words, flags, unshifted, shifted)
-}
-
-// The bytes that a line takes. Any two counts have a product.
-fn line_bytes(n: units::Clocks, clock: units::Dots) -> u64
-    ensures { λ r. ⌜ r ≡ n .0 * clock .0 ⌝ }
-{
-    n.0 as u64 * clock.0 as u64
-}
-
-fn draw_check(b: board::Board, size: bool, line: u32, room: usize) -> refusal::Refusal
-    ensures { λ r. ⌜ r ≡ drawCheck b size line room ⌝ }
-{
-    let irs = b.page.irs;
-    let t = timing::timing_of(irs);
-    let shown = timing::visible_of(irs);
-    let hact = t.counts.hact;
-    let dots = b.page.video.dots;
-    let needed = line_bytes(hact, dots);
-    timing::call_check(b, size, shown.0 <= line, (room as u64) < needed)
+    let whole = timing::page_size(b.page);
+    timing::call_check(
+        b,
+        size,
+        whole.lines.at_most(line),
+        room < whole.dots.0 as usize,
+    )
 }
 
 // A line that nothing refuses.
@@ -116,29 +101,23 @@ fn whole_line(
     flags: &[u8],
     unshifted: &[u8],
     shifted: &[u8],
-    line: u32,
+    line: units::Lines,
     field: u8,
 )
-    requires { ⌜ Drawn b (now chars) (now attrs) (fontOf (now words) (now flags) (now unshifted) (now shifted)) line (length (now out)) ⌝ }
-    ensures { λ _. ⌜ now (out .exit) ≡ lineDots b (now (chars .entry)) (now (attrs .entry)) (fontOf (now (words .entry)) (now (flags .entry)) (now (unshifted .entry)) (now (shifted .entry))) line field ++ drop (lineLength b) (now (out .entry)) ⌝ }
+    requires { ⌜ Drawn b (now chars) (now attrs) (fontOf (now words) (now flags) (now unshifted) (now shifted)) (line .0) (length (now out)) ⌝ }
+    ensures { λ _. ⌜ now (out .exit)
+        ≡ lineDots b (now (chars .entry)) (now (attrs .entry))
+        (fontOf (now (words .entry)) (now (flags .entry)) (now (unshifted .entry)) (now (shifted .entry))) (line .0) field
+        ++ drop (lineLength b) (now (out .entry)) ⌝ }
 {
     let page = b.page;
     let irs = page.irs;
     let t = timing::timing_of(irs);
-    let row = line / t.counts.lines.0;
-    let scan = line % t.counts.lines.0;
+    let row = timing::row_of(irs, line);
+    let scan = timing::line_of_row(irs, line);
     let w = walk_of(b, unshifted, shifted, scan, field);
     let start = fetch::row_start(page, chars, row);
-    cells(
-        out,
-        w,
-        chars,
-        attrs,
-        words,
-        flags,
-        start,
-        t.counts.hact.0 as usize,
-    );
+    cells(out, w, chars, attrs, words, flags, start, t.counts.hact);
 }
 
 // Draws a visible line as it looks in a field, HACT x dots bytes at the front of out.
@@ -150,14 +129,19 @@ pub fn draw_line(
     flags: &[u8],
     unshifted: &[u8],
     shifted: &[u8],
-    line: u32,
+    line: units::Lines,
     field: u8,
     out: &mut [u8],
 ) -> refusal::Refusal
-    ensures { λ r. ⌜ (r ≡ drawCheck b (lentRefused (now (chars .entry)) (now (attrs .entry)) (fontOf (now (words .entry)) (now (flags .entry)) (now (unshifted .entry)) (now (shifted .entry)))) line (length (now (out .entry))))
-        × (now (out .exit) ≡ drawnOf b (now (chars .entry)) (now (attrs .entry)) (fontOf (now (words .entry)) (now (flags .entry)) (now (unshifted .entry)) (now (shifted .entry))) line field (now (out .entry))) ⌝ }
+    ensures { λ r. ⌜ (r ≡ drawCheck b
+        (lentRefused (now (chars .entry)) (now (attrs .entry))
+        (fontOf (now (words .entry)) (now (flags .entry)) (now (unshifted .entry)) (now (shifted .entry))))
+        (line .0) (length (now (out .entry))))
+        × (now (out .exit) ≡ drawnOf b (now (chars .entry)) (now (attrs .entry))
+        (fontOf (now (words .entry)) (now (flags .entry)) (now (unshifted .entry)) (now (shifted .entry)))
+        (line .0) field (now (out .entry))) ⌝ }
 {
-    let size = lent_refused(chars, attrs, words, flags, unshifted, shifted);
+    let size = video::lent_refused(chars, attrs, words, flags, unshifted, shifted);
     let refused = draw_check(b, size, line, out.len());
     if refusal::is_done(refused) {
         whole_line(

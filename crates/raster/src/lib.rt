@@ -36,21 +36,22 @@ pub fn advance_one(b: Buffer, c: Cell) -> Cell
     }
 }
 
-// The cell k moves after this one.
-pub fn advance_by(b: Buffer, k: u32, c: Cell) -> Cell
-    ensures { λ r. ⌜ r ≡ cell (advanceBy b k (c .address)) ⌝ }
+// The cell k moves after this one: one for each of k active clocks.
+pub fn advance_by(b: Buffer, k: units::Clocks, c: Cell) -> Cell
+    ensures { λ r. ⌜ r ≡ cell (advanceBy b (k .0) (c .address)) ⌝ }
 {
     let first = b.first as u32;
     let last = b.last as u32;
     let a = c.address as u32 % 16384;
     let d = (last + 16384 - a) % 16384;
-    if k <= d {
+    let moves = k.0;
+    if moves <= d {
         return Cell {
-            address: ((a + k) % 16384) as u16,
+            address: ((a + moves) % 16384) as u16,
         };
     }
     let p = (last + 16384 - first % 16384) % 16384 + 1;
     Cell {
-        address: ((first + (k - d - 1) % p) % 16384) as u16,
+        address: ((first + (moves - d - 1) % p) % 16384) as u16,
     }
 }

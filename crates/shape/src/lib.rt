@@ -5,12 +5,13 @@ ghost use lib.ListN.{length};
 ghost use Rattle.shape.specs.Font.{fontOf, Whole, fontRefused, positionOf, fontWord, wordBy, wordOf};
 
 // The first position in a list of line numbers that equals the scan line, or the list's length. Four bits of a line number count.
-pub fn position(list: &[u8], scan: u32) -> usize
-    ensures { λ r. ⌜ r ≡ positionOf (now (list .entry)) scan ⌝ }
+pub fn position(list: &[u8], scan: units::Lines) -> usize
+    ensures { λ r. ⌜ r ≡ positionOf (now (list .entry)) (scan .0) ⌝ }
 {
     let mut i = 0;
     while i < list.len() {
-        if list[i] as u32 % 16 == scan {
+        let line = units::Lines(list[i] as u32 % 16);
+        if line.same(scan) {
             return i;
         }
         i += 1;
@@ -56,14 +57,14 @@ pub fn word_by(words: &[u16], flags: &[u8], plain: usize, moved: usize, code: u8
 // The word that a code shows on a scan line.
 pub fn word_of(
     code: u8,
-    scan: u32,
+    scan: units::Lines,
     words: &[u16],
     flags: &[u8],
     unshifted: &[u8],
     shifted: &[u8],
 ) -> u16
     requires { ⌜ Whole (fontOf (now words) (now flags) (now unshifted) (now shifted)) ⌝ }
-    ensures { λ r. ⌜ r ≡ wordOf (fontOf (now (words .entry)) (now (flags .entry)) (now (unshifted .entry)) (now (shifted .entry))) code scan ⌝ }
+    ensures { λ r. ⌜ r ≡ wordOf (fontOf (now (words .entry)) (now (flags .entry)) (now (unshifted .entry)) (now (shifted .entry))) code (scan .0) ⌝ }
 {
     let plain = position(unshifted, scan);
     let moved = position(shifted, scan);

@@ -107,12 +107,9 @@ countsOf irs = record {
 
 unfoldable pub timingOf : List ℕ → Timing
 timingOf irs = record {
-  ec = clocks (ecOf irs);
   hsync = clocks (hsyncOf irs);
-  hbp = clocks (hbpOf irs);
   hfp = clocks (hfpOf irs);
   vfp = lines (vfpOf irs);
   vsync = lines (vsyncOf (ir irs 7 / 64 % 4));
-  vbp = lines (vbpOf irs);
   counts = countsOf irs;
 }

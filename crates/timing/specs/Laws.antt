@@ -13,13 +13,13 @@ use Rattle.units.specs.declared.Dots.{Dots}
 use Rattle.units.specs.Units.{clocksOf}
 use Rattle.refusal.specs.declared.Refusal.the-variants.{Done, Size, Reserved, Porch, Width, Range, Room, Address}
 use Rattle.refusal.specs.Number.{doneOf}
-use Rattle.refusal.specs.Laws.{passed, not-refused}
+use Rattle.refusal.specs.Laws.{done-is, passed, not-refused}
 use Rattle.raster.specs.Moves.{Bounded}
 use Rattle.raster.specs.Raster.{Good}
 use Rattle.board.specs.declared.Page.{Page}
 use Rattle.board.specs.declared.Board.{Board}
 use Rattle.board.specs.Range.{startsRefused, addressRefused, cellsRefused, pointerRefused}
-use Rattle.timing.specs.Fields.{ir, linesOf, rowsOf, hactOf, htOf, hfpOf, vsyncOf, vtOf, bufferOf, countsOf}
+use Rattle.timing.specs.Fields.{ir, linesOf, rowsOf, hactOf, htOf, hfpOf, vsyncOf, visibleOf, vtOf, bufferOf, countsOf}
 use Rattle.timing.specs.Check.{reservedRefused, porchRefused, widthRefused, pageCheck, sized, sizeOf, stateRefused, callCheck}
 
 -- ---- any registers
@@ -30,7 +30,7 @@ visible-bound irs =
     let l : linesOf irs ≤ 16 = omega arith in
     mul-le-mul r l
 
-vsync-bound : (n : ℕ) → vsyncOf n ≤ 7
+pub vsync-bound : (n : ℕ) → vsyncOf n ≤ 7
 vsync-bound n =
     pick-le 7 (eqb n 0) 3 _ (omega arith)
     (pick-le 7 (eqb n 1) 1 _ (omega arith) (pick-le 7 (eqb n 2) 5 7 (omega arith) (omega arith)))
@@ -175,3 +175,19 @@ size-refusal p = go (doneOf (pageCheck p)) _ _ _ _
     go : (t : Bool) (l k : Lines) (d e : Dots) → (pick t (sized (pageCheck p) l d) (sized (pageCheck p) k e)) .refusal ≡ pageCheck p
     go true l k d e = refl
     go false l k d e = refl
+
+-- and where the page is accepted the size is its own
+pub size-accepted : (p : Page) → pageCheck p ≡ Done
+    → (sizeOf p .lines ≡ visibleOf (p .irs)) × (sizeOf p .dots .0 ≡ hactOf (p .irs) * p .video .dots .0)
+unfolding sizeOf
+size-accepted p e = rw e (refl, refl)
+
+-- what is asked for and the room count only where the page is accepted
+pub asked-last : (b : Board) (size a r a′ r′ : Bool) → (pageCheck (b .page) ≡ Done → (a ≡ a′) × (r ≡ r′))
+    → callCheck b size a r ≡ callCheck b size a′ r′
+unfolding callCheck
+asked-last b size a r a′ r′ h = go (doneOf (pageCheck (b .page))) refl
+  where
+    go : (d : Bool) → doneOf (pageCheck (b .page)) ≡ d → callCheck b size a r ≡ callCheck b size a′ r′
+    go true e = rw (h (done-is _ e) .0, h (done-is _ e) .1)
+    go false e = rw e

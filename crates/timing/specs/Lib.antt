@@ -2,4 +2,4 @@
 pub mod Fields
 pub mod Check
 pub mod Laws
-pub mod Feed
+pub mod Decoded

@@ -1,21 +1,19 @@
 // The initialization registers decoded into counts (003 Table 2), the page check, and the size of a page's picture.
 ghost use mathlib.Core.Path.{_≡_};
 ghost use mathlib.Core.List.{[], _∷_};
-ghost use Prim.Native.Nat.{_-_, _/_, _%_, _≤_};
+ghost use Prim.Native.Nat.{_/_, _%_};
 ghost use Rattle.lists.specs.Choice.{firstOf};
+ghost use Rattle.units.specs.Units.{clocks, lines};
 ghost use Rattle.refusal.specs.declared.Refusal.{Refusal};
 ghost use Rattle.timing.specs.Fields.{ir, linesOf, ecOf, tableOf, hsyncOf, hbpOf, vfpOf, vbpOf, blinkOf, rowsOf, hactOf, cursorOf, vsyncOf, underlineOf, bufferOf, htOf, hfpOf, visibleOf, vtOf, countsOf, timingOf};
 ghost use Rattle.timing.specs.Check.{reservedRefused, porchRefused, widthRefused, pageCheck, sizeOf, stateRefused, callCheck};
 
-// A line's and a frame's parts, and the counts that the beam goes by.
+// A line's and a frame's front porch and sync, and the counts that the beam goes by.
 pub struct Timing {
-    pub ec: units::Clocks,
     pub hsync: units::Clocks,
-    pub hbp: units::Clocks,
     pub hfp: units::Clocks,
     pub vfp: units::Lines,
     pub vsync: units::Lines,
-    pub vbp: units::Lines,
     pub counts: raster::Counts,
 }
 
@@ -34,47 +32,40 @@ pub struct Size {
     pub dots: units::Dots,
 }
 
-// a - b, and 0 where b is more.
-fn minus(a: u32, b: u32) -> u32
-    ensures { λ r. ⌜ r ≡ a - b ⌝ }
-{
-    if b <= a { a - b } else { 0 }
-}
-
 // Each count is decoded by a function of its own: one function for them all is costly to prove.
 
 fn lines_of(irs: [u8; 15]) -> units::Lines
-    ensures { λ r. ⌜ r .0 ≡ linesOf irs ⌝ }
+    ensures { λ r. ⌜ r ≡ lines (linesOf irs) ⌝ }
 {
     units::Lines(irs[0] as u32 / 8 % 16 + 1)
 }
 
 fn ec_of(irs: [u8; 15]) -> units::Clocks
-    ensures { λ r. ⌜ r .0 ≡ ecOf irs ⌝ }
+    ensures { λ r. ⌜ r ≡ clocks (ecOf irs) ⌝ }
 {
     units::Clocks(irs[1] as u32 % 128 + 1)
 }
 
 fn hsync_of(irs: [u8; 15]) -> units::Clocks
-    ensures { λ r. ⌜ r .0 ≡ hsyncOf irs ⌝ }
+    ensures { λ r. ⌜ r ≡ clocks (hsyncOf irs) ⌝ }
 {
     units::Clocks(2 * (irs[2] as u32 / 8 % 16) + 2)
 }
 
 fn hbp_of(irs: [u8; 15]) -> units::Clocks
-    ensures { λ r. ⌜ r .0 ≡ hbpOf irs ⌝ }
+    ensures { λ r. ⌜ r ≡ clocks (hbpOf irs) ⌝ }
 {
-    units::Clocks(minus(4 * (irs[2] as u32 % 8), 1))
+    units::Clocks(4 * (irs[2] as u32 % 8)).minus(units::Clocks(1))
 }
 
 fn vfp_of(irs: [u8; 15]) -> units::Lines
-    ensures { λ r. ⌜ r .0 ≡ vfpOf irs ⌝ }
+    ensures { λ r. ⌜ r ≡ lines (vfpOf irs) ⌝ }
 {
     units::Lines(4 * (irs[3] as u32 / 32 % 8) + 4)
 }
 
 fn vbp_of(irs: [u8; 15]) -> units::Lines
-    ensures { λ r. ⌜ r .0 ≡ vbpOf irs ⌝ }
+    ensures { λ r. ⌜ r ≡ lines (vbpOf irs) ⌝ }
 {
     units::Lines(2 * (irs[3] as u32 % 32) + 4)
 }
@@ -86,14 +77,14 @@ fn rows_of(irs: [u8; 15]) -> u32
 }
 
 fn hact_of(irs: [u8; 15]) -> units::Clocks
-    ensures { λ r. ⌜ r .0 ≡ hactOf irs ⌝ }
+    ensures { λ r. ⌜ r ≡ clocks (hactOf irs) ⌝ }
 {
     units::Clocks(irs[5] as u32 % 256 + 1)
 }
 
 // VSYNC by its code.
 fn vsync_of(irs: [u8; 15]) -> units::Lines
-    ensures { λ r. ⌜ (r .0 ≡ vsyncOf (ir irs 7 / 64 % 4)) × (r .0 ≤ 7) ⌝ }
+    ensures { λ r. ⌜ r ≡ lines (vsyncOf (ir irs 7 / 64 % 4)) ⌝ }
 {
     let code = irs[7] / 64 % 4;
     match code {
@@ -105,32 +96,44 @@ fn vsync_of(irs: [u8; 15]) -> units::Lines
 }
 
 fn ht_of(irs: [u8; 15]) -> units::Clocks
-    ensures { λ r. ⌜ r .0 ≡ htOf irs ⌝ }
+    ensures { λ r. ⌜ r ≡ clocks (htOf irs) ⌝ }
 {
-    units::Clocks(2 * (ec_of(irs).0 + 2 * hsync_of(irs).0))
+    ec_of(irs).plus(hsync_of(irs).times(2)).times(2)
 }
 
 fn hfp_of(irs: [u8; 15]) -> units::Clocks
-    ensures { λ r. ⌜ r .0 ≡ hfpOf irs ⌝ }
+    ensures { λ r. ⌜ r ≡ clocks (hfpOf irs) ⌝ }
 {
-    units::Clocks(minus(
-        ht_of(irs).0,
-        hact_of(irs).0 + hsync_of(irs).0 + hbp_of(irs).0,
-    ))
+    let rest = hact_of(irs).plus(hsync_of(irs)).plus(hbp_of(irs));
+    ht_of(irs).minus(rest)
 }
 
 // The lines that show a picture.
 pub fn visible_of(irs: [u8; 15]) -> units::Lines
     ensures { λ r. ⌜ r ≡ visibleOf irs ⌝ }
 {
-    units::Lines(rows_of(irs) * lines_of(irs).0)
+    lines_of(irs).times(rows_of(irs))
+}
+
+// The row that a line of the frame belongs to.
+pub fn row_of(irs: [u8; 15], line: units::Lines) -> u32
+    ensures { λ r. ⌜ r ≡ line .0 / linesOf irs ⌝ }
+{
+    line.quotient(lines_of(irs))
+}
+
+// Which line of its row a line of the frame is.
+pub fn line_of_row(irs: [u8; 15], line: units::Lines) -> units::Lines
+    ensures { λ r. ⌜ r ≡ lines (line .0 % linesOf irs) ⌝ }
+{
+    line.remainder(lines_of(irs))
 }
 
 fn vt_of(irs: [u8; 15]) -> units::Lines
-    ensures { λ r. ⌜ r .0 ≡ vtOf irs ⌝ }
+    ensures { λ r. ⌜ r ≡ lines (vtOf irs) ⌝ }
 {
-    let hidden = vfp_of(irs).0 + vsync_of(irs).0 + vbp_of(irs).0;
-    units::Lines(visible_of(irs).0 + hidden)
+    let to_sync = visible_of(irs).plus(vfp_of(irs));
+    to_sync.plus(vsync_of(irs)).plus(vbp_of(irs))
 }
 
 fn counts_of(irs: [u8; 15]) -> raster::Counts
@@ -149,13 +152,10 @@ pub fn timing_of(irs: [u8; 15]) -> Timing
     ensures { λ r. ⌜ r ≡ timingOf irs ⌝ }
 {
     Timing {
-        ec: ec_of(irs),
         hsync: hsync_of(irs),
-        hbp: hbp_of(irs),
         hfp: hfp_of(irs),
         vfp: vfp_of(irs),
         vsync: vsync_of(irs),
-        vbp: vbp_of(irs),
         counts: counts_of(irs),
     }
 }
@@ -199,24 +199,24 @@ pub fn blink_of(irs: [u8; 15]) -> u32
 }
 
 // 4: doubled rows or interlace.
-pub fn reserved_refused(irs: [u8; 15]) -> bool
+fn reserved_refused(irs: [u8; 15]) -> bool
     ensures { λ r. ⌜ r ≡ reservedRefused irs ⌝ }
 {
     (irs[0] / 128 % 2 == 1) | (irs[1] / 128 % 2 == 1)
 }
 
 // 5: HBP code 0, or a front porch below 2.
-pub fn porch_refused(irs: [u8; 15]) -> bool
+fn porch_refused(irs: [u8; 15]) -> bool
     ensures { λ r. ⌜ r ≡ porchRefused irs ⌝ }
 {
-    (irs[2] % 8 == 0) | (hfp_of(irs).0 < 2)
+    (irs[2] % 8 == 0) | hfp_of(irs).below(units::Clocks(2))
 }
 
 // 6: dots not 6 to 12.
 pub fn width_refused(d: units::Dots) -> bool
     ensures { λ r. ⌜ r ≡ widthRefused d ⌝ }
 {
-    (d.0 < 6) | (12 < d.0)
+    d.below(units::Dots(6)) | units::Dots(12).below(d)
 }
 
 // The order of the page check.
@@ -270,13 +270,13 @@ pub fn page_size(p: board::Page) -> Size
 }
 
 // 7, for a board's own numbers.
-pub fn state_refused(b: board::Board) -> bool
+fn state_refused(b: board::Board) -> bool
     ensures { λ r. ⌜ r ≡ stateRefused b ⌝ }
 {
     let irs = b.page.irs;
     let place = b.place;
-    (vt_of(irs).0 <= place.line.0)
-        | (ht_of(irs).0 <= place.clock.0)
+    vt_of(irs).at_most(place.line)
+        | ht_of(irs).at_most(place.clock)
         | board::cells_refused(place)
         | board::pointer_refused(b.pointer)
 }

@@ -1,7 +1,9 @@
 // The three units of the papers: character clocks, scan lines, dots. A count of one is never added to a count of another.
+// Only here is a count's plain number worked with: sums and comparisons within a unit, and the conversions between them.
 ghost use mathlib.Core.Path.{_≡_};
-ghost use Prim.Native.Nat.{_*_, _<_, _^_};
-ghost use Rattle.units.specs.Units.{clocksOf, dotsOf};
+ghost use Prim.Native.Nat.{min, _+_, _-_, _*_, _/_, _%_, _<_, _^_};
+ghost use lib.Dec.{eqb, ltb, leb};
+ghost use Rattle.units.specs.Units.{clocks, lines, during, clocksOf, dotsOf, wholeLines};
 
 #[repr(C)]
 pub struct Clocks(pub u32);
@@ -12,12 +14,170 @@ pub struct Lines(pub u32);
 #[repr(C)]
 pub struct Dots(pub u32);
 
+// a - b, and 0 where b is more.
+fn less(a: u32, b: u32) -> u32
+    ensures { λ r. ⌜ r ≡ a - b ⌝ }
+{
+    if b <= a { a - b } else { 0 }
+}
+
+fn smaller(a: u32, b: u32) -> u32
+    ensures { λ r. ⌜ r ≡ min a b ⌝ }
+{
+    if a < b { a } else { b }
+}
+
+impl Clocks {
+    pub fn below(self, n: Clocks) -> bool
+        ensures { λ r. ⌜ r ≡ ltb (self .0) (n .0) ⌝ }
+    {
+        self.0 < n.0
+    }
+
+    pub fn at_most(self, n: Clocks) -> bool
+        ensures { λ r. ⌜ r ≡ leb (self .0) (n .0) ⌝ }
+    {
+        self.0 <= n.0
+    }
+
+    pub fn same(self, n: Clocks) -> bool
+        ensures { λ r. ⌜ r ≡ eqb (self .0) (n .0) ⌝ }
+    {
+        self.0 == n.0
+    }
+
+    pub fn plus(self, n: Clocks) -> Clocks
+        requires { ⌜ self .0 + n .0 < 2 ^ 32 ⌝ }
+        ensures { λ r. ⌜ r ≡ clocks (self .0 + n .0) ⌝ }
+    {
+        Clocks(self.0 + n.0)
+    }
+
+    // None where n is more.
+    pub fn minus(self, n: Clocks) -> Clocks
+        ensures { λ r. ⌜ r ≡ clocks (self .0 - n .0) ⌝ }
+    {
+        Clocks(less(self.0, n.0))
+    }
+
+    pub fn times(self, k: u32) -> Clocks
+        requires { ⌜ k * self .0 < 2 ^ 32 ⌝ }
+        ensures { λ r. ⌜ r ≡ clocks (k * self .0) ⌝ }
+    {
+        Clocks(k * self.0)
+    }
+
+    pub fn least(self, n: Clocks) -> Clocks
+        ensures { λ r. ⌜ r ≡ clocks (min (self .0) (n .0)) ⌝ }
+    {
+        Clocks(smaller(self.0, n.0))
+    }
+
+    // From a clock on, n of them.
+    pub fn during(self, from: Clocks, n: Clocks) -> bool
+        requires { ⌜ from .0 + n .0 < 2 ^ 32 ⌝ }
+        ensures { λ r. ⌜ r ≡ during (from .0) (n .0) (self .0) ⌝ }
+    {
+        (from.0 <= self.0) & (self.0 < from.0 + n.0)
+    }
+
+    // What is left over of a line of so many clocks.
+    pub fn remainder(self, line: Clocks) -> Clocks
+        requires { ⌜ 0 < line .0 ⌝ }
+        ensures { λ r. ⌜ r ≡ clocks (self .0 % line .0) ⌝ }
+    {
+        Clocks(self.0 % line.0)
+    }
+}
+
+impl Lines {
+    pub fn below(self, n: Lines) -> bool
+        ensures { λ r. ⌜ r ≡ ltb (self .0) (n .0) ⌝ }
+    {
+        self.0 < n.0
+    }
+
+    pub fn at_most(self, n: Lines) -> bool
+        ensures { λ r. ⌜ r ≡ leb (self .0) (n .0) ⌝ }
+    {
+        self.0 <= n.0
+    }
+
+    pub fn same(self, n: Lines) -> bool
+        ensures { λ r. ⌜ r ≡ eqb (self .0) (n .0) ⌝ }
+    {
+        self.0 == n.0
+    }
+
+    pub fn plus(self, n: Lines) -> Lines
+        requires { ⌜ self .0 + n .0 < 2 ^ 32 ⌝ }
+        ensures { λ r. ⌜ r ≡ lines (self .0 + n .0) ⌝ }
+    {
+        Lines(self.0 + n.0)
+    }
+
+    // None where n is more.
+    pub fn minus(self, n: Lines) -> Lines
+        ensures { λ r. ⌜ r ≡ lines (self .0 - n .0) ⌝ }
+    {
+        Lines(less(self.0, n.0))
+    }
+
+    // The lines of k rows, where a row has so many.
+    pub fn times(self, k: u32) -> Lines
+        requires { ⌜ k * self .0 < 2 ^ 32 ⌝ }
+        ensures { λ r. ⌜ r ≡ lines (k * self .0) ⌝ }
+    {
+        Lines(k * self.0)
+    }
+
+    // From a line on, n of them.
+    pub fn during(self, from: Lines, n: Lines) -> bool
+        requires { ⌜ from .0 + n .0 < 2 ^ 32 ⌝ }
+        ensures { λ r. ⌜ r ≡ during (from .0) (n .0) (self .0) ⌝ }
+    {
+        (from.0 <= self.0) & (self.0 < from.0 + n.0)
+    }
+
+    // How many rows or frames of n lines each.
+    pub fn quotient(self, n: Lines) -> u32
+        requires { ⌜ 0 < n .0 ⌝ }
+        ensures { λ r. ⌜ r ≡ self .0 / n .0 ⌝ }
+    {
+        self.0 / n.0
+    }
+
+    // What is left over of them.
+    pub fn remainder(self, n: Lines) -> Lines
+        requires { ⌜ 0 < n .0 ⌝ }
+        ensures { λ r. ⌜ r ≡ lines (self .0 % n .0) ⌝ }
+    {
+        Lines(self.0 % n.0)
+    }
+}
+
+impl Dots {
+    pub fn below(self, n: Dots) -> bool
+        ensures { λ r. ⌜ r ≡ ltb (self .0) (n .0) ⌝ }
+    {
+        self.0 < n.0
+    }
+}
+
 // The clocks of so many lines.
 pub fn clocks_of(n: Lines, line: Clocks) -> Clocks
     requires { ⌜ n .0 * line .0 < 2 ^ 32 ⌝ }
     ensures { λ r. ⌜ r ≡ clocksOf n line ⌝ }
 {
     Clocks(n.0 * line.0)
+}
+
+// The whole lines of so many clocks.
+pub fn whole_lines(n: Clocks, line: Clocks) -> Lines
+    requires { ⌜ 0 < line .0 ⌝ }
+    ensures { λ r. ⌜ r ≡ wholeLines n line ⌝ }
+{
+    Lines(n.0 / line.0)
 }
 
 // The dots of so many clocks.

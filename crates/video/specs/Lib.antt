@@ -3,6 +3,7 @@ pub mod Levels
 pub mod Scene
 pub mod Look
 pub mod Cell
+pub mod At
 pub mod Stores
 pub mod Width
 pub mod Bytes

@@ -1,15 +1,11 @@
 -- 01, "From cell to dots": a cell's look from its attribute byte and CURSOR.
-use Prim.Native.Nat.{ℕ, _/_, _%_}
+use Prim.Native.Nat.{ℕ}
 use mathlib.Core.Bool.{Bool, false, _&&_, _||_, xor}
-use lib.Dec.{eqb, ltb}
+use lib.Dec.{ltb}
 use Rattle.lists.specs.Choice.{pick}
 use Rattle.video.specs.declared.Scene.{Scene}
 use Rattle.video.specs.declared.Look.{Look}
-use Rattle.video.specs.Levels.{symbolLevel, surroundLevel}
-
--- the attribute of a weight: reverse 1, blank 2, blink 4, underline 8, highlight 16, strike 32
-abbrev pub attribute : ℕ → ℕ → Bool
-attribute attributes weight = eqb (attributes / weight % 2) 1
+use Rattle.video.specs.Levels.{hasBit, symbolLevel, surroundLevel}
 
 -- AFLG is bit 7; with AFLG 0 the cell has none
 abbrev pub effective : ℕ → ℕ
@@ -17,21 +13,21 @@ effective byte = pick (ltb byte 128) 0 byte
 
 -- ABLANK, or ABLINK with BLINK
 abbrev pub nonDisplay : Scene → ℕ → Bool
-nonDisplay s a = attribute a 2 || (attribute a 4 && s .blink)
+nonDisplay s a = hasBit a 2 || (hasBit a 4 && s .blink)
 
 -- reverse is ARVID xor CURSOR, and E is BKGND xor reverse
 abbrev pub reversed : Scene → ℕ → Bool → Bool
-reversed s a cursor = xor (s .bkgnd) (xor (attribute a 1) cursor)
+reversed s a cursor = xor (s .bkgnd) (xor (hasBit a 1) cursor)
 
 -- underline on the underline line, and strike on the strike line
 abbrev pub litOf : Scene → ℕ → Bool
-litOf s a = (attribute a 8 && s .underline) || (attribute a 32 && s .strike)
+litOf s a = (hasBit a 8 && s .underline) || (hasBit a 32 && s .strike)
 
 abbrev pub shownLook : Scene → ℕ → Bool → Look
 shownLook s a cursor = record {
   lit = litOf s a;
-  symbol = symbolLevel (reversed s a cursor) (attribute a 16) (nonDisplay s a);
-  surround = surroundLevel (reversed s a cursor) (attribute a 16);
+  symbol = symbolLevel (reversed s a cursor) (hasBit a 16) (nonDisplay s a);
+  surround = surroundLevel (reversed s a cursor) (hasBit a 16);
 }
 
 -- while BLANK is high all dots have one level

@@ -6,15 +6,11 @@ use Rattle.board.specs.declared.Board.{Board}
 use Rattle.timing.specs.declared.CursorLook.{CursorLook}
 use Rattle.timing.specs.Fields.{cursorOf, underlineOf, blinkOf}
 use Rattle.video.specs.declared.Scene.{Scene}
-use Rattle.video.specs.Levels.{blankLevel}
-
--- the switch of a weight: display 1, cursor 2, BKGND 4, RBLANK 8
-abbrev pub switchOf : ℕ → ℕ → Bool
-switchOf switches weight = eqb (switches / weight % 2) 1
+use Rattle.video.specs.Levels.{hasBit, blankLevel}
 
 -- the display counts as off where its switch is off or the board is not active
 abbrev pub displayed : Board → Bool
-displayed b = switchOf (b .page .switches) 1 && leb 2 (b .resets)
+displayed b = hasBit (b .page .switches) 1 && leb 2 (b .resets)
 
 -- BLINK is high in the fourth quarter of its period
 abbrev pub blinkAt : (period field : ℕ) → Bool
@@ -28,12 +24,12 @@ cursorGate k on scan field =
 unfoldable pub sceneOf : Board → (scan field : ℕ) → Scene
 sceneOf b scan field = record {
   shown = displayed b;
-  blank = blankLevel (switchOf (b .page .switches) 8) (switchOf (b .page .switches) 4);
-  bkgnd = switchOf (b .page .switches) 4;
+  blank = blankLevel (hasBit (b .page .switches) 8) (hasBit (b .page .switches) 4);
+  bkgnd = hasBit (b .page .switches) 4;
   blink = blinkAt (blinkOf (b .page .irs)) field;
   underline = eqb scan (underlineOf (b .page .irs) .0);
   strike = eqb scan (b .page .video .strike);
-  gate = cursorGate (cursorOf (b .page .irs)) (switchOf (b .page .switches) 2) scan field;
+  gate = cursorGate (cursorOf (b .page .irs)) (hasBit (b .page .switches) 2) scan field;
   cursor = b .page .starts .cursor;
 }
 

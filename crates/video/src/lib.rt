@@ -4,10 +4,12 @@ ghost use mathlib.Core.Bool.{xor};
 ghost use mathlib.Core.List.{_++_};
 ghost use Prim.Native.Nat.{_≤_, _<_};
 ghost use lib.ListN.{length, drop};
-ghost use Rattle.video.specs.Levels.{blankLevel, symbolLevel, surroundLevel};
-ghost use Rattle.video.specs.Scene.{switchOf, blinkAt, cursorGate, sceneOf, cursorAt};
-ghost use Rattle.video.specs.Look.{attribute, effective, lookOf};
+ghost use Rattle.video.specs.Levels.{hasBit, blankLevel, symbolLevel, surroundLevel};
+ghost use Rattle.video.specs.Scene.{blinkAt, cursorGate, sceneOf, cursorAt};
+ghost use Rattle.video.specs.Look.{effective, lookOf};
 ghost use Rattle.video.specs.Cell.{shadeOf, cellDots};
+ghost use Rattle.shape.specs.Font.{fontOf};
+ghost use Rattle.video.specs.At.{lentRefused};
 ghost use Rattle.video.specs.Stores.{wideOf, putIf, puts, spreadOf, blendOf};
 
 // What is the same for all cells of a scan line: whether the picture is shown, the blank level, BKGND, BLINK, whether this is the
@@ -30,16 +32,16 @@ pub struct Look {
     pub surround: u8,
 }
 
-// The switch of a weight: display 1, cursor 2, BKGND 4, RBLANK 8.
-fn switch(switches: u8, weight: u8) -> bool
+// The bit of a weight, of the switches or of the attributes.
+fn has(byte: u8, weight: u8) -> bool
     requires { ⌜ 0 < weight ⌝ }
-    ensures { λ r. ⌜ r ≡ switchOf switches weight ⌝ }
+    ensures { λ r. ⌜ r ≡ hasBit byte weight ⌝ }
 {
-    switches / weight % 2 == 1
+    byte / weight % 2 == 1
 }
 
 // High in the fourth quarter of the period.
-pub fn blink_at(period: u32, field: u8) -> bool
+fn blink_at(period: u32, field: u8) -> bool
     requires { ⌜ (0 < period) × (period ≤ 128) ⌝ }
     ensures { λ r. ⌜ r ≡ blinkAt period field ⌝ }
 {
@@ -47,16 +49,16 @@ pub fn blink_at(period: u32, field: u8) -> bool
 }
 
 // Whether the cursor may show on a scan line of a field.
-pub fn cursor_gate(k: timing::CursorLook, on: bool, scan: u32, field: u8) -> bool
+fn cursor_gate(k: timing::CursorLook, on: bool, scan: units::Lines, field: u8) -> bool
     requires { ⌜ 0 < k .period ⌝ }
-    ensures { λ r. ⌜ r ≡ cursorGate k on scan field ⌝ }
+    ensures { λ r. ⌜ r ≡ cursorGate k on (scan .0) field ⌝ }
 {
     let half = (field as u32 % k.period) < k.period / 2;
-    on & (k.first.0 <= scan) & (scan <= k.last.0) & (!k.blinks | half)
+    on & k.first.at_most(scan) & scan.at_most(k.last) & (!k.blinks | half)
 }
 
 // The level while BLANK is high.
-pub fn blank_level(rblank: bool, bkgnd: bool) -> u8
+fn blank_level(rblank: bool, bkgnd: bool) -> u8
     ensures { λ r. ⌜ r ≡ blankLevel rblank bkgnd ⌝ }
 {
     if rblank {
@@ -65,21 +67,21 @@ pub fn blank_level(rblank: bool, bkgnd: bool) -> u8
     if bkgnd { 1 } else { 0 }
 }
 
-pub fn scene_of(b: board::Board, scan: u32, field: u8) -> Scene
-    ensures { λ r. ⌜ r ≡ sceneOf b scan field ⌝ }
+pub fn scene_of(b: board::Board, scan: units::Lines, field: u8) -> Scene
+    ensures { λ r. ⌜ r ≡ sceneOf b (scan .0) field ⌝ }
 {
     let irs = b.page.irs;
     let s = b.page.switches;
-    let bkgnd = switch(s, 4);
-    let underline = timing::underline_of(irs);
+    let bkgnd = has(s, 4);
+    let strike = units::Lines(b.page.video.strike as u32);
     Scene {
-        shown: switch(s, 1) & (2 <= b.resets),
-        blank: blank_level(switch(s, 8), bkgnd),
+        shown: has(s, 1) & (2 <= b.resets),
+        blank: blank_level(has(s, 8), bkgnd),
         bkgnd: bkgnd,
         blink: blink_at(timing::blink_of(irs), field),
-        underline: scan == underline.0,
-        strike: scan == b.page.video.strike as u32,
-        gate: cursor_gate(timing::cursor_of(irs), switch(s, 2), scan, field),
+        underline: scan.same(timing::underline_of(irs)),
+        strike: scan.same(strike),
+        gate: cursor_gate(timing::cursor_of(irs), has(s, 2), scan, field),
         cursor: b.page.starts.cursor,
     }
 }
@@ -89,14 +91,6 @@ pub fn cursor_at(s: Scene, at: usize) -> bool
     ensures { λ r. ⌜ r ≡ cursorAt s at ⌝ }
 {
     s.gate & (at == s.cursor as usize)
-}
-
-// The attribute of a weight: reverse 1, blank 2, blink 4, underline 8, highlight 16, strike 32.
-fn has(attributes: u8, weight: u8) -> bool
-    requires { ⌜ 0 < weight ⌝ }
-    ensures { λ r. ⌜ r ≡ attribute attributes weight ⌝ }
-{
-    attributes / weight % 2 == 1
 }
 
 // With AFLG 0 the cell has no attributes.
@@ -113,13 +107,13 @@ fn exclusive(a: bool, b: bool) -> bool
 }
 
 // T: white if highlighted, else gray; the surround is black, or T where E holds.
-pub fn surround_level(e: bool, highlight: bool) -> u8
+fn surround_level(e: bool, highlight: bool) -> u8
     ensures { λ r. ⌜ r ≡ surroundLevel e highlight ⌝ }
 {
     if e { if highlight { 2 } else { 1 } } else { 0 }
 }
 
-pub fn symbol_level(e: bool, highlight: bool, hidden: bool) -> u8
+fn symbol_level(e: bool, highlight: bool, hidden: bool) -> u8
     ensures { λ r. ⌜ r ≡ symbolLevel e highlight hidden ⌝ }
 {
     if hidden {
@@ -232,10 +226,11 @@ fn four(out: &mut [u8], d: usize, symbol: u8, surround: u8, w: u16)
 }
 
 // Writes a cell's dots to the front of the part it is lent.
-pub fn draw_cell(out: &mut [u8], look: Look, word: u16, d: usize)
-    requires { ⌜ (word < 1024) × (6 ≤ d) × (d ≤ 12) × (d ≤ length (now out)) ⌝ }
-    ensures { λ _. ⌜ now (out .exit) ≡ cellDots look word d ++ drop d (now (out .entry)) ⌝ }
+pub fn draw_cell(out: &mut [u8], look: Look, word: u16, width: units::Dots)
+    requires { ⌜ (word < 1024) × (6 ≤ width .0) × (width .0 ≤ 12) × (width .0 ≤ length (now out)) ⌝ }
+    ensures { λ _. ⌜ now (out .exit) ≡ cellDots look word (width .0) ++ drop (width .0) (now (out .entry)) ⌝ }
 {
+    let d = width.0 as usize;
     let w = wide(look.lit, word, d);
     if d < 8 {
         six(out, d, look.symbol, look.surround, w);
@@ -244,4 +239,20 @@ pub fn draw_cell(out: &mut [u8], look: Look, word: u16, d: usize)
         eight(out, d, look.symbol, look.surround, w);
         four(out, d, look.symbol, look.surround, w / 256);
     }
+}
+
+// 3, for the memories and the font.
+pub fn lent_refused(
+    chars: &[u8],
+    attrs: &[u8],
+    words: &[u16],
+    flags: &[u8],
+    unshifted: &[u8],
+    shifted: &[u8],
+) -> bool
+    ensures { λ r. ⌜ r ≡ lentRefused (now (chars .entry)) (now (attrs .entry))
+        (fontOf (now (words .entry)) (now (flags .entry)) (now (unshifted .entry)) (now (shifted .entry))) ⌝ }
+{
+    board::memories_refused(chars.len(), attrs.len())
+        | shape::font_refused(words, flags, unshifted, shifted)
 }

@@ -1,28 +1,22 @@
 use mathlib.Core.Path.{sym, ap, _∙_}
 use native.Mathlib.Omega.{arith}
-use borrow.Author.Needs.{needs}
 use Rattle.raster.specs.Moves.{cell}
 use Rattle.timing.specs.Fields.{timingOf, countsOf}
 use Rattle.fetch.specs.Laws.{moves-fit, start-table, start-sheet}
+use borrow.Author.Needs.{needs}
 use Rattle.fetch.proofs.row_start.Statement.{statement}
 use Rattle.fetch.proofs.row_start.Tie as tie
 
 returns : tie.Need-returns
 returns c = c .entry .ensures ∙ ap cell (start-table _ _ _ (sym (c .before .before .table-of .ensures) ∙ c .before .if1 .taken))
 
-mul-moves : tie.Need-mul-moves
+times-requires : tie.Need-times-requires
 unfolding timingOf countsOf
-mul-moves c =
-    let start = c .before .before .before .before .before .before in
-    rw (c .before .timing-of .ensures) (omega (arith, moves-fit (start .args .p) (start .args .row) (start .pre .1)))
+times-requires c κs = let start = c .before .before .before .before .before in rw (c .timing-of .ensures) (omega (arith, moves-fit (start .args .p) (start .args .row) (start .pre .1)))
 
 returns-2 : tie.Need-returns-2
 unfolding timingOf countsOf
-returns-2 c =
-    let left = c .before .before .before .before in
-    c .advance-by .ensures
-    ∙ rw (c .before .buffer-of .ensures, c .before .before .before .timing-of .ensures)
-    (ap cell (start-sheet _ _ _ (sym (left .before .table-of .ensures) ∙ left .if1 .left)))
+returns-2 c = let left = c .before .before .before .before in c .advance-by .ensures ∙ rw (c .before .buffer-of .ensures, c .before .before .times .ensures, c .before .before .before .timing-of .ensures) (ap cell (start-sheet _ _ _ (sym (left .before .table-of .ensures) ∙ left .if1 .left)))
 
 pub row-start-spec : {M : Type 1} → statement M
 row-start-spec =
@@ -32,7 +26,7 @@ row-start-spec =
     (λ c κs. search needs)
     returns
     (λ c κs. search needs)
-    mul-moves
+    times-requires
     (λ c κs. search needs)
     (λ c κs. search needs)
     returns-2)

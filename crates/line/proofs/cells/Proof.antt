@@ -12,26 +12,26 @@ use Rattle.line.proofs.cells.Statement.{statement}
 use Rattle.line.proofs.cells.Tie as tie
 
 abbrev Inv-loop : tie.InvT-loop
-Inv-loop out₀ w chars attrs words flags n d buffer cell₀ c₀ out cell c =
-    (c ≤ n) × (cell ≡ cellOf (advanceBy (w .buffer) c (cell₀ .address)))
-    × Filling (joined 0 n (columnBy w chars attrs words flags (cell₀ .address)) ++ drop (n * w .width) out₀) out₀ (n * w .width) out (c * w .width) (joined c (n - c) (columnBy w chars attrs words flags (cell₀ .address)))
+Inv-loop out₀ w chars attrs words flags count d buffer cell₀ c₀ out cell c =
+    (c ≤ count) × (cell ≡ cellOf (advanceBy (w .buffer) c (cell₀ .address)))
+    × Filling (joined 0 count (columnBy w chars attrs words flags (cell₀ .address)) ++ drop (count * w .width .0) out₀) out₀ (count * w .width .0) out (c * w .width .0) (joined c (count - c) (columnBy w chars attrs words flags (cell₀ .address)))
 
 abbrev μ-loop : tie.MeasureT-loop
-μ-loop out₀ w chars attrs words flags n d buffer cell₀ c₀ out cell c = n - c
+μ-loop out₀ w chars attrs words flags count d buffer cell₀ c₀ out cell c = count - c
 
 -- where the function join-begins, from a join-turn of the loop
 abbrev start : tie.In-loop Inv-loop μ-loop → tie.Start Inv-loop μ-loop
-start c = c .before .before .before .before .before .before .before .before
+start c = c .before .before .before .before .before .before .before .before .before .before
 
-room : (c : tie.In-loop Inv-loop μ-loop) → c .before .loop .c * start c .args .w .width + start c .args .w .width ≤ length (c .before .loop .out)
-room c = omega (arith, c .before .loop .inv .2 .same, stretch-inside (c .before .loop .c) (start c .args .n) (start c .args .w .width) _ (c .loop-test .taken) (start c .pre .1))
+room : (c : tie.In-loop Inv-loop μ-loop) → c .before .loop .c * start c .args .w .width .0 + start c .args .w .width .0 ≤ length (c .before .loop .out)
+room c = omega (arith, c .before .loop .inv .2 .same, stretch-inside (c .before .loop .c) (start c .args .n .0) (start c .args .w .width .0) _ (c .loop-test .taken) (start c .pre .1))
 
 at : (c : tie.In-loop Inv-loop μ-loop) → c .before .loop .cell .address < 16384
 at c = at-lt _ _ _ _ (c .before .loop .inv .1)
 
 loop-holds : tie.Need-loop-holds Inv-loop μ-loop
 loop-holds c =
-    let ready = c .before .before .before .before .before .before .pre .0 in
+    let ready = c .before .before .before .before .before .before .before .before .pre .0 in
     (omega arith, not-moved _ _ (ready .start-lt), join-begins _ _ (length-column _ _ _ _ _ _ (ready .most)) _ _)
 
 mul-a : tie.Need-mul-a Inv-loop μ-loop
@@ -46,9 +46,6 @@ sub-put c = omega (arith, room c)
 part-put-start : tie.Need-part-put-start Inv-loop μ-loop
 part-put-start c = omega (arith, room c)
 
-part-put-end : tie.Need-part-put-end Inv-loop μ-loop
-part-put-end c = search needs
-
 shared-slice-read-put : tie.Need-shared-slice-read-put Inv-loop μ-loop
 shared-slice-read-put c = omega (arith, at (c .before .before), start (c .before .before) .pre .0 .chars-all)
 
@@ -59,10 +56,7 @@ put-requires : tie.Need-put-requires Inv-loop μ-loop
 put-requires c κs =
     let i = c .before .before .before in
     let ready = start i .pre .0 in
-    (ready .words-all, ready .flags-all, ready .least, ready .most, simp (length-take, length-drop) (omega (arith, room i)))
-
-advance-one-requires : tie.Need-advance-one-requires Inv-loop μ-loop
-advance-one-requires c κs = search needs
+    ((ready .words-all, ready .flags-all), (ready .least, ready .most, simp (length-take, length-drop) (omega (arith, room i))))
 
 add-c : tie.Need-add-c Inv-loop μ-loop
 add-c c = omega arith
@@ -86,7 +80,7 @@ same-length c = c .before .loop .inv .2 .same
 
 returns : tie.Need-returns Inv-loop μ-loop
 returns c =
-    let ready = c .before .before .before .before .before .before .before .before .pre .0 in
+    let ready = c .before .before .before .before .before .before .before .before .before .before .pre .0 in
     join-ends _ _ (length-column _ _ _ _ _ _ (ready .most)) _ _ (c .before .loop .inv .2) (omega arith) (omega arith)
 
 pub cells-spec : {M : Type 1} → statement M
@@ -95,16 +89,18 @@ cells-spec =
     (tie.spec
     Inv-loop
     μ-loop
+    (λ c. search needs)
+    (λ c. search needs)
     loop-holds
     mul-a
     cast-at
     sub-put
     part-put-start
-    part-put-end
+    (λ c. search needs)
     shared-slice-read-put
     shared-slice-read-put-2
     put-requires
-    advance-one-requires
+    (λ c κs. search needs)
     add-c
     loop-less
     loop-again

@@ -8,7 +8,7 @@ use Rattle.line.proofs.put.Tie as tie
 draw-cell-requires : tie.Need-draw-cell-requires
 draw-cell-requires c κs =
     let pre = c .before .before .before .before .before .before .before .before .before .pre in
-    (rw (c .before .word-by .ensures) (by-small _ _ _ _ _), pre .2, pre .3, pre .4)
+    (rw (c .before .word-by .ensures) (by-small _ _ _ _ _), pre .1 .0, pre .1 .1, pre .1 .2)
 
 returns : tie.Need-returns
 unfolding cellBy

@@ -1,13 +1,11 @@
-use borrow.Author.Needs.{needs}
 use Rattle.timing.specs.Fields.{countsOf}
+use borrow.Author.Needs.{needs}
 use Rattle.timing.proofs.counts_of.Statement.{statement}
 use Rattle.timing.proofs.counts_of.Tie as tie
 
 returns : tie.Need-returns
 unfolding countsOf
-returns c =
-    let vt = c .before .before in
-    rw (vt .before .before .ht-of .ensures, vt .before .hact-of .ensures, vt .vt-of .ensures, c .before .lines-of .ensures, c .rows-of .ensures)
+returns c = cc
 
 pub counts-of-spec : {M : Type 1} → statement M
 counts-of-spec =

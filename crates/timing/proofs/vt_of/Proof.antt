@@ -1,16 +1,22 @@
+use Prim.Native.Nat.{_/_, _%_}
+use Rattle.timing.specs.Fields.{ir}
+use Rattle.timing.specs.Laws.{visible-bound, vsync-bound}
 use native.Mathlib.Omega.{arith}
 use borrow.Author.Needs.{needs}
-use Rattle.timing.specs.Laws.{visible-bound}
 use Rattle.timing.proofs.vt_of.Statement.{statement}
 use Rattle.timing.proofs.vt_of.Tie as tie
 
-add-t5 : tie.Need-add-t5
-add-t5 c =
-    let start = c .before .before .before .before .before .before .before .before in
-    rw (c .before .visible-of .ensures) (omega (arith, visible-bound (start .args .irs)))
+plus-requires : tie.Need-plus-requires
+plus-requires c κs = rw (c .vfp-of .ensures, c .before .visible-of .ensures) (omega (arith, visible-bound (c .before .before .args .irs)))
+
+plus-requires-2 : tie.Need-plus-requires-2
+plus-requires-2 c κs = rw (c .vsync-of .ensures, c .before .plus .ensures, c .before .before .vfp-of .ensures, c .before .before .before .visible-of .ensures) (omega (arith, visible-bound (c .before .before .before .before .args .irs), vsync-bound (ir (c .before .before .before .before .args .irs) 7 / 64 % 4)))
+
+plus-requires-3 : tie.Need-plus-requires-3
+plus-requires-3 c κs = rw (c .vbp-of .ensures, c .before .plus2 .ensures, c .before .before .vsync-of .ensures, c .before .before .before .plus .ensures, c .before .before .before .before .vfp-of .ensures, c .before .before .before .before .before .visible-of .ensures) (omega (arith, visible-bound (c .before .before .before .before .before .before .args .irs), vsync-bound (ir (c .before .before .before .before .before .before .args .irs) 7 / 64 % 4)))
 
 returns : tie.Need-returns
-returns c = rw (c .before .visible-of .ensures) (omega arith)
+returns c = rw (c .plus3 .ensures, c .before .vbp-of .ensures, c .before .before .plus2 .ensures, c .before .before .before .vsync-of .ensures, c .before .before .before .before .plus .ensures, c .before .before .before .before .before .vfp-of .ensures, c .before .before .before .before .before .before .visible-of .ensures)
 
 pub vt-of-spec : {M : Type 1} → statement M
 vt-of-spec =
@@ -18,9 +24,9 @@ vt-of-spec =
     (tie.spec
     (λ c κs. search needs)
     (λ c κs. search needs)
-    (λ c. search needs)
+    plus-requires
     (λ c κs. search needs)
-    (λ c. search needs)
+    plus-requires-2
     (λ c κs. search needs)
-    add-t5
+    plus-requires-3
     returns)

@@ -1,5 +1,5 @@
-use borrow.Author.Needs.{needs}
 use Rattle.video.specs.Flat.{narrow, broad}
+use borrow.Author.Needs.{needs}
 use Rattle.video.proofs.draw_cell.Statement.{statement}
 use Rattle.video.proofs.draw_cell.Tie as tie
 
@@ -8,7 +8,7 @@ returns c =
     let second = c .before .before in
     let first = second .before .before .before .before in
     let then = first .before .before in
-    let start = then .before .before .before in
+    let start = then .before .before .before .before in
     narrow (start .args .look) _ _ _ _ (start .pre .0) (start .pre .2) (start .pre .3) (then .before .wide .ensures) _ _ (then .if1 .taken) (first .six .ensures) (second .dot .ensures)
 
 returns-2 : tie.Need-returns-2
@@ -16,13 +16,14 @@ returns-2 c =
     let second = c .before .before in
     let first = second .before .before .before .before in
     let else = first .before .before in
-    let start = else .before .before .before in
+    let start = else .before .before .before .before in
     broad (start .args .look) _ _ _ _ (start .pre .0) (start .pre .2) (start .pre .3) (else .before .wide .ensures) _ _ (first .eight .ensures) (second .four .ensures)
 
 pub draw-cell-spec : {M : Type 1} → statement M
 draw-cell-spec =
     tie.close
     (tie.spec
+    (λ c. search needs)
     (λ c κs. search needs)
     (λ c κs. search needs)
     (λ c κs. search needs)

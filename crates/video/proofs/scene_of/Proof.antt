@@ -1,7 +1,7 @@
+use Rattle.video.specs.Scene.{sceneOf}
+use Rattle.timing.specs.Fields.{cursorOf}
 use native.Mathlib.Omega.{arith}
 use borrow.Author.Needs.{needs}
-use Rattle.timing.specs.Fields.{cursorOf}
-use Rattle.video.specs.Scene.{sceneOf}
 use Rattle.video.proofs.scene_of.Statement.{statement}
 use Rattle.video.proofs.scene_of.Tie as tie
 
@@ -11,20 +11,22 @@ cursor-gate-requires c κs = rw (c .before .cursor-of .ensures) (omega arith)
 
 returns : tie.Need-returns
 unfolding sceneOf
-returns c = cc
+returns c = rw (c .cursor-gate .ensures, c .before .has4 .ensures, c .before .before .cursor-of .ensures, c .before .before .before .same2 .ensures, c .before .before .before .before .same .ensures, c .before .before .before .before .before .underline-of .ensures, c .before .before .before .before .before .before .blink-at .ensures, c .before .before .before .before .before .before .before .blink-of .ensures, c .before .before .before .before .before .before .before .before .blank-level .ensures, c .before .before .before .before .before .before .before .before .before .has3 .ensures, c .before .before .before .before .before .before .before .before .before .before .before .has2 .ensures, c .before .before .before .before .before .before .before .before .before .before .before .before .before .has .ensures)
 
 pub scene-of-spec : {M : Type 1} → statement M
 scene-of-spec =
     tie.close
     (tie.spec
     (λ c κs. search needs)
-    (λ c κs. search needs)
-    (λ c κs. search needs)
-    (λ c κs. search needs)
-    (λ c κs. search needs)
-    (λ c κs. search needs)
-    (λ c κs. search needs)
     (λ c. search needs)
+    (λ c κs. search needs)
+    (λ c κs. search needs)
+    (λ c κs. search needs)
+    (λ c κs. search needs)
+    (λ c κs. search needs)
+    (λ c κs. search needs)
+    (λ c κs. search needs)
+    (λ c κs. search needs)
     (λ c κs. search needs)
     (λ c κs. search needs)
     cursor-gate-requires
