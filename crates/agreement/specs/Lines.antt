@@ -26,10 +26,10 @@ use Rattle.shape.specs.Font.{Font}
 use Rattle.video.specs.Scene.{sceneOf}
 use Rattle.line.specs.Length.{length-dots}
 use Rattle.line.specs.Line.{dotsAt, columnDots, lineDots, lineLength, lentRefused, drawCheck, drawnOf}
-use Rattle.clock.specs.declared.Carried.{Carried}
-use Rattle.clock.specs.Place.{countsIn, carrierIn, rowsIn, carriedOf, loadedIn, placeAt}
-use Rattle.clock.specs.Signals.{activeIn, padded, clockDots}
-use Rattle.clock.specs.Step.{steppedOf, stepCheck, stepOf, addressOf}
+use Rattle.place.specs.declared.Carried.{Carried}
+use Rattle.place.specs.Place.{countsIn, carrierIn, rowsIn, carriedOf, loadedIn, placeAt}
+use Rattle.step.specs.Signals.{activeIn, padded, clockDots}
+use Rattle.step.specs.Step.{steppedOf, stepCheck, stepOf, addressOf}
 use Rattle.agreement.specs.Steps.{after, fits, atClock, step-is, steps-are}
 
 -- clock c of line l of frame k, counted from clock 0

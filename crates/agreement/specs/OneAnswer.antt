@@ -28,7 +28,7 @@ use Rattle.video.specs.Levels.{blankLevel, symbolLevel, surroundLevel}
 use Rattle.video.specs.Scene.{sceneOf, cursorAt}
 use Rattle.video.specs.Look.{effective, lookOf}
 use Rattle.line.specs.Line.{lentRefused, drawCheck, drawnOf}
-use Rattle.clock.specs.Step.{stepOf, stateOf}
+use Rattle.step.specs.Step.{stepOf, stateOf}
 use Rattle.files.specs.declared.PageRead.{PageRead}
 use Rattle.files.specs.File.{readCheck, readPageOf, charsRead, attrsRead, writeCheck, written}
 use Rattle.files.specs.FontFile.{fontCheck, fontRead, fontWriteCheck, fontWritten}

@@ -17,7 +17,7 @@ use Rattle.fetch.specs.Rows.{entryOf, rowStart, cellAt}
 use Rattle.fetch.specs.Laws.{cell-moved, start-table, start-sheet}
 use Rattle.shape.specs.Font.{Font}
 use Rattle.line.specs.Line.{scanOf, dotsAt, columnDots, lineDots, lineLength, drawnOf}
-use Rattle.clock.specs.Step.{stepCheck, stepOf}
+use Rattle.step.specs.Step.{stepCheck, stepOf}
 use Rattle.agreement.specs.Steps.{after}
 use Rattle.agreement.specs.Lines.{clockOf, address-is, draw-is}
 

@@ -10,7 +10,7 @@ use Rattle.board.specs.Range.{addressRefused}
 use Rattle.timing.specs.Fields.{countsOf}
 use Rattle.timing.specs.Check.{pageCheck, stateRefused, callCheck}
 use Rattle.shape.specs.Font.{Font, fontOf}
-use Rattle.clock.specs.Step.{stepCheck}
+use Rattle.step.specs.Step.{stepCheck}
 use Rattle.agreement.specs.Cases.{page}
 use Rattle.agreement.specs.Steps.{after}
 use Rattle.agreement.specs.Frames.{frame-ends}

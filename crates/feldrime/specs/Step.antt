@@ -5,8 +5,8 @@ use Rattle.lists.specs.Choice.{pick}
 use Rattle.refusal.specs.Number.{numberOf}
 use Rattle.board.specs.declared.Board.{Board}
 use Rattle.shape.specs.Font.{fontOf}
-use Rattle.clock.specs.declared.Stepped.{Stepped}
-use Rattle.clock.specs.Step.{stepOf}
+use Rattle.step.specs.declared.Stepped.{Stepped}
+use Rattle.step.specs.Step.{stepOf}
 use Rattle.feldrime.specs.declared.StepAnswer.{StepAnswer}
 use Rattle.feldrime.specs.declared.StepBy.{StepBy}
 

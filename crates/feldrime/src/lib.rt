@@ -11,7 +11,7 @@ ghost use Rattle.registers.specs.Write.{writeOf};
 ghost use Rattle.registers.specs.Read.{readOf};
 ghost use Rattle.registers.specs.Video.{setVideoOf};
 ghost use Rattle.shape.specs.Font.{lentFont, leftFont, fontRefused};
-ghost use Rattle.clock.specs.Step.{stateOf};
+ghost use Rattle.step.specs.Step.{stateOf};
 ghost use Rattle.files.specs.File.{readCheck, charsRead, attrsRead};
 ghost use Rattle.files.specs.FontFile.{fontCheck, fontRead};
 ghost use Rattle.feldrime.specs.Numbers.{numbersRefused, numbersIn};

@@ -5,7 +5,7 @@ use mathlib.Core.Bool.{Bool, true, false}
 use mathlib.Core.List.{List}
 use native.Mathlib.Nat.{mul-le-mul}
 use native.Mathlib.Omega.{arith}
-use borrow.Author.Tests.{leb-false}
+use borrow.Author.Tests.{leb-false, eq-eqb, ne-eqb}
 use lib.Dec.{leb}
 use lib.ListN.{length, take, drop, length-drop}
 use lib.Seq.{length-take-le}
@@ -15,7 +15,7 @@ use Rattle.refusal.specs.declared.Refusal.the-variants.{Done}
 use Rattle.refusal.specs.Number.{doneOf}
 use Rattle.refusal.specs.Laws.{done-is}
 use Rattle.raster.specs.Moves.{advanceBy, advanceBy-lt}
-use Rattle.raster.specs.Cells.{Fed, Tallied, startOf, cellOf, start-lt, cell-zero}
+use Rattle.raster.specs.Cells.{Fed, Tallied, begins, startOf, cellOf, start-lt, cell-zero}
 use Rattle.board.specs.declared.Page.{Page}
 use Rattle.board.specs.declared.Board.{Board}
 use Rattle.board.specs.Range.{memoryRefused}
@@ -71,6 +71,21 @@ module _ (p : Page) (chars : List ℕ) (r : ℕ) where
   pub cell-moved : (c : ℕ) → advanceBy (bufferOf (p .irs)) (min c (hactOf (p .irs))) (rowStart p chars r) ≡ cellAt p chars r c
   unfolding cellAt cellOf rowStart countsOf
   cell-moved c = refl
+
+-- ---- what a row begins with, as the code has it
+
+module _ (p : Page) (chars : List ℕ) (r a : ℕ) where
+  pub begins-table : tableOf (p .irs) ≡ true → entryOf p chars r ≡ begins (feedIn p chars) r a
+  unfolding begins
+  begins-table e = rw e
+
+  pub begins-first : tableOf (p .irs) ≡ false → r ≡ 0 → p .starts .start1 ≡ begins (feedIn p chars) r a
+  unfolding begins
+  begins-first e z = rw (e, eq-eqb r 0 z)
+
+  pub begins-on : tableOf (p .irs) ≡ false → (r ≡ 0 → ⊥) → a ≡ begins (feedIn p chars) r a
+  unfolding begins
+  begins-on e z = rw (e, ne-eqb r 0 z)
 
 -- ---- runs
 

@@ -144,14 +144,10 @@ whole-so b line room z t e q ok =
 -- what the drawer has worked out before it goes along the line: the counts, the line's constants, and the row's start
 pub record Prepared (b : Board) (chars unshifted shifted : List ℕ) (line field : ℕ) (t : Timing) (w : Walk) (start : Cell) : Type 0 where
   pub timed : t ≡ timingOf (b .page .irs)
-  pub walked : w ≡ walkOf b unshifted shifted (line % t .counts .lines .0) field
-  pub started : start ≡ cell (rowStart (b .page) chars (line / t .counts .lines .0))
+  pub walked : w ≡ walkOf b unshifted shifted (line % linesOf (b .page .irs)) field
+  pub started : start ≡ cell (rowStart (b .page) chars (line / linesOf (b .page .irs)))
 
 module _ (b : Board) (chars attrs : List ℕ) (f : Font) (line field : ℕ) (t : Timing) where
-  pub row-lt : {room : ℕ} → t ≡ timingOf (b .page .irs) → Drawn b chars attrs f line room → line / t .counts .lines .0 < 8192
-  unfolding timingOf countsOf
-  row-lt e k = rw e (omega (arith, k .row-lt))
-
   module _ (w : Walk) (start : Cell) (q : Prepared b chars (f .unshifted) (f .shifted) line field t w start) where
     pub ready : {room : ℕ} → Drawn b chars attrs f line room → Ready w chars attrs (f .words) (f .flags) (start .address) × (t .counts .hact .0 * w .width .0 ≤ room)
     unfolding timingOf countsOf walkOf

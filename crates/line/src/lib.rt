@@ -4,7 +4,7 @@ ghost use mathlib.Core.List.{_++_};
 ghost use Prim.Native.Nat.{_*_, _≤_, _<_};
 ghost use lib.ListN.{length, drop};
 ghost use Rattle.lists.specs.Join.{joined};
-ghost use Rattle.shape.specs.Font.{fontOf};
+ghost use Rattle.shape.specs.Font.{fontNow, lentFont};
 ghost use Rattle.video.specs.At.{lentRefused};
 ghost use Rattle.line.specs.Line.{drawCheck, drawnOf, lineDots, lineLength};
 ghost use Rattle.line.specs.Walk.{walkOf, cellBy, columnBy, Ready, Drawn};
@@ -104,10 +104,9 @@ fn whole_line(
     line: units::Lines,
     field: u8,
 )
-    requires { ⌜ Drawn b (now chars) (now attrs) (fontOf (now words) (now flags) (now unshifted) (now shifted)) (line .0) (length (now out)) ⌝ }
+    requires { ⌜ Drawn b (now chars) (now attrs) (fontNow words flags unshifted shifted) (line .0) (length (now out)) ⌝ }
     ensures { λ _. ⌜ now (out .exit)
-        ≡ lineDots b (now (chars .entry)) (now (attrs .entry))
-        (fontOf (now (words .entry)) (now (flags .entry)) (now (unshifted .entry)) (now (shifted .entry))) (line .0) field
+        ≡ lineDots b (now (chars .entry)) (now (attrs .entry)) (lentFont words flags unshifted shifted) (line .0) field
         ++ drop (lineLength b) (now (out .entry)) ⌝ }
 {
     let page = b.page;
@@ -134,11 +133,9 @@ pub fn draw_line(
     out: &mut [u8],
 ) -> refusal::Refusal
     ensures { λ r. ⌜ (r ≡ drawCheck b
-        (lentRefused (now (chars .entry)) (now (attrs .entry))
-        (fontOf (now (words .entry)) (now (flags .entry)) (now (unshifted .entry)) (now (shifted .entry))))
+        (lentRefused (now (chars .entry)) (now (attrs .entry)) (lentFont words flags unshifted shifted))
         (line .0) (length (now (out .entry))))
-        × (now (out .exit) ≡ drawnOf b (now (chars .entry)) (now (attrs .entry))
-        (fontOf (now (words .entry)) (now (flags .entry)) (now (unshifted .entry)) (now (shifted .entry)))
+        × (now (out .exit) ≡ drawnOf b (now (chars .entry)) (now (attrs .entry)) (lentFont words flags unshifted shifted)
         (line .0) field (now (out .entry))) ⌝ }
 {
     let size = video::lent_refused(chars, attrs, words, flags, unshifted, shifted);

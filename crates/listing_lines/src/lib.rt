@@ -6,7 +6,7 @@ ghost use mathlib.Core.Path.{_≡_};
 ghost use mathlib.Core.List.{[], _∷_, _++_, map};
 ghost use Prim.Native.Nat.{_+_, _-_, _≤_, _<_};
 ghost use lib.ListN.{length, take, drop};
-ghost use Rattle.shape.specs.Font.{fontOf};
+ghost use Rattle.shape.specs.Font.{lentFont};
 ghost use Rattle.line.specs.Line.{lentRefused};
 ghost use Rattle.listing_lines.specs.Decimal.{Spelled};
 ghost use Rattle.listing_lines.specs.Answers.{listed};
@@ -131,8 +131,8 @@ pub fn listing_line(
     field: u8,
     out: &mut [u8],
 ) -> Listed
-    ensures { λ r. ⌜ (r ≡ listedOf (lineCheck b (lentRefused (now (chars .entry)) (now (attrs .entry)) (fontOf (now (words .entry)) (now (flags .entry)) (now (unshifted .entry)) (now (shifted .entry)))) line (length (now (out .entry)))) (listingLine b (now (chars .entry)) (now (attrs .entry)) (fontOf (now (words .entry)) (now (flags .entry)) (now (unshifted .entry)) (now (shifted .entry))) line field))
-        × (now (out .exit) ≡ listedIn (lineCheck b (lentRefused (now (chars .entry)) (now (attrs .entry)) (fontOf (now (words .entry)) (now (flags .entry)) (now (unshifted .entry)) (now (shifted .entry)))) line (length (now (out .entry)))) (listingLine b (now (chars .entry)) (now (attrs .entry)) (fontOf (now (words .entry)) (now (flags .entry)) (now (unshifted .entry)) (now (shifted .entry))) line field) (now (out .entry))) ⌝ }
+    ensures { λ r. ⌜ (r ≡ listedOf (lineCheck b (lentRefused (now (chars .entry)) (now (attrs .entry)) (lentFont words flags unshifted shifted)) line (length (now (out .entry)))) (listingLine b (now (chars .entry)) (now (attrs .entry)) (lentFont words flags unshifted shifted) line field))
+        × (now (out .exit) ≡ listedIn (lineCheck b (lentRefused (now (chars .entry)) (now (attrs .entry)) (lentFont words flags unshifted shifted)) line (length (now (out .entry)))) (listingLine b (now (chars .entry)) (now (attrs .entry)) (lentFont words flags unshifted shifted) line field) (now (out .entry))) ⌝ }
 {
     let room = room_for_dots(out.len());
     let refused = line::draw_line(

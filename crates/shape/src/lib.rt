@@ -2,7 +2,7 @@
 ghost use mathlib.Core.Path.{_≡_};
 ghost use Prim.Native.Nat.{_<_};
 ghost use lib.ListN.{length};
-ghost use Rattle.shape.specs.Font.{fontOf, Whole, fontRefused, positionOf, fontWord, wordBy, wordOf};
+ghost use Rattle.shape.specs.Font.{Whole, fontRefused, positionOf, fontWord, wordBy, wordOf, fontNow, lentFont};
 
 // The first position in a list of line numbers that equals the scan line, or the list's length. Four bits of a line number count.
 pub fn position(list: &[u8], scan: units::Lines) -> usize
@@ -21,7 +21,7 @@ pub fn position(list: &[u8], scan: units::Lines) -> usize
 
 // 3, for the four parts of a font.
 pub fn font_refused(words: &[u16], flags: &[u8], unshifted: &[u8], shifted: &[u8]) -> bool
-    ensures { λ r. ⌜ r ≡ fontRefused (fontOf (now (words .entry)) (now (flags .entry)) (now (unshifted .entry)) (now (shifted .entry))) ⌝ }
+    ensures { λ r. ⌜ r ≡ fontRefused (lentFont words flags unshifted shifted) ⌝ }
 {
     (words.len() != 1152) | (flags.len() != 128) | (unshifted.len() != 9) | (shifted.len() != 9)
 }
@@ -63,8 +63,8 @@ pub fn word_of(
     unshifted: &[u8],
     shifted: &[u8],
 ) -> u16
-    requires { ⌜ Whole (fontOf (now words) (now flags) (now unshifted) (now shifted)) ⌝ }
-    ensures { λ r. ⌜ r ≡ wordOf (fontOf (now (words .entry)) (now (flags .entry)) (now (unshifted .entry)) (now (shifted .entry))) code (scan .0) ⌝ }
+    requires { ⌜ Whole (fontNow words flags unshifted shifted) ⌝ }
+    ensures { λ r. ⌜ r ≡ wordOf (lentFont words flags unshifted shifted) code (scan .0) ⌝ }
 {
     let plain = position(unshifted, scan);
     let moved = position(shifted, scan);

@@ -8,7 +8,7 @@ ghost use Rattle.video.specs.Levels.{hasBit, blankLevel, symbolLevel, su
 ghost use Rattle.video.specs.Scene.{blinkAt, cursorGate, sceneOf, cursorAt};
 ghost use Rattle.video.specs.Look.{effective, lookOf};
 ghost use Rattle.video.specs.Cell.{shadeOf, cellDots};
-ghost use Rattle.shape.specs.Font.{fontOf};
+ghost use Rattle.shape.specs.Font.{lentFont};
 ghost use Rattle.video.specs.At.{lentRefused};
 ghost use Rattle.video.specs.Stores.{wideOf, putIf, puts, spreadOf, blendOf};
 
@@ -250,8 +250,7 @@ pub fn lent_refused(
     unshifted: &[u8],
     shifted: &[u8],
 ) -> bool
-    ensures { λ r. ⌜ r ≡ lentRefused (now (chars .entry)) (now (attrs .entry))
-        (fontOf (now (words .entry)) (now (flags .entry)) (now (unshifted .entry)) (now (shifted .entry))) ⌝ }
+    ensures { λ r. ⌜ r ≡ lentRefused (now (chars .entry)) (now (attrs .entry)) (lentFont words flags unshifted shifted) ⌝ }
 {
     board::memories_refused(chars.len(), attrs.len())
         | shape::font_refused(words, flags, unshifted, shifted)

@@ -1,25 +1,19 @@
+use native.Mathlib.Omega.{arith}
 use Prim.Native.Nat.{ℕ}
 use mathlib.Core.Path.{ap, _∙_}
 use borrow.Author.Needs.{needs}
 use Rattle.units.specs.declared.Lines.{Lines}
 use Rattle.raster.specs.Moves.{cell}
 use Rattle.fetch.specs.Rows.{rowStart}
-use Rattle.timing.specs.Decoded.{lines-pos}
 use Rattle.shape.specs.Font.{Font, fontOf}
-use Rattle.line.specs.Walk.{Prepared, walkOf, row-lt, ready, drawn}
+use Rattle.line.specs.Walk.{Prepared, walkOf, ready, drawn}
 use Rattle.line.proofs.whole_line.Statement.{statement}
 use Rattle.line.proofs.whole_line.Tie as tie
-
-quotient-requires : tie.Need-quotient-requires
-quotient-requires c κs = lines-pos _ _ (c .timing-of .ensures)
-
-remainder-requires : tie.Need-remainder-requires
-remainder-requires c κs = lines-pos _ _ (c .before .timing-of .ensures)
 
 row-start-requires : tie.Need-row-start-requires
 row-start-requires c κs =
     let start = c .before .before .before .before .before .before .before .before .before .before .before .before .before in
-    (start .pre .chars-all, rw (c .before .before .quotient .ensures) (row-lt _ _ _ _ _ (start .args .field) _ (c .before .before .before .timing-of .ensures) (start .pre)))
+    (start .pre .chars-all, rw (c .before .before .row-of .ensures) (omega (arith, start .pre .row-lt)))
 
 -- where the function begins, from the place where the row's start is known, and what is known there
 abbrev begin : tie.After-row-start → tie.Start
@@ -33,8 +27,8 @@ prepared : (c : tie.After-row-start)
     (c .before .before .before .before .timing-of .result) (c .before .walk-of .result) (c .row-start .result)
 prepared c = record {
   timed = c .before .before .before .before .timing-of .ensures;
-  walked = c .before .walk-of .ensures ∙ ap (λ (x : Lines). walkOf (begin c .args .b) (font c .unshifted) (font c .shifted) (x .0) (begin c .args .field)) (c .before .before .remainder .ensures);
-  started = c .row-start .ensures ∙ ap (λ (x : ℕ). cell (rowStart (begin c .args .b .page) (begin c .args .chars .now) x)) (c .before .before .before .quotient .ensures);
+  walked = c .before .walk-of .ensures ∙ ap (λ (x : Lines). walkOf (begin c .args .b) (font c .unshifted) (font c .shifted) (x .0) (begin c .args .field)) (c .before .before .line-of-row .ensures);
+  started = c .row-start .ensures ∙ ap (λ (x : ℕ). cell (rowStart (begin c .args .b .page) (begin c .args .chars .now) x)) (c .before .before .before .row-of .ensures);
 }
 
 cells-requires : tie.Need-cells-requires
@@ -52,8 +46,8 @@ whole-line-spec =
     tie.close
     (tie.spec
     (λ c κs. search needs)
-    quotient-requires
-    remainder-requires
+    (λ c κs. search needs)
+    (λ c κs. search needs)
     (λ c κs. search needs)
     row-start-requires
     cells-requires

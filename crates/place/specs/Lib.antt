@@ -1,0 +1,5 @@
+-- The board's place: one clock on, and at once.
+pub mod Place
+pub mod Spot
+pub mod State
+pub mod Laws

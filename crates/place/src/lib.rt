@@ -1,0 +1,285 @@
+// The board's place: one clock on, and the place for clock n at once.
+ghost use mathlib.Core.Path.{_≡_};
+ghost use Prim.Native.Nat.{_<_};
+ghost use lib.ListN.{length};
+ghost use Rattle.raster.specs.Moves.{cell};
+ghost use Rattle.raster.specs.Cells.{begins};
+ghost use Rattle.fetch.specs.Rows.{feedIn};
+ghost use Rattle.place.specs.Place.{activeAt, loadsAt, loadedIn, movedIn, turnedIn, rowAt, carriedBefore, placeAt};
+ghost use Rattle.place.specs.Spot.{lastSpot, spotIn, spotBefore, originAt};
+ghost use Rattle.place.specs.State.{withPlace, stateOf};
+
+// What the beam carries along, and what its row began with.
+pub struct Carried {
+    pub beam: raster::Cell,
+    pub row: raster::Cell,
+}
+
+pub struct StateAt {
+    pub refusal: refusal::Refusal,
+    pub board: board::Board,
+}
+
+// What a row begins with, where a cell is held. The row table is fetched with the display off too.
+fn begun(p: board::Page, chars: &[u8], row: u32, held: raster::Cell) -> raster::Cell
+    requires { ⌜ (length (now chars) ≡ 16384) × (row < 8192) ⌝ }
+    ensures { λ r. ⌜ r ≡ cell (begins (feedIn p (now (chars .entry))) row (held .address)) ⌝ }
+{
+    let irs = p.irs;
+    if timing::table_of(irs) {
+        return fetch::entry(p, chars, row);
+    }
+    if row == 0 {
+        return raster::Cell {
+            address: p.starts.start1,
+        };
+    }
+    held
+}
+
+// Column 0 of a visible line.
+fn loads_at(p: board::Page, q: board::Place) -> bool
+    ensures { λ r. ⌜ r ≡ loadsAt p q ⌝ }
+{
+    let irs = p.irs;
+    q.line.below(timing::visible_of(irs)) & q.clock.same(units::Clocks(0))
+}
+
+// What a clock works on: on column 0 of a visible line it is loaded, elsewhere it is held.
+pub fn loaded_at(p: board::Page, chars: &[u8], q: board::Place) -> Carried
+    requires { ⌜ length (now chars) ≡ 16384 ⌝ }
+    ensures { λ r. ⌜ r ≡ loadedIn p (now (chars .entry)) q ⌝ }
+{
+    let irs = p.irs;
+    let held = q.beam;
+    let row = q.row;
+    let line = q.line;
+    if loads_at(p, q) {
+        if timing::line_of_row(irs, line).same(units::Lines(0)) {
+            let first = begun(p, chars, timing::row_of(irs, line), held);
+            return Carried {
+                beam: first,
+                row: first,
+            };
+        }
+        return Carried {
+            beam: row,
+            row: row,
+        };
+    }
+    Carried {
+        beam: held,
+        row: row,
+    }
+}
+
+// An active clock of a visible line.
+pub fn active_at(p: board::Page, q: board::Place) -> bool
+    ensures { λ r. ⌜ r ≡ activeAt p q ⌝ }
+{
+    let irs = p.irs;
+    let t = timing::timing_of(irs);
+    q.line.below(timing::visible_of(irs)) & q.clock.below(t.counts.hact)
+}
+
+// Each active clock moves on.
+fn moved_on(p: board::Page, q: board::Place, c: Carried) -> Carried
+    ensures { λ r. ⌜ r ≡ movedIn p q c ⌝ }
+{
+    let irs = p.irs;
+    let held = c.beam;
+    let row = c.row;
+    if active_at(p, q) {
+        return Carried {
+            beam: raster::advance_one(timing::buffer_of(irs), held),
+            row: row,
+        };
+    }
+    c
+}
+
+// The place after a clock. The field counter goes from 255 to 0.
+fn turned(p: board::Page, q: board::Place, c: Carried) -> board::Place
+    requires { ⌜ (q .line .0 < 8192) × (q .clock .0 < 384) ⌝ }
+    ensures { λ r. ⌜ r ≡ turnedIn p q c ⌝ }
+{
+    let irs = p.irs;
+    let t = timing::timing_of(irs);
+    let beam = c.beam;
+    let row = c.row;
+    let line = q.line;
+    let clock = q.clock.plus(units::Clocks(1));
+    let below = line.plus(units::Lines(1));
+    if clock.below(t.counts.ht) {
+        return board::Place {
+            field: q.field,
+            line: line,
+            clock: clock,
+            beam: beam,
+            row: row,
+        };
+    }
+    if below.below(t.counts.vt) {
+        return board::Place {
+            field: q.field,
+            line: below,
+            clock: units::Clocks(0),
+            beam: beam,
+            row: row,
+        };
+    }
+    board::Place {
+        field: std::num::wrapping_add_u8(q.field, 1),
+        line: units::Lines(0),
+        clock: units::Clocks(0),
+        beam: beam,
+        row: row,
+    }
+}
+
+// The place after a clock that works on c.
+pub fn place_after(p: board::Page, q: board::Place, c: Carried) -> board::Place
+    requires { ⌜ (q .line .0 < 8192) × (q .clock .0 < 384) ⌝ }
+    ensures { λ r. ⌜ r ≡ turnedIn p q (movedIn p q c) ⌝ }
+{
+    turned(p, q, moved_on(p, q, c))
+}
+
+// What is carried after c clocks of a row.
+fn row_at(p: board::Page, chars: &[u8], row: u32, c: units::Clocks) -> Carried
+    requires { ⌜ (length (now chars) ≡ 16384) × (row < 8192) ⌝ }
+    ensures { λ r. ⌜ r ≡ rowAt p (now (chars .entry)) row (c .0) ⌝ }
+{
+    Carried {
+        beam: fetch::cell_at(p, chars, row, c),
+        row: fetch::row_start(p, chars, row),
+    }
+}
+
+// A row, and how many clocks of it are over.
+pub struct Spot {
+    pub row: u32,
+    pub clocks: units::Clocks,
+}
+
+// The end of the last row.
+fn last_spot(p: board::Page) -> Spot
+    ensures { λ r. ⌜ r ≡ lastSpot p ⌝ }
+{
+    let irs = p.irs;
+    let t = timing::timing_of(irs);
+    let ht = t.counts.ht;
+    Spot {
+        row: t.counts.rows - 1,
+        clocks: ht,
+    }
+}
+
+// Where the beam last moved, c clocks into a line: in that line, or else at the end of the last row.
+fn spot_in(p: board::Page, c: units::Clocks, line: units::Lines) -> Spot
+    ensures { λ r. ⌜ r ≡ spotIn p (c .0) (line .0) ⌝ }
+{
+    let irs = p.irs;
+    if line.below(timing::visible_of(irs)) {
+        return Spot {
+            row: timing::row_of(irs, line),
+            clocks: c,
+        };
+    }
+    last_spot(p)
+}
+
+// The same before clock c of a line: before clock 0, what the line before it left.
+fn spot_before(p: board::Page, c: units::Clocks, line: units::Lines) -> Spot
+    ensures { λ r. ⌜ r ≡ spotBefore p (c .0) (line .0) ⌝ }
+{
+    if units::Clocks(0).below(c) {
+        return spot_in(p, c, line);
+    }
+    let irs = p.irs;
+    let t = timing::timing_of(irs);
+    if units::Lines(0).below(line) {
+        return spot_in(p, t.counts.ht, line.minus(units::Lines(1)));
+    }
+    last_spot(p)
+}
+
+// Clock 0 of the first frame.
+fn at_origin(c: units::Clocks, line: units::Lines, frame: u32) -> bool
+    ensures { λ r. ⌜ r ≡ originAt (c .0) (line .0) frame ⌝ }
+{
+    c.same(units::Clocks(0)) & line.same(units::Lines(0)) & (frame == 0)
+}
+
+// What is carried before clock c of a line of a frame. The work is the same for every clock; at clock 0 it is not needed.
+fn carried_before(
+    p: board::Page,
+    chars: &[u8],
+    c: units::Clocks,
+    line: units::Lines,
+    frame: u32,
+) -> Carried
+    requires { ⌜ length (now chars) ≡ 16384 ⌝ }
+    ensures { λ r. ⌜ r ≡ carriedBefore p (now (chars .entry)) (c .0) (line .0) frame ⌝ }
+{
+    let spot = spot_before(p, c, line);
+    let carried = row_at(p, chars, spot.row, spot.clocks);
+    if at_origin(c, line, frame) {
+        return Carried {
+            beam: raster::Cell { address: 0 },
+            row: raster::Cell { address: 0 },
+        };
+    }
+    carried
+}
+
+// The place for clock n, by its quotients and remainders.
+fn place_at(p: board::Page, chars: &[u8], n: units::Clocks) -> board::Place
+    requires { ⌜ length (now chars) ≡ 16384 ⌝ }
+    ensures { λ r. ⌜ r ≡ placeAt p (now (chars .entry)) (n .0) ⌝ }
+{
+    let irs = p.irs;
+    let t = timing::timing_of(irs);
+    let clock = n.remainder(t.counts.ht);
+    let lines = units::whole_lines(n, t.counts.ht);
+    let line = lines.remainder(t.counts.vt);
+    let frame = lines.quotient(t.counts.vt);
+    let c = carried_before(p, chars, clock, line, frame);
+    let beam = c.beam;
+    let row = c.row;
+    board::Place {
+        field: (frame % 256) as u8,
+        line: line,
+        clock: clock,
+        beam: beam,
+        row: row,
+    }
+}
+
+pub fn with_place(b: board::Board, place: board::Place) -> board::Board
+    ensures { λ r. ⌜ r ≡ withPlace b place ⌝ }
+{
+    let mut n = b;
+    n.place = place;
+    n
+}
+
+// The board at clock n, counted from clock 0 and not from the board's place.
+pub fn state_at(b: board::Board, chars: &[u8], attrs: &[u8], n: units::Clocks) -> StateAt
+    ensures { λ r. ⌜ r ≡ stateOf b (now (chars .entry)) (now (attrs .entry)) (n .0) ⌝ }
+{
+    let size = board::memories_refused(chars.len(), attrs.len());
+    let refused = timing::call_check(b, size, false, false);
+    if refusal::is_done(refused) {
+        let page = b.page;
+        let place = place_at(page, chars, n);
+        return StateAt {
+            refusal: refused,
+            board: with_place(b, place),
+        };
+    }
+    StateAt {
+        refusal: refused,
+        board: b,
+    }
+}

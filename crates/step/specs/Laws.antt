@@ -1,0 +1,108 @@
+-- What the proofs of the step use. Assumes nothing.
+use Prim.Native.Nat.{ℕ, zero, suc, _-_, _≤_, _<_}
+use mathlib.Core.Path.{_≡_, refl, sym, ap, _∙_}
+use mathlib.Core.Bool.{Bool, true, false}
+use mathlib.Core.List.{List, [], _∷_, _++_, map}
+use native.Mathlib.Nat.{sub-zero, not-suc-le-zero, le-of-suc-le-suc, suc-sub-suc}
+use native.Mathlib.Omega.{arith}
+use lib.Dec.{eqb}
+use lib.ListN.{length, getD, replicate, drop, length-map}
+use Rattle.lists.specs.Choice.{pick, neither}
+use Rattle.refusal.specs.declared.Refusal.the-variants.{Done}
+use Rattle.board.specs.declared.Place.{Place}
+use Rattle.board.specs.declared.Board.{Board}
+use Rattle.board.specs.Range.{memoriesRefused}
+use Rattle.board.specs.Laws.{memories-all}
+use Rattle.timing.specs.Check.{callCheck}
+use Rattle.timing.specs.Laws.{InRange, call-passed, ht-bound, vt-bound}
+use Rattle.shape.specs.Font.{Font, fontRefused, wordOf}
+use Rattle.shape.specs.Laws.{font-whole}
+use Rattle.video.specs.declared.Scene.{Scene}
+use Rattle.video.specs.declared.Look.{Look}
+use Rattle.video.specs.Scene.{sceneOf, cursorAt}
+use Rattle.video.specs.Look.{blankLook, effective, lookOf}
+use Rattle.video.specs.Cell.{shadeOf, litBits, cellDots}
+use Rattle.video.specs.At.{lentRefused, dotsAt}
+use Rattle.video.specs.Width.{length-cell}
+use Rattle.place.specs.declared.Carried.{Carried}
+use Rattle.place.specs.Place.{activeAt, loadedIn, movedIn, turnedIn}
+use Rattle.place.specs.State.{withPlace}
+use Rattle.place.specs.Laws.{one-clock, loaded-lt}
+use Rattle.step.specs.declared.Signals.{Signals}
+use Rattle.step.specs.declared.Stepped.{Stepped}
+use Rattle.step.specs.Signals.{scanIn, signalsOf, padded, clockDots}
+use Rattle.step.specs.Step.{steppedOf, Fit}
+
+-- ---- dots
+
+module _ (x : ℕ) where
+  all-blank : (l : List ℕ) → map (shadeOf x x) l ≡ replicate (length l) x
+  all-blank [] = refl
+  all-blank (b ∷ l) = go (eqb b 0) (all-blank l)
+    where
+      go : (t : Bool) → map (shadeOf x x) l ≡ replicate (length l) x → pick t x x ∷ map (shadeOf x x) l ≡ x ∷ replicate (length l) x
+      go true e = ap (λ (m : List ℕ). x ∷ m) e
+      go false e = ap (λ (m : List ℕ). x ∷ m) e
+
+  -- a cell of one level
+  pub blank-cell : (d : ℕ) → d ≤ 12 → cellDots (blankLook x) 0 d ≡ replicate d x
+  unfolding cellDots
+  blank-cell d m =
+      let n : length (litBits false 0 d) ≡ d = sym (length-map (litBits false 0 d) (shadeOf x x)) ∙ length-cell (blankLook x) 0 d (omega arith) m in
+      all-blank (litBits false 0 d) ∙ ap (λ (k : ℕ). replicate k x) n
+
+rest-zero : (d n : ℕ) → d ≤ n → drop {A = ℕ} d (replicate n 0) ≡ replicate (n - d) 0
+rest-zero zero n h = ap (λ (k : ℕ). replicate k 0) (sym (sub-zero n))
+rest-zero (suc d) zero h = absurd (not-suc-le-zero h)
+rest-zero (suc d) (suc n) h = rest-zero d n (le-of-suc-le-suc h) ∙ ap (λ (k : ℕ). replicate k 0) (sym (suc-sub-suc n d))
+
+-- what is drawn over twelve zeros
+over-zeros : (d : ℕ) (out dots : List ℕ) → d ≤ 12 → out ≡ dots ++ drop d (replicate 12 0) → out ≡ padded dots d
+over-zeros d out dots h e = e ∙ ap (λ (l : List ℕ). dots ++ l) (rest-zero d 12 h)
+
+pub padded-blank : (x d : ℕ) (out : List ℕ) → d ≤ 12 → out ≡ cellDots (blankLook x) 0 d ++ drop d (replicate 12 0) → out ≡ padded (replicate d x) d
+padded-blank x d out h e = over-zeros d out (replicate d x) h (rw (blank-cell x d h) at e)
+
+pub padded-cell : (d : ℕ) (out : List ℕ) (k l : Look) (w v : ℕ) → d ≤ 12 → out ≡ cellDots k w d ++ drop d (replicate 12 0) → k ≡ l → w ≡ v
+    → out ≡ padded (cellDots l v d) d
+padded-cell d out k l w v h e p q = over-zeros d out (cellDots l v d) h (rw (p, q) at e)
+
+-- ---- the step
+
+module _ (b : Board) (chars attrs : List ℕ) (f : Font) where
+  pub fit : callCheck b (lentRefused chars attrs f) false false ≡ Done → Fit b chars attrs f
+  fit e =
+      let k = call-passed b (lentRefused chars attrs f) false false e in
+      let m = neither (memoriesRefused (length chars) (length attrs)) (fontRefused f) (k .sized) in
+      let n = memories-all (length chars) (length attrs) (m .0) in
+      record {
+        page = k .page;
+        state = k .state;
+        chars-all = n .0;
+        attrs-all = n .1;
+        font = font-whole f (m .1);
+      }
+
+  pub in-frame : InRange b → (b .place .line .0 < 8192) × (b .place .clock .0 < 384)
+  in-frame i = (omega (arith, i .line-lt, vt-bound (b .page .irs)), omega (arith, i .clock-lt, ht-bound (b .page .irs)))
+
+  pub address-lt : Fit b chars attrs f → (c : Carried) → c ≡ loadedIn (b .page) chars (b .place) → c .beam .address < 16384
+  address-lt k c e = rw e (loaded-lt (b .page) chars (k .page) (b .place) (k .state .beam-le) (k .state .row-le))
+
+  module _ (scene : Scene) (e : scene ≡ sceneOf b (scanIn b) (b .place .field)) (a : ℕ) (r : List ℕ) where
+    pub dots-active : activeAt (b .page) (b .place) ≡ true
+        → r ≡ padded (cellDots (lookOf scene (effective (getD attrs a 0)) (cursorAt scene a)) (wordOf f (getD chars a 0) (scanIn b)) (b .page .video .dots .0)) (b .page .video .dots .0)
+        → r ≡ clockDots b chars attrs f a
+    unfolding clockDots dotsAt
+    dots-active t q = rw t (rw e at q)
+
+    pub dots-blank : activeAt (b .page) (b .place) ≡ false → r ≡ padded (replicate (b .page .video .dots .0) (scene .blank)) (b .page .video .dots .0) → r ≡ clockDots b chars attrs f a
+    unfolding clockDots
+    dots-blank t q = rw t (rw e at q)
+
+  -- the parts of a step put together
+  pub stepped : (c : Carried) → c ≡ loadedIn (b .page) chars (b .place) → (q : Place) → q ≡ turnedIn (b .page) (b .place) (movedIn (b .page) (b .place) c)
+      → (s : Signals) → s ≡ signalsOf b (c .beam .address) → (d : List ℕ) → d ≡ clockDots b chars attrs f (c .beam .address) → (n : Board) → n ≡ withPlace b q
+      → _≡_ {A = Stepped} (record { refusal = Done; signals = s; address = c .beam .address; dots = d; board = n }) (steppedOf b chars attrs f)
+  unfolding steppedOf
+  stepped c ec q eq s es d ed n en = rw (en, eq, es, ed, ec, one-clock (b .page) chars (b .place))

@@ -1,0 +1,4 @@
+-- One clock of the board.
+pub mod Signals
+pub mod Step
+pub mod Laws

@@ -1,0 +1,57 @@
+-- The step.
+use Prim.Native.Nat.{ℕ}
+use mathlib.Core.Path.{_≡_}
+use mathlib.Core.Bool.{false}
+use mathlib.Core.List.{List}
+use lib.ListN.{length, replicate}
+use Rattle.lists.specs.Choice.{pick}
+use Rattle.refusal.specs.declared.Refusal.{Refusal}
+use Rattle.refusal.specs.declared.Refusal.the-variants.{Done}
+use Rattle.refusal.specs.Number.{doneOf}
+use Rattle.board.specs.declared.Board.{Board}
+use Rattle.timing.specs.Check.{callCheck}
+use Rattle.timing.specs.Laws.{Accepted, InRange}
+use Rattle.shape.specs.Font.{Font, Whole}
+use Rattle.video.specs.At.{lentRefused}
+use Rattle.step.specs.declared.Signals.{Signals}
+use Rattle.step.specs.declared.Stepped.{Stepped}
+use Rattle.place.specs.Place.{loadedIn, nextPlace}
+use Rattle.place.specs.State.{withPlace}
+use Rattle.step.specs.Signals.{signalsOf, clockDots}
+
+-- the address fetched, or off the active clocks the one held
+abbrev pub addressOf : Board → (chars : List ℕ) → ℕ
+addressOf b chars = loadedIn (b .page) chars (b .place) .beam .address
+
+-- a clock's signals, address and dots, and the board for the next clock
+unfoldable pub steppedOf : Board → (chars attrs : List ℕ) → Font → Stepped
+steppedOf b chars attrs f = record {
+  refusal = Done;
+  signals = signalsOf b (addressOf b chars);
+  address = addressOf b chars;
+  dots = clockDots b chars attrs f (addressOf b chars);
+  board = withPlace b (nextPlace (b .page) chars (b .place));
+}
+
+-- 3, 12, 4, 5, 6, 7
+abbrev pub stepCheck : Board → (chars attrs : List ℕ) → Font → Refusal
+stepCheck b chars attrs f = callCheck b (lentRefused chars attrs f) false false
+
+abbrev pub noSignals : Signals
+noSignals = record { hsync = false; vsync = false; blank = false; cursor = false; blink = false }
+
+-- a refusal returns zeros beside its number, and the old board
+abbrev pub stepRefused : Refusal → Board → Stepped
+stepRefused r b = record { refusal = r; signals = noSignals; address = 0; dots = replicate 12 0; board = b }
+
+unfoldable pub stepOf : Board → (chars attrs : List ℕ) → Font → Stepped
+stepOf b chars attrs f =
+    pick (doneOf (stepCheck b chars attrs f)) (steppedOf b chars attrs f) (stepRefused (stepCheck b chars attrs f) b)
+
+-- what a step has once nothing is refused
+pub record Fit (b : Board) (chars attrs : List ℕ) (f : Font) : Type 0 where
+  pub page : Accepted (b .page)
+  pub state : InRange b
+  pub chars-all : length chars ≡ 16384
+  pub attrs-all : length attrs ≡ 16384
+  pub font : Whole f

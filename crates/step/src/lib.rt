@@ -1,0 +1,222 @@
+// One clock of the board: its signals, address and dots, and the board for the next clock.
+ghost use mathlib.Core.Path.{_≡_};
+ghost use Prim.Native.Nat.{_≤_, _<_};
+ghost use lib.ListN.{replicate};
+ghost use Rattle.units.specs.Units.{lines};
+ghost use Rattle.shape.specs.Font.{Whole, fontNow, lentFont, wordOf};
+ghost use Rattle.video.specs.Scene.{sceneOf, cursorAt};
+ghost use Rattle.video.specs.Look.{effective, lookOf};
+ghost use Rattle.video.specs.Cell.{cellDots};
+ghost use Rattle.step.specs.Signals.{scanIn, hsyncIn, vsyncIn, signalsOf, padded, clockDots};
+ghost use Rattle.step.specs.Step.{Fit, steppedOf, stepOf};
+
+pub struct Signals {
+    pub hsync: bool,
+    pub vsync: bool,
+    pub blank: bool,
+    pub cursor: bool,
+    pub blink: bool,
+}
+
+// A clock's signals, the address fetched or held, the dots, and the board for the next clock.
+pub struct Stepped {
+    pub refusal: refusal::Refusal,
+    pub signals: Signals,
+    pub address: u16,
+    pub dots: [u8; 12],
+    pub board: board::Board,
+}
+
+// The scan line of the place.
+fn scan_in(b: board::Board) -> units::Lines
+    ensures { λ r. ⌜ r ≡ lines (scanIn b) ⌝ }
+{
+    let irs = b.page.irs;
+    timing::line_of_row(irs, b.place.line)
+}
+
+fn hsync_in(b: board::Board) -> bool
+    ensures { λ r. ⌜ r ≡ hsyncIn b ⌝ }
+{
+    let irs = b.page.irs;
+    let t = timing::timing_of(irs);
+    b.place.clock.during(t.counts.hact.plus(t.hfp), t.hsync)
+}
+
+fn vsync_in(b: board::Board) -> bool
+    ensures { λ r. ⌜ r ≡ vsyncIn b ⌝ }
+{
+    let irs = b.page.irs;
+    let t = timing::timing_of(irs);
+    let first = timing::visible_of(irs).plus(t.vfp);
+    b.place.line.during(first, t.vsync)
+}
+
+fn signals_of(b: board::Board, scene: video::Scene, address: usize) -> Signals
+    requires { ⌜ scene ≡ sceneOf b (scanIn b) (b .place .field) ⌝ }
+    ensures { λ r. ⌜ r ≡ signalsOf b address ⌝ }
+{
+    let active = place::active_at(b.page, b.place);
+    Signals {
+        hsync: hsync_in(b),
+        vsync: vsync_in(b),
+        blank: !active | !scene.shown,
+        cursor: active & video::cursor_at(scene, address),
+        blink: scene.blink,
+    }
+}
+
+// The twelve dot places of an active clock.
+fn shown_dots(
+    b: board::Board,
+    scene: video::Scene,
+    code: u8,
+    attr: u8,
+    address: usize,
+    words: &[u16],
+    flags: &[u8],
+    unshifted: &[u8],
+    shifted: &[u8],
+) -> [u8; 12]
+    requires { ⌜ Whole (fontNow words flags unshifted shifted) ⌝ }
+    requires { ⌜ (6 ≤ b .page .video .dots .0) × (b .page .video .dots .0 ≤ 12) ⌝ }
+    ensures { λ r. ⌜ r ≡ padded
+        (cellDots (lookOf scene (effective attr) (cursorAt scene address))
+        (wordOf (lentFont words flags unshifted shifted) code (scanIn b)) (b .page .video .dots .0))
+        (b .page .video .dots .0) ⌝ }
+{
+    let mut out = [0u8; 12];
+    let cursor = video::cursor_at(scene, address);
+    let look = video::look_of(scene, video::effective_of(attr), cursor);
+    let word = shape::word_of(code, scan_in(b), words, flags, unshifted, shifted);
+    video::draw_cell(&mut out, look, word, b.page.video.dots);
+    out
+}
+
+// The twelve dot places off the active clocks.
+fn blank_dots(b: board::Board, level: u8) -> [u8; 12]
+    requires { ⌜ (6 ≤ b .page .video .dots .0) × (b .page .video .dots .0 ≤ 12) ⌝ }
+    ensures { λ r. ⌜ r ≡ padded (replicate (b .page .video .dots .0) level) (b .page .video .dots .0) ⌝ }
+{
+    let mut out = [0u8; 12];
+    let look = video::Look {
+        lit: false,
+        symbol: level,
+        surround: level,
+    };
+    video::draw_cell(&mut out, look, 0, b.page.video.dots);
+    out
+}
+
+// The scene of the place's scan line.
+fn scene_in(b: board::Board) -> video::Scene
+    ensures { λ r. ⌜ r ≡ sceneOf b (scanIn b) (b .place .field) ⌝ }
+{
+    video::scene_of(b, scan_in(b), b.place.field)
+}
+
+// The twelve dot places of a clock that fetches or holds an address.
+fn clock_dots(
+    b: board::Board,
+    scene: video::Scene,
+    chars: &[u8],
+    attrs: &[u8],
+    words: &[u16],
+    flags: &[u8],
+    unshifted: &[u8],
+    shifted: &[u8],
+    address: usize,
+) -> [u8; 12]
+    requires { ⌜ Fit b (now chars) (now attrs) (fontNow words flags unshifted shifted) ⌝ }
+    requires { ⌜ (scene ≡ sceneOf b (scanIn b) (b .place .field)) × (address < 16384) ⌝ }
+    ensures { λ r. ⌜ r ≡ clockDots b (now (chars .entry)) (now (attrs .entry)) (lentFont words flags unshifted shifted) address ⌝ }
+{
+    if place::active_at(b.page, b.place) {
+        let code = chars[address];
+        let attr = attrs[address];
+        return shown_dots(
+            b,
+            scene,
+            code,
+            attr,
+            address,
+            words,
+            flags,
+            unshifted,
+            shifted,
+        );
+    }
+    blank_dots(b, scene.blank)
+}
+
+// A step that nothing refuses.
+fn one_step(
+    b: board::Board,
+    chars: &[u8],
+    attrs: &[u8],
+    words: &[u16],
+    flags: &[u8],
+    unshifted: &[u8],
+    shifted: &[u8],
+) -> Stepped
+    requires { ⌜ Fit b (now chars) (now attrs) (fontNow words flags unshifted shifted) ⌝ }
+    ensures { λ r. ⌜ r ≡ steppedOf b (now (chars .entry)) (now (attrs .entry)) (lentFont words flags unshifted shifted) ⌝ }
+{
+    let page = b.page;
+    let place = b.place;
+    let c = place::loaded_at(page, chars, place);
+    let next = place::place_after(page, place, c);
+    let scene = scene_in(b);
+    let at = c.beam.address;
+    let address = at as usize;
+    let dots = clock_dots(
+        b,
+        scene,
+        chars,
+        attrs,
+        words,
+        flags,
+        unshifted,
+        shifted,
+        address,
+    );
+    Stepped {
+        refusal: refusal::Refusal::Done,
+        signals: signals_of(b, scene, address),
+        address: at,
+        dots: dots,
+        board: place::with_place(b, next),
+    }
+}
+
+// One clock: its signals, address and dots, and the board for the next clock.
+pub fn step(
+    b: board::Board,
+    chars: &[u8],
+    attrs: &[u8],
+    words: &[u16],
+    flags: &[u8],
+    unshifted: &[u8],
+    shifted: &[u8],
+) -> Stepped
+    ensures { λ r. ⌜ r ≡ stepOf b (now (chars .entry)) (now (attrs .entry)) (lentFont words flags unshifted shifted) ⌝ }
+{
+    let size = video::lent_refused(chars, attrs, words, flags, unshifted, shifted);
+    let refused = timing::call_check(b, size, false, false);
+    if refusal::is_done(refused) {
+        return one_step(b, chars, attrs, words, flags, unshifted, shifted);
+    }
+    Stepped {
+        refusal: refused,
+        signals: Signals {
+            hsync: false,
+            vsync: false,
+            blank: false,
+            cursor: false,
+            blink: false,
+        },
+        address: 0,
+        dots: [0u8; 12],
+        board: b,
+    }
+}
