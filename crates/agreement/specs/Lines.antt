@@ -25,7 +25,7 @@ use Rattle.fetch.specs.Laws.{fed, tallied}
 use Rattle.shape.specs.Font.{Font}
 use Rattle.video.specs.Scene.{sceneOf}
 use Rattle.line.specs.Length.{length-dots}
-use Rattle.line.specs.Line.{dotsAt, columnDots, lineDots, lineLength, lentRefused, drawCheck, drawnOf}
+use Rattle.line.specs.Line.{scanOf, dotsAt, columnDots, lineDots, lineLength, lentRefused, drawCheck, drawnOf}
 use Rattle.clock.specs.declared.Carried.{Carried}
 use Rattle.clock.specs.Place.{countsIn, carrierIn, rowsIn, carriedOf, loadedIn, placeAt}
 use Rattle.clock.specs.Signals.{activeIn, padded, clockDots}
@@ -35,6 +35,16 @@ use Rattle.agreement.specs.Steps.{after, fits, atClock, step-is, steps-a
 -- clock c of line l of frame k, counted from clock 0
 unfoldable pub clockOf : Board → (k l c : ℕ) → ℕ
 clockOf b k l c = (k * vtOf (b .page .irs) + l) * htOf (b .page .irs) + c
+
+-- the address that the step at that clock puts out
+abbrev pub addressAt : Board → (chars attrs : List ℕ) → Font → (k l c : ℕ) → ℕ
+addressAt b chars attrs f k l c = stepOf (after b chars attrs f (clockOf b k l c)) chars attrs f .address
+
+-- what is drawn of a line, in any field and into any buffer that has room, is the dots of the cells at these addresses, end to end; bytes beyond stay
+abbrev pub DrawnFrom : Board → (chars attrs : List ℕ) → Font → (line : ℕ) → (address : ℕ → ℕ) → Type 0
+DrawnFrom b chars attrs f line address = (field : ℕ) (out : List ℕ) → lineLength b ≤ length out
+    → drawnOf b chars attrs f line field out
+    ≡ joined 0 (hactOf (b .page .irs)) (λ c. dotsAt b chars attrs f (scanOf (line % linesOf (b .page .irs))) field (address c)) ++ drop (lineLength b) out
 
 loaded-visible : (p : Page) (chars : List ℕ) (q : Place) → q .line .0 < visibleOf (p .irs) .0
     → loadedIn p chars q ≡ carriedOf (loaded (countsIn p) (carrierIn p chars) (q .line .0) (q .clock .0) (pair (q .beam) (q .row)))
@@ -103,6 +113,15 @@ module _ (b : Board) (chars attrs : List ℕ) (f : Font) (ok : stepCheck b chars
       → drawnOf b chars attrs f l field out ≡ lineDots b chars attrs f l field ++ drop (lineLength b) out
   unfolding drawnOf
   draw-is l hl field out room = rw (draw-answers l hl out room)
+
+  pub drawn-from : (l : ℕ) → l < visibleOf (b .page .irs) .0 → (address : ℕ → ℕ)
+      → ((c : ℕ) → c < hactOf (b .page .irs) → address c ≡ cellAt (b .page) chars (l / linesOf (b .page .irs)) c) → DrawnFrom b chars attrs f l address
+  unfolding lineDots columnDots
+  drawn-from l hl address same field out room =
+      draw-is l hl field out room
+      ∙ ap (λ (d : List ℕ). d ++ drop (lineLength b) out)
+      (same-joined 0 (hactOf (b .page .irs)) _ _
+      (λ c _ h. ap (dotsAt b chars attrs f (scanOf (l % linesOf (b .page .irs))) field) (sym (same c (omega arith)))))
 
   module _ (k l : ℕ) (hl : l < visibleOf (b .page .irs) .0) where
     -- the dots that the step at column c puts out, without the places past them

@@ -12,7 +12,7 @@ use Rattle.shape.specs.Font.{Font, fontOf}
 use Rattle.clock.specs.Step.{stepCheck}
 use Rattle.agreement.specs.Cases.{page, board}
 use Rattle.agreement.specs.Steps.{after}
-use Rattle.agreement.specs.Frames.{frame-ends}
+use Rattle.agreement.specs.Frames.{every-frame}
 
 -- A1's page, memories and font of zeros
 pub sheet : Board
@@ -28,7 +28,11 @@ pub not-refused : stepCheck sheet memory memory font ≡ Done
 unfolding sheet memory font board page callCheck pageCheck addressRefused stateRefused
 not-refused = refl
 
--- A5, by single steps of the board
-pub after-27234 : (after sheet memory memory font 27234 .place .line .0 ≡ 0) × (after sheet memory memory font 27234 .place .clock .0 ≡ 0)
+-- A5, by single steps of the board: the frame that begins there is frame 1
+pub after-27234 : (after sheet memory memory font 27234 .place .line .0 ≡ 0)
+    × (after sheet memory memory font 27234 .place .clock .0 ≡ 0)
+    × (after sheet memory memory font 27234 .place .field ≡ 1)
 unfolding sheet board page countsOf
-after-27234 = frame-ends sheet memory memory font not-refused
+after-27234 =
+    let framed = every-frame sheet memory memory font not-refused 27234 in
+    (framed .ends refl .0, framed .ends refl .1, framed .counted)
