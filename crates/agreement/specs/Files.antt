@@ -41,7 +41,7 @@ length-is file n e = eqb-true _ _ (not-false _ (neither (not (eqb (length file) 
 abbrev pub atZero : Page → Board
 atZero p = record { page = p; place = clockZero; pointer = 0; resets = 2 }
 
-zero-ok : (p : Page) → stateRefused (atZero p) ≡ false
+pub zero-ok : (p : Page) → stateRefused (atZero p) ≡ false
 zero-ok p = range-ok (atZero p) (record { line-lt = omega arith; clock-lt = omega arith; beam-le = omega arith; row-le = omega arith; pointer-le = omega arith })
 
 write-ok : (p : Page) (n : ℕ) → pageCheck p ≡ Done → 32797 ≤ n → writeCheck (atZero p) 16384 16384 n ≡ Done
@@ -50,25 +50,44 @@ write-ok p n ok l = call-ok (atZero p) (ltb n 32797) (le-ltb n 32797 l) ok (zero
 
 -- ---- a page file, read and written again
 
-module _ (file : List ℕ) (bytes : Bytes file) (size : Bool) (ok : readCheck file size ≡ Done) where
-  file-ok : FilePassed file 32792 size (pageCheck (pageAt file 5))
+module _ (file : List ℕ) (size : Bool) (ok : readCheck file size ≡ Done) where
+  pub file-ok : FilePassed file 32792 size (pageCheck (pageAt file 5))
   unfolding readCheck
   file-ok = file-passed file 32792 size (pageCheck (pageAt file 5)) ok
 
-  whole : length file ≡ 32797
-  whole = sized file 32792 (file-ok .length-ok)
+  file-length : length file ≡ 32797
+  file-length = sized file 32792 (file-ok .length-ok)
 
+  -- the memories that it leaves have their size
+  pub chars-read-all : (chars : List ℕ) → length (charsRead file size chars) ≡ 16384
+  unfolding charsRead
+  chars-read-all chars = rw ok (length-part file 29 16384 (omega (arith, file-length)))
+
+  pub attrs-read-all : (attrs : List ℕ) → length (attrsRead file size attrs) ≡ 16384
+  unfolding attrsRead
+  attrs-read-all attrs = rw ok (length-part file 16413 16384 (omega (arith, file-length)))
+
+  -- as C has them, the numbers are refused by nothing, and are the file's page
+  pub numbers-fine : (numbers : List ℕ) → numbersRefused (numbersRead file size numbers) ≡ false
+  unfolding numbersRead numbersRefused
+  numbers-fine numbers = rw (ok, length-append (take 24 (drop 5 file)) (replicate 7 0), length-part file 5 24 (omega (arith, file-length)))
+
+  pub numbers-are : (numbers : List ℕ) → pageAt (numbersRead file size numbers) 1 ≡ pageAt file 5
+  unfolding numbersRead
+  numbers-are numbers = rw ok (numbers-page file (omega (arith, file-length)))
+
+module _ (file : List ℕ) (bytes : Bytes file) (size : Bool) (ok : readCheck file size ≡ Done) where
   same-bytes : fileOf (pageAt file 5) (take 16384 (drop 29 file)) (take 16384 (drop 16413 file)) ≡ file
-  same-bytes = page-again file bytes whole (version-is file (file-ok .version-ok)) (length-is file 32792 (file-ok .length-ok))
+  same-bytes = page-again file bytes (file-length file size ok) (version-is file (file-ok file size ok .version-ok)) (length-is file 32792 (file-ok file size ok .length-ok))
 
   again : (chars attrs out : List ℕ) → 32797 ≤ length out
       → (writeCheck (atZero (pageAt file 5)) (length (charsRead file size chars)) (length (attrsRead file size attrs)) (length out) ≡ Done)
       × (written (atZero (pageAt file 5)) (charsRead file size chars) (attrsRead file size attrs) out ≡ file ++ drop 32797 out)
   unfolding charsRead attrsRead written
-  again chars attrs out l = rw (ok, length-part file 29 16384 (omega (arith, whole)), length-part file 16413 16384 (omega (arith, whole)), fine) (refl, rw same-bytes)
+  again chars attrs out l = rw (chars-read-all file size ok chars, attrs-read-all file size ok attrs, fine, ok) (refl, rw same-bytes)
     where
       fine : writeCheck (atZero (pageAt file 5)) 16384 16384 (length out) ≡ Done
-      fine = write-ok (pageAt file 5) (length out) (file-ok .rest-ok) l
+      fine = write-ok (pageAt file 5) (length out) (file-ok file size ok .rest-ok) l
 
   -- the write answers 0, and out begins with the file
   pub page-same : (chars attrs out : List ℕ) → 32797 ≤ length out
@@ -80,17 +99,13 @@ module _ (file : List ℕ) (bytes : Bytes file) (size : Bool) (ok : readCheck fi
 -- ---- the same from C
 
 module _ (file : List ℕ) (bytes : Bytes file) (n c a : ℕ) (ok : readCheck file (pageReadSize n c a) ≡ Done) where
-  -- a page's numbers are refused by nothing, and are the file's page
-  numbers-fine : numbersRefused (numbersIn file) ≡ false
-  unfolding numbersRefused
-  numbers-fine = rw (length-append (take 24 (drop 5 file)) (replicate 7 0), length-part file 5 24 (omega (arith, whole file bytes (pageReadSize n c a) ok)))
-
   -- the write answers 0, and out begins with the file
   pub page-same-from-c : (numbers chars attrs out : List ℕ) → 32797 ≤ length out
       → (pageWriteCheck (numbersRead file (pageReadSize n c a) numbers) (length (charsRead file (pageReadSize n c a) chars)) (length (attrsRead file (pageReadSize n c a) attrs)) (length out) ≡ Done)
       × (pageWritten (numbersRead file (pageReadSize n c a) numbers) (charsRead file (pageReadSize n c a) chars) (attrsRead file (pageReadSize n c a) attrs) out ≡ file ++ drop 32797 out)
-  unfolding numbersRead pageWriteCheck pageWritten
-  page-same-from-c numbers chars attrs out l = rw (ok, numbers-fine, numbers-page file (omega (arith, whole file bytes (pageReadSize n c a) ok))) (again file bytes (pageReadSize n c a) ok chars attrs out l)
+  unfolding pageWriteCheck pageWritten
+  page-same-from-c numbers chars attrs out l =
+      rw (numbers-fine file (pageReadSize n c a) ok numbers, numbers-are file (pageReadSize n c a) ok numbers) (again file bytes (pageReadSize n c a) ok chars attrs out l)
 
 -- ---- a board, written and read again
 
@@ -145,22 +160,27 @@ module _ (b : Board) (irs-all : length (b .page .irs) ≡ 15) (chars attrs out :
 
 -- ---- a font file, read and written again
 
-module _ (file : List ℕ) (bytes : Bytes file) (f : Font) (ok : fontCheck file (fontRefused f) ≡ Done) where
+module _ (file : List ℕ) (f : Font) (ok : fontCheck file (fontRefused f) ≡ Done) where
   font-ok : FilePassed file 2450 (fontRefused f) Done
   font-ok = file-passed file 2450 (fontRefused f) Done ok
 
-  font-file : length file ≡ 2455
-  font-file = sized file 2450 (font-ok .length-ok)
+  font-length : length file ≡ 2455
+  font-length = sized file 2450 (font-ok .length-ok)
 
   parts-fine : fontRefused (fontIn file) ≡ false
   unfolding fontIn
   parts-fine =
       rw
-      (length-tab 1152 (λ (i : ℕ). wordAt (take 2304 (drop 5 file)) (2 * i)), length-part file 2309 128 (omega (arith, font-file)), length-part file 2437 9 (omega (arith, font-file)), length-part file 2446 9 (omega (arith, font-file)))
+      (length-tab 1152 (λ (i : ℕ). wordAt (take 2304 (drop 5 file)) (2 * i)), length-part file 2309 128 (omega (arith, font-length)), length-part file 2437 9 (omega (arith, font-length)), length-part file 2446 9 (omega (arith, font-length)))
+
+  -- the font that it leaves is whole
+  pub font-fine : fontRefused (fontRead file f) ≡ false
+  unfolding fontRead
+  font-fine = rw ok parts-fine
 
   -- the write answers 0, and out begins with the file
-  pub font-same : (out : List ℕ) → 2455 ≤ length out → (fontWriteCheck (fontRead file f) (length out) ≡ Done) × (fontWritten (fontRead file f) out ≡ file ++ drop 2455 out)
+  pub font-same : Bytes file → (out : List ℕ) → 2455 ≤ length out → (fontWriteCheck (fontRead file f) (length out) ≡ Done) × (fontWritten (fontRead file f) out ≡ file ++ drop 2455 out)
   unfolding fontRead fontWriteCheck fontWritten
-  font-same out l =
+  font-same bytes out l =
       rw (ok, parts-fine, le-ltb (length out) 2455 l)
-      (refl, rw (font-again file bytes font-file (version-is file (font-ok .version-ok)) (length-is file 2450 (font-ok .length-ok))))
+      (refl, rw (font-again file bytes font-length (version-is file (font-ok .version-ok)) (length-is file 2450 (font-ok .length-ok))))

@@ -6,4 +6,6 @@ pub mod Steps
 pub mod Lines
 pub mod Frames
 pub mod Rows
+pub mod FromC
+pub mod FilesFromC
 pub mod Worked

@@ -105,14 +105,14 @@ module _ (b : Board) (chars attrs : List ℕ) (f : Font) (ok : stepCheck b chars
   -- ---- the line
 
   -- a visible line and a buffer with room: nothing is refused, and the line's dots stand at the front of the buffer
-  pub draw-answers : (l : ℕ) → l < visibleOf (b .page .irs) .0 → (out : List ℕ) → lineLength b ≤ length out → drawCheck b (lentRefused chars attrs f) l (length out) ≡ Done
+  pub draw-answers : (l : ℕ) → l < visibleOf (b .page .irs) .0 → (room : ℕ) → lineLength b ≤ room → drawCheck b (lentRefused chars attrs f) l room ≡ Done
   unfolding drawCheck
-  draw-answers l hl out room = rw (lt-leb (visibleOf (b .page .irs) .0) l hl, le-ltb (length out) (lineLength b) room) ok
+  draw-answers l hl room h = rw (lt-leb (visibleOf (b .page .irs) .0) l hl, le-ltb room (lineLength b) h) ok
 
   pub draw-is : (l : ℕ) → l < visibleOf (b .page .irs) .0 → (field : ℕ) (out : List ℕ) → lineLength b ≤ length out
       → drawnOf b chars attrs f l field out ≡ lineDots b chars attrs f l field ++ drop (lineLength b) out
   unfolding drawnOf
-  draw-is l hl field out room = rw (draw-answers l hl out room)
+  draw-is l hl field out room = rw (draw-answers l hl (length out) room)
 
   pub drawn-from : (l : ℕ) → l < visibleOf (b .page .irs) .0 → (address : ℕ → ℕ)
       → ((c : ℕ) → c < hactOf (b .page .irs) → address c ≡ cellAt (b .page) chars (l / linesOf (b .page .irs)) c) → DrawnFrom b chars attrs f l address

@@ -135,12 +135,21 @@ module _ (b : Board) (chars attrs : List ℕ) (f : Font) (ok : stepCheck b chars
   unfolding steppedOf
   step-answers n = rw (steps-are n, step-is n)
 
+  memories-ok : memoriesRefused (length chars) (length attrs) ≡ false
+  memories-ok = rw (eq-eqb _ _ (fits .chars-all), eq-eqb _ _ (fits .attrs-all))
+
   state-ok : stateCheck b chars attrs ≡ Done
-  state-ok =
-      call-ok b (memoriesRefused (length chars) (length attrs)) (rw (eq-eqb _ _ (fits .chars-all), eq-eqb _ _ (fits .attrs-all))) page-ok
-      (range-ok b (fits .state))
+  state-ok = call-ok b (memoriesRefused (length chars) (length attrs)) memories-ok page-ok (range-ok b (fits .state))
+
+  state-ok-at : (n : ℕ) → stateCheck (atClock n) chars attrs ≡ Done
+  state-ok-at n = call-ok (atClock n) (memoriesRefused (length chars) (length attrs)) memories-ok page-ok (range-ok (atClock n) (in-range n))
 
   -- the state for clock n answers 0 and is the board after n single steps from clock 0
   pub at-once : (n : ℕ) → (stateOf b chars attrs n .refusal ≡ Done) × (stateOf b chars attrs n .board ≡ after b chars attrs f n)
   unfolding stateOf
   at-once n = (state-ok, rw state-ok (sym (steps-are n)))
+
+  -- the board that is asked may itself stand at any clock m
+  pub at-once-anywhere : (m n : ℕ) → (stateOf (after b chars attrs f m) chars attrs n .refusal ≡ Done) × (stateOf (after b chars attrs f m) chars attrs n .board ≡ after b chars attrs f n)
+  unfolding stateOf
+  at-once-anywhere m n = rw (steps-are m, steps-are n, state-ok-at m) (refl, refl)
