@@ -44,7 +44,7 @@ module _ (file numbers chars attrs : List ℕ)
   fontC = fontRead fontfile (fontOf words flags unshifted shifted)
 
   -- what feldrime_step then answers at clock n
-  abbrev answerC : ℕ → StepAnswer
+  abbrev pub answerC : ℕ → StepAnswer
   answerC = stepC numbersC charsC attrsC (fontC .words) (fontC .flags) (fontC .unshifted) (fontC .shifted)
 
   read-ok : readCheck file size ≡ Done

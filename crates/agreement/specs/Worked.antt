@@ -1,8 +1,8 @@
 -- The promises are not empty: a worked page that nothing refuses, and two of the promises read off it. Assumes nothing.
 use Prim.Native.Nat.{ℕ}
 use mathlib.Core.Path.{_≡_, refl}
-use mathlib.Core.List.{List}
-use lib.ListN.{replicate}
+use mathlib.Core.List.{List, _++_}
+use lib.ListN.{length, replicate}
 use Rattle.refusal.specs.declared.Refusal.the-variants.{Done}
 use Rattle.board.specs.declared.Board.{Board}
 use Rattle.board.specs.Range.{addressRefused}
@@ -10,9 +10,16 @@ use Rattle.timing.specs.Fields.{countsOf}
 use Rattle.timing.specs.Check.{pageCheck, stateRefused, callCheck}
 use Rattle.shape.specs.Font.{Font, fontOf}
 use Rattle.clock.specs.Step.{stepCheck}
+use Rattle.files.specs.File.{readCheck, fileCheck, lengthRefused, longAt, headOf, fileOf}
+use Rattle.files.specs.Page.{wordAt, pageAt}
+use Rattle.files.specs.FontFile.{fontCheck, fontHead}
+use Rattle.feldrime.specs.Answers.{answerOf}
+use Rattle.feldrime.specs.Pages.{pageReadSize}
+use Rattle.shape.specs.Font.{fontRefused}
 use Rattle.agreement.specs.Cases.{page, board}
 use Rattle.agreement.specs.Steps.{after}
 use Rattle.agreement.specs.Frames.{every-frame}
+use Rattle.agreement.specs.FilesFromC.{answerC, accepted-steps}
 
 -- A1's page, memories and font of zeros
 pub sheet : Board
@@ -36,3 +43,25 @@ unfolding sheet board page countsOf
 after-27234 =
     let framed = every-frame sheet memory memory font not-refused 27234 in
     (framed .ends refl .0, framed .ends refl .1, framed .counted)
+
+-- the same page and font as files, and buffers of zeros to read them into: neither is refused, so neither is a step
+abbrev pub file : List ℕ
+file = fileOf (sheet .page) memory memory
+
+abbrev pub fontFile : List ℕ
+fontFile = fontHead ++ replicate 2450 0
+
+abbrev pub numbers : List ℕ
+numbers = replicate 32 0
+
+pub page-taken : answerOf (readCheck file (pageReadSize (length numbers) (length memory) (length memory))) .refusal ≡ 0
+unfolding sheet memory board page readCheck fileCheck lengthRefused longAt wordAt headOf fileOf pageAt pageCheck addressRefused
+page-taken = refl
+
+pub font-taken : answerOf (fontCheck fontFile (fontRefused (fontOf (font .words) (font .flags) (font .unshifted) (font .shifted)))) .refusal ≡ 0
+unfolding font fileCheck lengthRefused longAt wordAt
+font-taken = refl
+
+pub from-files : (n : ℕ)
+    → answerC file numbers memory memory page-taken fontFile (font .words) (font .flags) (font .unshifted) (font .shifted) font-taken n .refusal ≡ 0
+from-files = accepted-steps file numbers memory memory page-taken fontFile (font .words) (font .flags) (font .unshifted) (font .shifted) font-taken .1
