@@ -32,9 +32,12 @@ use Rattle.clock.specs.Signals.{activeIn, padded, clockDots}
 use Rattle.clock.specs.Step.{steppedOf, stepCheck, stepOf, addressOf}
 use Rattle.agreement.specs.Steps.{after, fits, atClock, step-is, steps-are}
 
--- clock c of line l of frame k, counted from clock 0
+-- line l of frame k, and clock c of it, counted from clock 0
+unfoldable pub lineCount : Board → (k l : ℕ) → ℕ
+lineCount b k l = k * vtOf (b .page .irs) + l
+
 unfoldable pub clockOf : Board → (k l c : ℕ) → ℕ
-clockOf b k l c = (k * vtOf (b .page .irs) + l) * htOf (b .page .irs) + c
+clockOf b k l c = lineCount b k l * htOf (b .page .irs) + c
 
 -- the address that the step at that clock puts out
 abbrev pub addressAt : Board → (chars attrs : List ℕ) → Font → (k l c : ℕ) → ℕ
@@ -73,16 +76,18 @@ module _ (b : Board) (chars attrs : List ℕ) (f : Font) (ok : stepCheck b chars
 
     clock-is : clockOf b k l c % htOf (b .page .irs) ≡ c
     unfolding clockOf
-    clock-is = digits-mod (k * vtOf (b .page .irs) + l) c-lt
+    clock-is = digits-mod (lineCount b k l) c-lt
 
-    count-is : clockOf b k l c / htOf (b .page .irs) ≡ k * vtOf (b .page .irs) + l
+    count-is : clockOf b k l c / htOf (b .page .irs) ≡ lineCount b k l
     unfolding clockOf
-    count-is = digits-div (k * vtOf (b .page .irs) + l) c-lt
+    count-is = digits-div (lineCount b k l) c-lt
 
     line-is : clockOf b k l c / htOf (b .page .irs) % vtOf (b .page .irs) ≡ l
+    unfolding lineCount
     line-is = rw count-is (digits-mod k l-lt)
 
     frame-is : clockOf b k l c / htOf (b .page .irs) / vtOf (b .page .irs) ≡ k
+    unfolding lineCount
     frame-is = rw count-is (digits-div k l-lt)
 
     -- the address that the step puts out, and the board's place

@@ -2,11 +2,13 @@
 use Prim.Native.Nat.{ℕ}
 use mathlib.Core.Path.{_≡_, refl}
 use mathlib.Core.List.{List, _++_}
+use native.Mathlib.Omega.{arith}
 use lib.ListN.{length, replicate}
 use Rattle.refusal.specs.declared.Refusal.the-variants.{Done}
+use Rattle.raster.specs.Moves.{Inside, advanceBy, toLast}
 use Rattle.board.specs.declared.Board.{Board}
 use Rattle.board.specs.Range.{addressRefused}
-use Rattle.timing.specs.Fields.{countsOf}
+use Rattle.timing.specs.Fields.{bufferOf, countsOf}
 use Rattle.timing.specs.Check.{pageCheck, stateRefused, callCheck}
 use Rattle.shape.specs.Font.{Font, fontOf}
 use Rattle.clock.specs.Step.{stepCheck}
@@ -19,6 +21,8 @@ use Rattle.shape.specs.Font.{fontRefused}
 use Rattle.agreement.specs.Cases.{page, board}
 use Rattle.agreement.specs.Steps.{after}
 use Rattle.agreement.specs.Frames.{every-frame}
+use Rattle.agreement.specs.Lines.{addressAt}
+use Rattle.agreement.specs.Rows.{row-from-start}
 use Rattle.agreement.specs.FilesFromC.{answerC, accepted-steps}
 
 -- A1's page, memories and font of zeros
@@ -43,6 +47,20 @@ unfolding sheet board page countsOf
 after-27234 =
     let framed = every-frame sheet memory memory font not-refused 27234 in
     (framed .ends refl .0, framed .ends refl .1, framed .counted)
+
+-- A7, by a single step of the board: with screen start 1 below the buffer a cell outside it is fetched, so `stays-inside` asks no more than it must
+pub low : Board
+low = board (page 35 80 2048 3071 0 0)
+
+pub low-not-refused : stepCheck low memory memory font ≡ Done
+unfolding low memory font board page callCheck pageCheck addressRefused stateRefused
+low-not-refused = refl
+
+pub outside : Inside (bufferOf (low .page .irs)) (addressAt low memory memory font 0 0 0) → ⊥
+unfolding low board page bufferOf advanceBy toLast
+outside i =
+    let a : addressAt low memory memory font 0 0 0 ≡ 0 = row-from-start low memory memory font low-not-refused 0 0 (omega arith) (omega arith) refl .stepped 0 0 (omega arith) in
+    absurd (omega (arith, a, i .above))
 
 -- the same page and font as files, and buffers of zeros to read them into: neither is refused, so neither is a step
 abbrev pub file : List ℕ
