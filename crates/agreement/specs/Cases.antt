@@ -37,8 +37,8 @@ pub data Fact : Type 0 where
   column : (row column address : ℕ) → Fact
   columns : (row count from : ℕ) → Fact
   row : (row address : ℕ) → Fact
-  after : (address next : ℕ) → Fact
-  dots : (word width : ℕ) → List ℕ → Fact
+  wraps : (address next : ℕ) → Fact
+  dotsFor : (word width : ℕ) → List ℕ → Fact
   levels : (attributes symbol surround : ℕ) → Fact
 
 -- the page on an active board at clock 0
@@ -77,8 +77,8 @@ holds p (answers n) = eqb (numberOf (pageCheck p)) n
 holds p (column r c a) = eqb (fetched p r c) a
 holds p (columns r n a) = run p r n a
 holds p (row r a) = eqb (rowStart p [] r) a
-holds p (after a b) = eqb (advance (bufferOf (p .irs)) a) b
-holds p (dots w d l) = same (cellDots ones w d) l
+holds p (wraps a b) = eqb (advance (bufferOf (p .irs)) a) b
+holds p (dotsFor w d l) = same (cellDots ones w d) l
 holds p (levels a x y) = eqb (look p a .symbol) x && eqb (look p a .surround) y
 
 pub record Case : Type 0 where
@@ -108,13 +108,13 @@ cases =
     -- A7
     ∷ record { given = page 35 80 2048 3071 0 0; facts = columns 0 80 0 ∷ [] }
     -- A8
-    ∷ record { given = page 35 80 4095 1023 0 0; facts = after 16383 0 ∷ after 1023 4095 ∷ [] }
+    ∷ record { given = page 35 80 4095 1023 0 0; facts = wraps 16383 0 ∷ wraps 1023 4095 ∷ [] }
     -- A9
     ∷ record {
       given = page 35 80 0 16383 0 0;
       facts =
-          dots 0x041 12 (0 ∷ 1 ∷ 0 ∷ 0 ∷ 0 ∷ 0 ∷ 0 ∷ 1 ∷ 0 ∷ 0 ∷ 0 ∷ 0 ∷ [])
-          ∷ dots 0x041 8 (1 ∷ 0 ∷ 0 ∷ 0 ∷ 0 ∷ 0 ∷ 1 ∷ 0 ∷ [])
+          dotsFor 0x041 12 (0 ∷ 1 ∷ 0 ∷ 0 ∷ 0 ∷ 0 ∷ 0 ∷ 1 ∷ 0 ∷ 0 ∷ 0 ∷ 0 ∷ [])
+          ∷ dotsFor 0x041 8 (1 ∷ 0 ∷ 0 ∷ 0 ∷ 0 ∷ 0 ∷ 1 ∷ 0 ∷ [])
           ∷ [];
     }
     -- A10: reverse and highlight

@@ -1,4 +1,4 @@
--- Promise 2: a page file accepted and written again is the same bytes, from Rattle and from C; likewise a font; and a board written and read again is that page at clock 0.
+-- Promise 2: a page file accepted and written again is the same bytes; likewise a font; and a board written and read again is that page at clock 0.
 -- All of it speaks of the public calls that read and write. A file is a list of bytes. Assumes nothing.
 use Prim.Native.Nat.{ℕ, _+_, _*_, _≤_}
 use mathlib.Core.Path.{_≡_, refl, sym, _∙_}
@@ -19,14 +19,14 @@ use Rattle.board.specs.State.{clockZero}
 use Rattle.board.specs.Range.{memoriesRefused}
 use Rattle.timing.specs.Check.{pageCheck, stateRefused, callCheck}
 use Rattle.shape.specs.Font.{Font, fontRefused}
-use Rattle.files.specs.Page.{wordAt, pageAt, numbersIn}
+use Rattle.files.specs.Page.{wordAt, pageAt}
 use Rattle.files.specs.File.{longAt, versionRefused, lengthRefused, fileCheck, readCheck, pageRead, readPageOf, charsRead, attrsRead, headOf, fileOf, writeCheck, written}
 use Rattle.files.specs.FontFile.{fontCheck, fontIn, fontRead, fontWriteCheck, fontWritten}
 use Rattle.files.specs.Laws.{sized, length-part, FilePassed, file-passed, head-all, write-passed}
 use Rattle.files.specs.Round.{Bytes, page-again, page-kept, numbers-page}
 use Rattle.files.specs.FontRound.{font-again}
 use Rattle.feldrime.specs.Numbers.{numbersRefused}
-use Rattle.feldrime.specs.Pages.{pageReadSize, numbersRead, pageWriteCheck, pageWritten}
+use Rattle.feldrime.specs.Pages.{numbersRead}
 use Rattle.agreement.specs.Steps.{range-ok, call-ok}
 
 -- an accepted file's version and length
@@ -78,9 +78,11 @@ module _ (file : List ℕ) (size : Bool) (ok : readCheck file size ≡ Done) whe
 
 module _ (file : List ℕ) (bytes : Bytes file) (size : Bool) (ok : readCheck file size ≡ Done) where
   same-bytes : fileOf (pageAt file 5) (take 16384 (drop 29 file)) (take 16384 (drop 16413 file)) ≡ file
-  same-bytes = page-again file bytes (file-length file size ok) (version-is file (file-ok file size ok .version-ok)) (length-is file 32792 (file-ok file size ok .length-ok))
+  same-bytes =
+      let passed = file-ok file size ok in
+      page-again file bytes (file-length file size ok) (version-is file (passed .version-ok)) (length-is file 32792 (passed .length-ok))
 
-  again : (chars attrs out : List ℕ) → 32797 ≤ length out
+  pub again : (chars attrs out : List ℕ) → 32797 ≤ length out
       → (writeCheck (atZero (pageAt file 5)) (length (charsRead file size chars)) (length (attrsRead file size attrs)) (length out) ≡ Done)
       × (written (atZero (pageAt file 5)) (charsRead file size chars) (attrsRead file size attrs) out ≡ file ++ drop 32797 out)
   unfolding charsRead attrsRead written
@@ -96,25 +98,15 @@ module _ (file : List ℕ) (bytes : Bytes file) (size : Bool) (ok : readCheck fi
   unfolding readPageOf
   page-same chars attrs out l = rw ok (again chars attrs out l)
 
--- ---- the same from C
-
-module _ (file : List ℕ) (bytes : Bytes file) (n c a : ℕ) (ok : readCheck file (pageReadSize n c a) ≡ Done) where
-  -- the write answers 0, and out begins with the file
-  pub page-same-from-c : (numbers chars attrs out : List ℕ) → 32797 ≤ length out
-      → (pageWriteCheck (numbersRead file (pageReadSize n c a) numbers) (length (charsRead file (pageReadSize n c a) chars)) (length (attrsRead file (pageReadSize n c a) attrs)) (length out) ≡ Done)
-      × (pageWritten (numbersRead file (pageReadSize n c a) numbers) (charsRead file (pageReadSize n c a) chars) (attrsRead file (pageReadSize n c a) attrs) out ≡ file ++ drop 32797 out)
-  unfolding pageWriteCheck pageWritten
-  page-same-from-c numbers chars attrs out l =
-      rw (numbers-fine file (pageReadSize n c a) ok numbers, numbers-are file (pageReadSize n c a) ok numbers) (again file bytes (pageReadSize n c a) ok chars attrs out l)
-
 -- ---- a board, written and read again
 
-file-all : (p : Page) (chars attrs : List ℕ) → length (p .irs) ≡ 15 → length chars ≡ 16384 → length attrs ≡ 16384 → length (fileOf p chars attrs) ≡ 32797
+length-file : (p : Page) (chars attrs : List ℕ) → length (p .irs) ≡ 15 → length chars ≡ 16384 → length attrs ≡ 16384 → length (fileOf p chars attrs) ≡ 32797
 unfolding fileOf
-file-all p chars attrs n c a = length-append (headOf p) (chars ++ attrs) ∙ rw (head-all p n, length-append chars attrs, c, a)
+length-file p chars attrs n c a = length-append (headOf p) (chars ++ attrs) ∙ rw (head-all p n, length-append chars attrs, c, a)
 
 -- a board has fifteen IRs
-module _ (b : Board) (irs-all : length (b .page .irs) ≡ 15) (chars attrs out : List ℕ) (ok : writeCheck b (length chars) (length attrs) (length out) ≡ Done) where
+module _ (b : Board) (irs-all : length (b .page .irs) ≡ 15) (chars attrs out : List ℕ)
+    (ok : writeCheck b (length chars) (length attrs) (length out) ≡ Done) where
   memories : (length chars ≡ 16384) × (length attrs ≡ 16384)
   memories = (write-passed b (length chars) (length attrs) (length out) ok .1, write-passed b (length chars) (length attrs) (length out) ok .2)
 
@@ -124,7 +116,7 @@ module _ (b : Board) (irs-all : length (b .page .irs) ≡ 15) (chars attrs out :
 
   file-is : take 32797 (written b chars attrs out) ≡ fileOf (b .page) chars attrs
   unfolding written
-  file-is = rw ok (take-at (fileOf (b .page) chars attrs) (drop 32797 out) 32797 (file-all (b .page) chars attrs irs-all (memories .0) (memories .1)))
+  file-is = rw ok (take-at (fileOf (b .page) chars attrs) (drop 32797 out) 32797 (length-file (b .page) chars attrs irs-all (memories .0) (memories .1)))
 
   page-is : pageAt (fileOf (b .page) chars attrs) 5 ≡ b .page
   unfolding fileOf
@@ -140,7 +132,7 @@ module _ (b : Board) (irs-all : length (b .page .irs) ≡ 15) (chars attrs out :
 
   read-ok : readCheck (fileOf (b .page) chars attrs) false ≡ Done
   unfolding readCheck fileCheck lengthRefused
-  read-ok = rw (version, file-all (b .page) chars attrs irs-all (memories .0) (memories .1), long, page-is) page-ok
+  read-ok = rw (version, length-file (b .page) chars attrs irs-all (memories .0) (memories .1), long, page-is) page-ok
 
   chars-are : take 16384 (drop 29 (fileOf (b .page) chars attrs)) ≡ chars
   unfolding fileOf
@@ -149,7 +141,8 @@ module _ (b : Board) (irs-all : length (b .page .irs) ≡ 15) (chars attrs out :
   attrs-are : take 16384 (drop 16413 (fileOf (b .page) chars attrs)) ≡ attrs
   unfolding fileOf
   attrs-are =
-      rw (sym (drop-drop 16384 29 (headOf (b .page) ++ (chars ++ attrs))), drop-at (headOf (b .page)) (chars ++ attrs) 29 (head-all (b .page) irs-all), drop-at chars attrs 16384 (memories .0))
+      let head = drop-at (headOf (b .page)) (chars ++ attrs) 29 (head-all (b .page) irs-all) in
+      rw (sym (drop-drop 16384 29 (headOf (b .page) ++ (chars ++ attrs))), head, drop-at chars attrs 16384 (memories .0))
       (take-all 16384 attrs (omega (arith, memories .1)))
 
   -- the file is read as that page at clock 0, and its memories are those that were written
@@ -170,8 +163,11 @@ module _ (file : List ℕ) (f : Font) (ok : fontCheck file (fontRefused f) ≡ D
   parts-fine : fontRefused (fontIn file) ≡ false
   unfolding fontIn
   parts-fine =
-      rw
-      (length-tab 1152 (λ (i : ℕ). wordAt (take 2304 (drop 5 file)) (2 * i)), length-part file 2309 128 (omega (arith, font-length)), length-part file 2437 9 (omega (arith, font-length)), length-part file 2446 9 (omega (arith, font-length)))
+      let words = length-tab 1152 (λ (i : ℕ). wordAt (take 2304 (drop 5 file)) (2 * i)) in
+      let flags = length-part file 2309 128 (omega (arith, font-length)) in
+      let unshifted = length-part file 2437 9 (omega (arith, font-length)) in
+      let shifted = length-part file 2446 9 (omega (arith, font-length)) in
+      rw (words, flags, unshifted, shifted)
 
   -- the font that it leaves is whole
   pub font-fine : fontRefused (fontRead file f) ≡ false
@@ -179,7 +175,8 @@ module _ (file : List ℕ) (f : Font) (ok : fontCheck file (fontRefused f) ≡ D
   font-fine = rw ok parts-fine
 
   -- the write answers 0, and out begins with the file
-  pub font-same : Bytes file → (out : List ℕ) → 2455 ≤ length out → (fontWriteCheck (fontRead file f) (length out) ≡ Done) × (fontWritten (fontRead file f) out ≡ file ++ drop 2455 out)
+  pub font-same : Bytes file → (out : List ℕ) → 2455 ≤ length out
+      → (fontWriteCheck (fontRead file f) (length out) ≡ Done) × (fontWritten (fontRead file f) out ≡ file ++ drop 2455 out)
   unfolding fontRead fontWriteCheck fontWritten
   font-same bytes out l =
       rw (ok, parts-fine, le-ltb (length out) 2455 l)

@@ -1,5 +1,5 @@
--- Promise 3: every frame takes exactly clocks per line times lines per frame; with the row table off and an ordered buffer no fetch leaves it, neither a step's nor a drawn line's.
--- Assumes nothing.
+-- Promise 3: every frame takes exactly clocks per line times lines per frame; with the row table off and an ordered buffer no fetch leaves it, neither a step's
+-- nor a drawn line's. Assumes nothing.
 use Prim.Native.Nat.{ℕ, _*_, _/_, _%_, _≤_, _<_}
 use mathlib.Core.Path.{_≡_, sym, ap}
 use mathlib.Core.Bool.{false}
@@ -44,11 +44,15 @@ module _ (b : Board) (chars attrs : List ℕ) (f : Font) (ok : stepCheck b chars
   -- so every frame, and not the first alone, takes exactly its clocks
   pub every-frame : (n : ℕ) → Framed n
   unfolding placeAt scanAt countsOf
-  every-frame n = record {
-    ends = λ e. rw (steps-are b chars attrs f ok n) (frame→ (countsIn (b .page)) (rowsIn (b .page) chars) good (cell 0) n (rw frame-product at e));
-    nowhere-else = λ p q. rw frame-product (frame← (countsIn (b .page)) (rowsIn (b .page) chars) good (cell 0) n (rw (steps-are b chars attrs f ok n) at p) (rw (steps-are b chars attrs f ok n) at q));
-    counted = rw (steps-are b chars attrs f ok n, frame-product) (ap (λ (x : ℕ). x % 256) (sym (by-frame n (htOf (b .page .irs)) (vtOf (b .page .irs)))));
-  }
+  every-frame n =
+      let at-n = steps-are b chars attrs f ok n in
+      let counts = countsIn (b .page) in
+      let rows = rowsIn (b .page) chars in
+      record {
+        ends = λ e. rw at-n (frame→ counts rows good (cell 0) n (rw frame-product at e));
+        nowhere-else = λ p q. rw frame-product (frame← counts rows good (cell 0) n (rw at-n at p) (rw at-n at q));
+        counted = rw (at-n, frame-product) (ap (λ (x : ℕ). x % 256) (sym (by-frame n (htOf (b .page .irs)) (vtOf (b .page .irs)))));
+      }
 
   pub frame-at-most : frameClocks b ≤ 826752
   frame-at-most = frame-bound (b .page .irs)

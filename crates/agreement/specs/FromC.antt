@@ -151,7 +151,7 @@ module _ (numbers chars attrs words flags unshifted shifted : List ℕ) where
     -- feldrime_line_draw puts end to end
     pub record ShownC (r l start : ℕ) : Type 0 where
       pub stepped : (k c : ℕ) → c < hactOf (b .page .irs) → stepC (clockOf b k (lineOf b r l) c) .address ≡ follows b start c
-      pub answers : (room : ℕ) → sizeFor numbers .dots ≤ room → drawC (lineOf b r l) room ≡ answerOf Done
+      pub draw-done : (room : ℕ) → sizeFor numbers .dots ≤ room → drawC (lineOf b r l) room ≡ answerOf Done
       pub drawn : (field : ℕ) (out : List ℕ) → sizeFor numbers .dots ≤ length out
           → drawnC (lineOf b r l) field out
           ≡ joined 0 (hactOf (b .page .irs)) (λ c. dotsAt b chars attrs f (scanOf (lineOf b r l % linesOf (b .page .irs))) field (follows b start c))
@@ -162,7 +162,7 @@ module _ (numbers chars attrs words flags unshifted shifted : List ℕ) where
       unfolding numbered
       shown-from-c start s = record {
         stepped = λ k c h. rw (steps-from-c (clockOf b k (lineOf b r l) c)) (s .stepped k c h);
-        answers = draw-answers-from-c (lineOf b r l) (rw size-from-c (digits-lt hr hl));
+        draw-done = draw-answers-from-c (lineOf b r l) (rw size-from-c (digits-lt hr hl));
         drawn = λ field out room. drawn-is (lineOf b r l) field out ∙ rw size-from-c (s .drawn field out (room-in (length out) room));
       }
 

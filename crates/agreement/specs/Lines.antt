@@ -61,10 +61,11 @@ module _ (b : Board) (chars attrs : List ℕ) (f : Font) (ok : stepCheck b chars
       ≡ cellAt (b .page) chars (n / htOf (b .page .irs) % vtOf (b .page .irs) / linesOf (b .page .irs)) (n % htOf (b .page .irs))
   unfolding placeAt scanAt cellAt countsOf
   fetched-at n h =
+      let page = fits b chars attrs f ok .page in
       ap (λ (x : Carried). x .beam .address) (loaded-visible (b .page) chars (placeAt (b .page) chars n) h)
       ∙ (ap (λ (x : Pair Cell). x .beam .address)
-      (loaded-meets (countsIn (b .page)) (carrierIn (b .page) chars) (rowsIn (b .page) chars) (accepted-good (b .page) (fits b chars attrs f ok .page))
-      (cells-lawful (countsIn (b .page)) (feedIn (b .page) chars) (tallyIn (b .page)) (fed (b .page) chars (fits b chars attrs f ok .page)) (tallied (b .page) chars (fits b chars attrs f ok .page)))
+      (loaded-meets (countsIn (b .page)) (carrierIn (b .page) chars) (rowsIn (b .page) chars) (accepted-good (b .page) page)
+      (cells-lawful (countsIn (b .page)) (feedIn (b .page) chars) (tallyIn (b .page)) (fed (b .page) chars page) (tallied (b .page) chars page))
       (cell 0) (n % htOf (b .page .irs)) (n / htOf (b .page .irs) % vtOf (b .page .irs)) (n / htOf (b .page .irs) / vtOf (b .page .irs)) h))
 
   module _ (k l c : ℕ) (hl : l < visibleOf (b .page .irs) .0) (hc : c < hactOf (b .page .irs)) where
@@ -102,15 +103,18 @@ module _ (b : Board) (chars attrs : List ℕ) (f : Font) (ok : stepCheck b chars
     unfolding placeAt scanAt countsOf
     active = rw (line-is, clock-is, lt-ltb l (visibleOf (b .page .irs) .0) hl, lt-ltb c (hactOf (b .page .irs)) hc)
 
-    pub dots-are : stepOf (after b chars attrs f (clockOf b k l c)) chars attrs f .dots ≡ padded (columnDots b chars attrs f l (k % 256) c) (b .page .video .dots .0)
+    pub dots-are : stepOf (after b chars attrs f (clockOf b k l c)) chars attrs f .dots
+        ≡ padded (columnDots b chars attrs f l (k % 256) c) (b .page .video .dots .0)
     unfolding steppedOf clockDots columnDots dotsAt sceneOf placeAt scanAt countsOf
     dots-are =
-        rw (steps-are b chars attrs f ok (clockOf b k l c), step-is b chars attrs f ok (clockOf b k l c), active, fetched-at (clockOf b k l c) (rw line-is hl), line-is, clock-is, frame-is)
+        let n = clockOf b k l c in
+        rw (steps-are b chars attrs f ok n, step-is b chars attrs f ok n, active, fetched-at n (rw line-is hl), line-is, clock-is, frame-is)
 
   -- ---- the line
 
   -- a visible line and a buffer with room: nothing is refused, and the line's dots stand at the front of the buffer
-  pub draw-answers : (l : ℕ) → l < visibleOf (b .page .irs) .0 → (room : ℕ) → lineLength b ≤ room → drawCheck b (lentRefused chars attrs f) l room ≡ Done
+  pub draw-answers : (l : ℕ) → l < visibleOf (b .page .irs) .0 → (room : ℕ) → lineLength b ≤ room
+      → drawCheck b (lentRefused chars attrs f) l room ≡ Done
   unfolding drawCheck
   draw-answers l hl room h = rw (lt-leb (visibleOf (b .page .irs) .0) l hl, le-ltb room (lineLength b) h) ok
 
@@ -142,5 +146,6 @@ module _ (b : Board) (chars attrs : List ℕ) (f : Font) (ok : stepCheck b chars
     stepped-line = same-joined 0 (hactOf (b .page .irs)) stepDots (columnDots b chars attrs f l (k % 256)) (λ c _ h. same-dots c (omega arith))
 
     -- the line drawn whole with field count k modulo 256, into any buffer that has room
-    pub same-line : (out : List ℕ) → lineLength b ≤ length out → drawnOf b chars attrs f l (k % 256) out ≡ joined 0 (hactOf (b .page .irs)) stepDots ++ drop (lineLength b) out
+    pub same-line : (out : List ℕ) → lineLength b ≤ length out
+        → drawnOf b chars attrs f l (k % 256) out ≡ joined 0 (hactOf (b .page .irs)) stepDots ++ drop (lineLength b) out
     same-line out room = draw-is l hl (k % 256) out room ∙ ap (λ (d : List ℕ). d ++ drop (lineLength b) out) (sym stepped-line)

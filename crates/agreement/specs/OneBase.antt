@@ -1,4 +1,5 @@
--- No second answer meets the contract of a public function of `units`, `refusal`, `raster`, `board`, `timing` or `registers`: it names its answer, so each of these is `only`.
+-- No second answer meets the contract of a public function of `units`, `refusal`, `raster`, `board`, `timing` or `registers`: it names its answer, so each of
+-- these is `only`.
 use Prim.Native.Nat.{ℕ}
 use mathlib.Core.Path.{_≡_}
 use mathlib.Core.Bool.{Bool}

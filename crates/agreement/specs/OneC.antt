@@ -30,7 +30,8 @@ page-size-for-c-one numbers = only (sizeFor numbers)
 
 -- the answer, the numbers and both memories
 pub page-read-one : (file numbers chars attrs : List ℕ)
-    → OneAnswer (λ (r : Answer × List ℕ × List ℕ × List ℕ). (r .0 ≡ answerOf (readCheck file (pageReadSize (length numbers) (length chars) (length attrs))))
+    → OneAnswer (λ (r : Answer × List ℕ × List ℕ × List ℕ).
+    (r .0 ≡ answerOf (readCheck file (pageReadSize (length numbers) (length chars) (length attrs))))
     × (r .1 ≡ numbersRead file (pageReadSize (length numbers) (length chars) (length attrs)) numbers)
     × (r .2 ≡ charsRead file (pageReadSize (length numbers) (length chars) (length attrs)) chars)
     × (r .3 ≡ attrsRead file (pageReadSize (length numbers) (length chars) (length attrs)) attrs))
@@ -39,14 +40,18 @@ page-read-one file numbers chars attrs =
     only-four (answerOf (readCheck file size)) (numbersRead file size numbers) (charsRead file size chars) (attrsRead file size attrs)
 
 pub page-write-one : (numbers chars attrs out : List ℕ)
-    → OneAnswer (λ (r : Answer × List ℕ). (r .0 ≡ answerOf (pageWriteCheck numbers (length chars) (length attrs) (length out))) × (r .1 ≡ pageWritten numbers chars attrs out))
-page-write-one numbers chars attrs out = only-both (answerOf (pageWriteCheck numbers (length chars) (length attrs) (length out))) (pageWritten numbers chars attrs out)
+    → OneAnswer (λ (r : Answer × List ℕ). (r .0 ≡ answerOf (pageWriteCheck numbers (length chars) (length attrs) (length out)))
+    × (r .1 ≡ pageWritten numbers chars attrs out))
+page-write-one numbers chars attrs out =
+    only-both (answerOf (pageWriteCheck numbers (length chars) (length attrs) (length out))) (pageWritten numbers chars attrs out)
 
-pub font-read-one : (file : List ℕ) (f : Font) → OneAnswer (λ (r : Answer × Font). (r .0 ≡ answerOf (fontCheck file (fontRefused f))) × (r .1 ≡ fontRead file f))
+pub font-read-one : (file : List ℕ) (f : Font)
+    → OneAnswer (λ (r : Answer × Font). (r .0 ≡ answerOf (fontCheck file (fontRefused f))) × (r .1 ≡ fontRead file f))
 font-read-one file f = only-both (answerOf (fontCheck file (fontRefused f))) (fontRead file f)
 
 pub line-draw-one : (numbers chars attrs : List ℕ) (f : Font) (line field : ℕ) (out : List ℕ)
-    → OneAnswer (λ (r : Answer × List ℕ). (r .0 ≡ answerOf (lineDrawCheck numbers chars attrs f line (length out))) × (r .1 ≡ lineDrawn numbers chars attrs f line field out))
+    → OneAnswer (λ (r : Answer × List ℕ). (r .0 ≡ answerOf (lineDrawCheck numbers chars attrs f line (length out)))
+    × (r .1 ≡ lineDrawn numbers chars attrs f line field out))
 line-draw-one numbers chars attrs f line field out =
     only-both (answerOf (lineDrawCheck numbers chars attrs f line (length out))) (lineDrawn numbers chars attrs f line field out)
 
@@ -57,7 +62,8 @@ pub board-of-one : (numbers : List ℕ) → OneAnswer (λ r. r ≡ boardFor numb
 board-of-one numbers = only (boardFor numbers)
 
 pub set-video-for-c-one : (b : Board) (d k bk rb : ℕ)
-    → OneAnswer (λ r. r ≡ boardAnswer (setVideoOf b (dots d) k (not (eqb bk 0)) (not (eqb rb 0)) .refusal) (setVideoOf b (dots d) k (not (eqb bk 0)) (not (eqb rb 0)) .board))
+    → OneAnswer (λ r. r ≡ boardAnswer (setVideoOf b (dots d) k (not (eqb bk 0)) (not (eqb rb 0)) .refusal)
+    (setVideoOf b (dots d) k (not (eqb bk 0)) (not (eqb rb 0)) .board))
 set-video-for-c-one b d k bk rb =
     let s = setVideoOf b (dots d) k (not (eqb bk 0)) (not (eqb rb 0)) in
     only (boardAnswer (s .refusal) (s .board))
@@ -78,6 +84,7 @@ step-numbers-one b chars attrs words flags unshifted shifted = only (stepNumbers
 
 -- the answer and the board
 pub step-in-place-one : (b : Board) (chars attrs words flags unshifted shifted : List ℕ)
-    → OneAnswer (λ (r : StepAnswer × Board). (r .0 ≡ stepNumbers b chars attrs words flags unshifted shifted .answer) × (r .1 ≡ stepNumbers b chars attrs words flags unshifted shifted .board))
+    → OneAnswer (λ (r : StepAnswer × Board). (r .0 ≡ stepNumbers b chars attrs words flags unshifted shifted .answer)
+    × (r .1 ≡ stepNumbers b chars attrs words flags unshifted shifted .board))
 step-in-place-one b chars attrs words flags unshifted shifted =
     only-both (stepNumbers b chars attrs words flags unshifted shifted .answer) (stepNumbers b chars attrs words flags unshifted shifted .board)

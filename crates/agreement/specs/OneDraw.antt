@@ -25,7 +25,8 @@ use Rattle.clock.specs.Step.{stepOf, stateOf}
 -- ---- `fetch`
 
 -- the number and the part
-pub row-run-one : (b : Board) (chars : List ℕ) (row : ℕ) → OneAnswer (λ (r : List ℕ × ℕ). (r .0 ≡ runOf b chars row) × (r .1 ≡ numberOf (runCheck b (length chars) row)))
+pub row-run-one : (b : Board) (chars : List ℕ) (row : ℕ)
+    → OneAnswer (λ (r : List ℕ × ℕ). (r .0 ≡ runOf b chars row) × (r .1 ≡ numberOf (runCheck b (length chars) row)))
 row-run-one b chars row = only-both (runOf b chars row) (numberOf (runCheck b (length chars) row))
 
 pub span-of-one : (b : Board) (chars : List ℕ) (row : ℕ) → OneAnswer (λ r. r ≡ spanOf b chars row)
@@ -88,7 +89,8 @@ lent-refused-one chars attrs f = only (lentRefused chars attrs f)
 
 -- the refusal and the buffer
 pub draw-line-one : (b : Board) (chars attrs : List ℕ) (f : Font) (line field : ℕ) (out : List ℕ)
-    → OneAnswer (λ (r : Refusal × List ℕ). (r .0 ≡ drawCheck b (lentRefused chars attrs f) line (length out)) × (r .1 ≡ drawnOf b chars attrs f line field out))
+    → OneAnswer (λ (r : Refusal × List ℕ). (r .0 ≡ drawCheck b (lentRefused chars attrs f) line (length out))
+    × (r .1 ≡ drawnOf b chars attrs f line field out))
 draw-line-one b chars attrs f line field out =
     only-both (drawCheck b (lentRefused chars attrs f) line (length out)) (drawnOf b chars attrs f line field out)
 

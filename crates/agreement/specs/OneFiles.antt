@@ -37,7 +37,8 @@ write-page-one b chars attrs out = only-both (writeCheck b (length chars) (lengt
 pub read-font-one : (file : List ℕ) (f : Font) → OneAnswer (λ (r : Refusal × Font). (r .0 ≡ fontCheck file (fontRefused f)) × (r .1 ≡ fontRead file f))
 read-font-one file f = only-both (fontCheck file (fontRefused f)) (fontRead file f)
 
-pub write-font-one : (f : Font) (out : List ℕ) → OneAnswer (λ (r : Refusal × List ℕ). (r .0 ≡ fontWriteCheck f (length out)) × (r .1 ≡ fontWritten f out))
+pub write-font-one : (f : Font) (out : List ℕ)
+    → OneAnswer (λ (r : Refusal × List ℕ). (r .0 ≡ fontWriteCheck f (length out)) × (r .1 ≡ fontWritten f out))
 write-font-one f out = only-both (fontWriteCheck f (length out)) (fontWritten f out)
 
 pub read-check-one : (file : List ℕ) (size : Bool) → OneAnswer (λ r. r ≡ readCheck file size)
@@ -57,11 +58,13 @@ put-numbers-one file = only (numbersIn file)
 
 -- the answer and the buffer
 pub listing-head-one : (p : Page) (out : List ℕ)
-    → OneAnswer (λ (r : Listed × List ℕ). (r .0 ≡ listedOf (headCheck p (length out)) (listingHead p)) × (r .1 ≡ listedIn (headCheck p (length out)) (listingHead p) out))
+    → OneAnswer (λ (r : Listed × List ℕ). (r .0 ≡ listedOf (headCheck p (length out)) (listingHead p))
+    × (r .1 ≡ listedIn (headCheck p (length out)) (listingHead p) out))
 listing-head-one p out = only-both (listedOf (headCheck p (length out)) (listingHead p)) (listedIn (headCheck p (length out)) (listingHead p) out)
 
 pub listing-line-one : (b : Board) (chars attrs : List ℕ) (f : Font) (line field : ℕ) (out : List ℕ)
-    → OneAnswer (λ (r : Listed × List ℕ). (r .0 ≡ listedOf (lineCheck b (lentRefused chars attrs f) line (length out)) (listingLine b chars attrs f line field))
+    → OneAnswer (λ (r : Listed × List ℕ).
+    (r .0 ≡ listedOf (lineCheck b (lentRefused chars attrs f) line (length out)) (listingLine b chars attrs f line field))
     × (r .1 ≡ listedIn (lineCheck b (lentRefused chars attrs f) line (length out)) (listingLine b chars attrs f line field) out))
 listing-line-one b chars attrs f line field out =
     let check = lineCheck b (lentRefused chars attrs f) line (length out) in

@@ -30,8 +30,8 @@ module _ (b : Board) (chars attrs : List ℕ) (f : Font) (ok : stepCheck b chars
   row-is : lineOf b r l / linesOf (b .page .irs) ≡ r
   row-is = digits-div r hl
 
-  visible : lineOf b r l < visibleOf (b .page .irs) .0
-  visible = digits-lt hr hl
+  line-visible : lineOf b r l < visibleOf (b .page .irs) .0
+  line-visible = digits-lt hr hl
 
   -- the cell of a column, from the row's start
   from-start : (c : ℕ) → c < hactOf (b .page .irs) → cellAt (b .page) chars r c ≡ follows b (rowStart (b .page) chars r) c
@@ -44,8 +44,8 @@ module _ (b : Board) (chars attrs : List ℕ) (f : Font) (ok : stepCheck b chars
 
   shown : (start : ℕ) → start ≡ rowStart (b .page) chars r → Shown start
   shown start begins = record {
-    stepped = λ k c h. address-is b chars attrs f ok k (lineOf b r l) c visible h ∙ rw (row-is, begins) (from-start c h);
-    drawn = drawn-from b chars attrs f ok (lineOf b r l) visible (follows b start) (λ c h. rw (row-is, begins) (sym (from-start c h)));
+    stepped = λ k c h. address-is b chars attrs f ok k (lineOf b r l) c line-visible h ∙ rw (row-is, begins) (from-start c h);
+    drawn = drawn-from b chars attrs f ok (lineOf b r l) line-visible (follows b start) (λ c h. rw (row-is, begins) (sym (from-start c h)));
   }
 
   -- with the table on: they follow from the row's entry

@@ -35,9 +35,9 @@ memory = replicate 16384 0
 pub font : Font
 font = fontOf (replicate 1152 0) (replicate 128 0) (replicate 9 0) (replicate 9 0)
 
-pub not-refused : stepCheck sheet memory memory font ≡ Done
+pub sheet-taken : stepCheck sheet memory memory font ≡ Done
 unfolding sheet memory font board page callCheck pageCheck addressRefused stateRefused
-not-refused = refl
+sheet-taken = refl
 
 -- A5, by single steps of the board: the frame that begins there is frame 1
 pub after-27234 : (after sheet memory memory font 27234 .place .line .0 ≡ 0)
@@ -45,21 +45,22 @@ pub after-27234 : (after sheet memory memory font 27234 .place .line .0 ≡ 0)
     × (after sheet memory memory font 27234 .place .field ≡ 1)
 unfolding sheet board page countsOf
 after-27234 =
-    let framed = every-frame sheet memory memory font not-refused 27234 in
+    let framed = every-frame sheet memory memory font sheet-taken 27234 in
     (framed .ends refl .0, framed .ends refl .1, framed .counted)
 
 -- A7, by a single step of the board: with screen start 1 below the buffer a cell outside it is fetched, so `stays-inside` asks no more than it must
 pub low : Board
 low = board (page 35 80 2048 3071 0 0)
 
-pub low-not-refused : stepCheck low memory memory font ≡ Done
+pub low-taken : stepCheck low memory memory font ≡ Done
 unfolding low memory font board page callCheck pageCheck addressRefused stateRefused
-low-not-refused = refl
+low-taken = refl
 
 pub outside : Inside (bufferOf (low .page .irs)) (addressAt low memory memory font 0 0 0) → ⊥
 unfolding low board page bufferOf advanceBy toLast
 outside i =
-    let a : addressAt low memory memory font 0 0 0 ≡ 0 = row-from-start low memory memory font low-not-refused 0 0 (omega arith) (omega arith) refl .stepped 0 0 (omega arith) in
+    let shown = row-from-start low memory memory font low-taken 0 0 (omega arith) (omega arith) refl in
+    let a : addressAt low memory memory font 0 0 0 ≡ 0 = shown .stepped 0 0 (omega arith) in
     absurd (omega (arith, a, i .above))
 
 -- the same page and font as files, and buffers of zeros to read them into: neither is refused, so neither is a step
