@@ -11,13 +11,12 @@ use lib.ListN.{length, getD, take, drop, replicate, length-append}
 use lib.Seq.{take-all, take-at, drop-at, drop-drop}
 use Rattle.lists.specs.Choice.{neither}
 use Rattle.lists.specs.Tab.{length-tab}
-use Rattle.refusal.specs.declared.Refusal.the-variants.{Done, Size}
-use Rattle.refusal.specs.Laws.{not-refused, passed}
+use Rattle.refusal.specs.declared.Refusal.the-variants.{Done}
 use Rattle.board.specs.declared.Page.{Page}
 use Rattle.board.specs.declared.Board.{Board}
 use Rattle.board.specs.State.{clockZero}
 use Rattle.board.specs.Range.{memoriesRefused}
-use Rattle.timing.specs.Check.{pageCheck, stateRefused, callCheck}
+use Rattle.timing.specs.Check.{pageCheck, stateRefused}
 use Rattle.shape.specs.Font.{Font, fontRefused}
 use Rattle.files.specs.Page.{wordAt, pageAt}
 use Rattle.files.specs.File.{longAt, versionRefused, lengthRefused, fileCheck, readCheck, pageRead, readPageOf, charsRead, attrsRead, headOf, fileOf, writeCheck, written}
@@ -27,7 +26,7 @@ use Rattle.files.specs.Round.{Bytes, page-again, page-kept, numbers-page}
 use Rattle.files.specs.FontRound.{font-again}
 use Rattle.feldrime.specs.Numbers.{numbersRefused}
 use Rattle.feldrime.specs.Pages.{numbersRead}
-use Rattle.agreement.specs.Steps.{range-ok, call-ok}
+use Rattle.agreement.specs.Steps.{range-ok, call-ok, call-page}
 
 -- an accepted file's version and length
 version-is : (file : List ℕ) → versionRefused file ≡ false → getD file 0 0 ≡ 1
@@ -111,8 +110,8 @@ module _ (b : Board) (irs-all : length (b .page .irs) ≡ 15) (chars attrs out :
   memories = (write-passed b (length chars) (length attrs) (length out) ok .1, write-passed b (length chars) (length attrs) (length out) ok .2)
 
   page-ok : pageCheck (b .page) ≡ Done
-  unfolding writeCheck callCheck
-  page-ok = not-refused (pageCheck (b .page)) _ (passed (memoriesRefused (length chars) (length attrs) || ltb (length out) 32797) Size _ refl ok .1) .0
+  unfolding writeCheck
+  page-ok = call-page b (memoriesRefused (length chars) (length attrs) || ltb (length out) 32797) false false ok
 
   file-is : take 32797 (written b chars attrs out) ≡ fileOf (b .page) chars attrs
   unfolding written

@@ -7,11 +7,9 @@ use mathlib.Core.List.{List, _++_}
 use lib.ListN.{length, drop}
 use Rattle.refusal.specs.declared.Refusal.the-variants.{Done}
 use Rattle.refusal.specs.Number.{numberOf}
-use Rattle.timing.specs.Check.{pageCheck}
 use Rattle.shape.specs.Font.{Font, fontOf, fontRefused}
 use Rattle.line.specs.Line.{lentRefused}
-use Rattle.clock.specs.Step.{steppedOf, stepCheck, stepOf}
-use Rattle.files.specs.Page.{pageAt}
+use Rattle.clock.specs.Step.{stepCheck}
 use Rattle.files.specs.File.{readCheck, charsRead, attrsRead}
 use Rattle.files.specs.FontFile.{fontCheck, fontRead}
 use Rattle.files.specs.Round.{Bytes}
@@ -19,10 +17,8 @@ use Rattle.feldrime.specs.declared.StepAnswer.{StepAnswer}
 use Rattle.feldrime.specs.Numbers.{boardOf}
 use Rattle.feldrime.specs.Answers.{answerOf}
 use Rattle.feldrime.specs.Pages.{numbersCheck, pageReadSize, numbersRead, pageWriteCheck, pageWritten, boardFor}
-use Rattle.feldrime.specs.Step.{numbered}
-use Rattle.agreement.specs.Steps.{call-ok}
-use Rattle.agreement.specs.Files.{zero-ok, file-ok, again, chars-read-all, attrs-read-all, numbers-fine, numbers-are, font-fine}
-use Rattle.agreement.specs.FromC.{zero-done, afterC, stepC, steps-answer}
+use Rattle.agreement.specs.Files.{file-ok, again, chars-read-all, attrs-read-all, numbers-fine, numbers-are, font-fine}
+use Rattle.agreement.specs.FromC.{zero-done, stepC, fit-from-c, begins-from-c, steps-answer}
 
 -- a page file that feldrime_page_read takes
 module _ (file numbers chars attrs : List ℕ)
@@ -52,12 +48,9 @@ module _ (file numbers chars attrs : List ℕ)
       let same = again file bytes size read-ok chars attrs out room in
       rw (numbers-fine file size read-ok numbers, numbers-are file size read-ok numbers) (ap numberOf (same .0), same .1)
 
-  page-read-fine : pageCheck (pageAt numbersC 1) ≡ Done
-  page-read-fine = rw (numbers-are file size read-ok numbers) (file-ok file size read-ok .rest-ok)
-
   accepted-check : numbersCheck numbersC ≡ Done
   unfolding numbersCheck
-  accepted-check = rw (numbers-fine file size read-ok numbers) page-read-fine
+  accepted-check = rw (numbers-fine file size read-ok numbers, numbers-are file size read-ok numbers) (file-ok file size read-ok .rest-ok)
 
   -- and a font file that feldrime_font_read takes
   module _ (fontfile words flags unshifted shifted : List ℕ)
@@ -78,19 +71,14 @@ module _ (file numbers chars attrs : List ℕ)
         rw (chars-read-all file size read-ok chars, attrs-read-all file size read-ok attrs)
         (font-fine fontfile (fontOf words flags unshifted shifted) font-ok)
 
-    -- this is what the promises on `step`, `state_at` and `draw_line` ask of a board, memories and a font
+    -- the hypothesis of the promises on `step`, `state_at` and `draw_line`
     pub accepted-fits : stepCheck (boardOf numbersC) charsC attrsC fontC ≡ Done
-    accepted-fits = call-ok (boardOf numbersC) (lentRefused charsC attrsC fontC) lent-fine page-read-fine (zero-ok (pageAt numbersC 1))
+    accepted-fits = fit-from-c numbersC charsC attrsC (fontC .words) (fontC .flags) (fontC .unshifted) (fontC .shifted) accepted-check lent-fine
 
-    made : boardFor numbersC .refusal ≡ 0
-    unfolding boardFor
-    made = rw accepted-check
-
-    first-taken : answerC 0 .refusal ≡ 0
-    unfolding numbered afterC boardFor stepOf steppedOf
-    first-taken = rw (accepted-check, accepted-fits)
+    begun : (boardFor numbersC .refusal ≡ 0) × (answerC 0 .refusal ≡ 0)
+    begun = begins-from-c numbersC charsC attrsC (fontC .words) (fontC .flags) (fontC .unshifted) (fontC .shifted) accepted-check lent-fine
 
     -- feldrime_board_of answers 0, and so does every feldrime_step after it
     pub accepted-steps : (boardFor numbersC .refusal ≡ 0) × ((n : ℕ) → answerC n .refusal ≡ 0)
     accepted-steps =
-        (made, steps-answer numbersC charsC attrsC (fontC .words) (fontC .flags) (fontC .unshifted) (fontC .shifted) made first-taken)
+        (begun .0, steps-answer numbersC charsC attrsC (fontC .words) (fontC .flags) (fontC .unshifted) (fontC .shifted) (begun .0) (begun .1))

@@ -1,12 +1,13 @@
 -- The sentence for which the project exists, as its users call it. A generator draws whole lines with `feldrime_line_draw` from a page's 32 numbers; an editor
--- makes a board of the same numbers with `feldrime_board_of` and takes it from clock to clock with `feldrime_step`. Both show the same cells, and the same dots.
+-- makes a board of the same numbers with `feldrime_board_of` and takes it from clock to clock with `feldrime_step`. Both show the same cells and the same dots.
 -- All of it speaks of the definitions that the contracts of these calls cite, over the same numbers, memories and font parts. Assumes nothing.
-use Prim.Native.Nat.{ℕ, zero, suc, _*_, _%_, _≤_, _<_}
+use Prim.Native.Nat.{ℕ, zero, suc, _+_, _*_, _%_, _≤_, _<_}
 use mathlib.Core.Path.{_≡_, refl, sym, ap, _∙_}
 use mathlib.Core.Bool.{Bool, true, false}
 use mathlib.Core.List.{List, _++_}
 use borrow.Author.Tests.{eq-eqb}
 use lib.Arith.{digits-lt}
+use lib.Dec.{ltb, leb}
 use lib.ListN.{length, take, drop}
 use Rattle.lists.specs.Join.{joined, same-joined}
 use Rattle.refusal.specs.declared.Refusal.{Refusal}
@@ -16,22 +17,27 @@ use Rattle.refusal.specs.Laws.{done-is, passed}
 use Rattle.board.specs.declared.Board.{Board}
 use Rattle.timing.specs.Fields.{hactOf, linesOf, rowsOf, visibleOf, tableOf}
 use Rattle.timing.specs.Check.{pageCheck, sizeOf}
+use Rattle.timing.specs.Laws.{call-passed}
 use Rattle.fetch.specs.Rows.{entryOf}
+use Rattle.fetch.specs.Run.{spanOf}
+use Rattle.fetch.specs.Laws.{span-number}
 use Rattle.shape.specs.Font.{Font, fontOf}
-use Rattle.line.specs.Line.{scanOf, dotsAt, lineLength, drawnOf}
-use Rattle.clock.specs.Step.{stepCheck, stepOf, stateOf}
+use Rattle.line.specs.Line.{scanOf, dotsAt, lineLength, lentRefused, drawCheck, drawnOf}
+use Rattle.clock.specs.Step.{steppedOf, stepCheck, stepOf, stateOf}
+use Rattle.files.specs.Page.{pageAt}
 use Rattle.feldrime.specs.declared.StepAnswer.{StepAnswer}
 use Rattle.feldrime.specs.declared.BoardAnswer.{BoardAnswer}
 use Rattle.feldrime.specs.declared.Answer.{Answer}
 use Rattle.feldrime.specs.Numbers.{numbersRefused, boardOf}
-use Rattle.feldrime.specs.Answers.{answerOf, sizeAnswer, boardAnswer}
-use Rattle.feldrime.specs.Pages.{numbersCheck, sizeFor, boardFor}
+use Rattle.feldrime.specs.Answers.{answerOf, sizeAnswer, runAnswer, boardAnswer}
+use Rattle.feldrime.specs.Pages.{numbersCheck, sizeFor, runFor, boardFor}
 use Rattle.feldrime.specs.LineDraw.{lineDrawCheck, lineDrawn}
 use Rattle.feldrime.specs.Laws.{numbers-passed}
 use Rattle.feldrime.specs.Step.{numbered, stepNumbers}
-use Rattle.agreement.specs.Steps.{after, step-answers, at-once-anywhere}
+use Rattle.agreement.specs.Steps.{call-ok, call-page, after, step-answers, at-once-anywhere}
+use Rattle.agreement.specs.Files.{zero-ok}
 use Rattle.agreement.specs.Lines.{clockOf, draw-answers, same-line}
-use Rattle.agreement.specs.Rows.{lineOf, follows, Shown, row-from-table, row-from-start}
+use Rattle.agreement.specs.Rows.{lineOf, follows, Shown, row-from-table, row-from-start, run-answers, run-shown}
 
 -- a refusal whose number is 0 is none
 pub zero-done : (r : Refusal) → numberOf r ≡ 0 → r ≡ Done
@@ -47,6 +53,13 @@ step-taken b chars attrs f e = go (doneOf (stepCheck b chars attrs f)) refl
     go false d = rw d at e
 
 module _ (numbers chars attrs words flags unshifted shifted : List ℕ) where
+  -- the board that the numbers describe, and the font
+  abbrev b : Board
+  b = boardOf numbers
+
+  abbrev f : Font
+  f = fontOf words flags unshifted shifted
+
   -- the board after n calls of feldrime_step, from the board that feldrime_board_of gives
   unfoldable pub afterC : ℕ → Board
   afterC zero = boardFor numbers .board
@@ -58,24 +71,39 @@ module _ (numbers chars attrs words flags unshifted shifted : List ℕ) where
 
   -- what feldrime_state_at answers of a board
   abbrev pub stateC : Board → ℕ → BoardAnswer
-  stateC b n = boardAnswer (stateOf b chars attrs n .refusal) (stateOf b chars attrs n .board)
+  stateC from n = boardAnswer (stateOf from chars attrs n .refusal) (stateOf from chars attrs n .board)
 
   -- what feldrime_line_draw answers, and what it leaves in the buffer
   abbrev pub drawC : (line room : ℕ) → Answer
-  drawC line room = answerOf (lineDrawCheck numbers chars attrs (fontOf words flags unshifted shifted) line room)
+  drawC line room = answerOf (lineDrawCheck numbers chars attrs f line room)
 
   abbrev pub drawnC : (line field : ℕ) → List ℕ → List ℕ
-  drawnC line field out = lineDrawn numbers chars attrs (fontOf words flags unshifted shifted) line field out
+  drawnC line field out = lineDrawn numbers chars attrs f line field out
+
+  -- ---- both are refused together
+
+  -- a page's numbers that pass, and memories and font parts of the right sizes: this is what the promises on `step`, `state_at` and `draw_line` ask
+  pub fit-from-c : numbersCheck numbers ≡ Done → lentRefused chars attrs f ≡ false → stepCheck b chars attrs f ≡ Done
+  unfolding numbersCheck
+  fit-from-c c l = call-ok b (lentRefused chars attrs f) l (passed (numbersRefused numbers) Size _ refl c .1) (zero-ok (pageAt numbers 1))
+
+  -- then feldrime_board_of answers 0, and so does the first feldrime_step
+  pub begins-from-c : numbersCheck numbers ≡ Done → lentRefused chars attrs f ≡ false → (boardFor numbers .refusal ≡ 0) × (stepC 0 .refusal ≡ 0)
+  unfolding numbered afterC boardFor stepOf steppedOf
+  begins-from-c c l = rw (c, fit-from-c c l) (refl, refl)
+
+  -- and so they do where feldrime_line_draw answers 0 for any line
+  pub drawn-begins : (line room : ℕ) → drawC line room .refusal ≡ 0 → (boardFor numbers .refusal ≡ 0) × (stepC 0 .refusal ≡ 0)
+  unfolding lineDrawCheck drawCheck numbersCheck
+  drawn-begins line room e =
+      let d = passed (numbersRefused numbers) Size _ refl (zero-done (lineDrawCheck numbers chars attrs f line room) e) in
+      let asked = leb (visibleOf (b .page .irs) .0) line in
+      let short = ltb room (lineLength b) in
+      let page = call-page b (lentRefused chars attrs f) asked short (d .1) in
+      begins-from-c (rw (d .0) page) (call-passed b (lentRefused chars attrs f) asked short (d .1) .sized)
 
   -- numbers of which a board is made, and a first step that is not refused
   module _ (board-made : boardFor numbers .refusal ≡ 0) (first-step : stepC 0 .refusal ≡ 0) where
-    -- the board that the numbers describe, and the font
-    abbrev b : Board
-    b = boardOf numbers
-
-    abbrev f : Font
-    f = fontOf words flags unshifted shifted
-
     check-ok : numbersCheck numbers ≡ Done
     unfolding boardFor
     check-ok = zero-done (numbersCheck numbers) board-made
@@ -120,7 +148,8 @@ module _ (numbers chars attrs words flags unshifted shifted : List ℕ) where
     room-in : (room : ℕ) → sizeFor numbers .dots ≤ room → lineLength b ≤ room
     room-in room h = rw size-from-c at h
 
-    draw-answers-from-c : (l : ℕ) → l < sizeFor numbers .lines → (room : ℕ) → sizeFor numbers .dots ≤ room → drawC l room ≡ answerOf Done
+    -- and where these do, feldrime_line_draw does, for every visible line and any buffer with room for it
+    pub draw-answers-from-c : (l : ℕ) → l < sizeFor numbers .lines → (room : ℕ) → sizeFor numbers .dots ≤ room → drawC l room ≡ answerOf Done
     unfolding lineDrawCheck
     draw-answers-from-c l hl room h = rw (numbers-passed numbers check-ok, draw-answers b chars attrs f step-ok l (line-in l hl) room (room-in room h))
 
@@ -147,8 +176,8 @@ module _ (numbers chars attrs words flags unshifted shifted : List ℕ) where
 
     -- ---- the cells of a row
 
-    -- line l of row r, where the row's cells follow from an address: the addresses that feldrime_step answers in every frame, and in every field the cells whose dots
-    -- feldrime_line_draw puts end to end
+    -- line l of row r, where the row's cells follow from an address: the addresses that feldrime_step answers in every frame, and in every field the cells whose
+    -- dots feldrime_line_draw puts end to end
     pub record ShownC (r l start : ℕ) : Type 0 where
       pub stepped : (k c : ℕ) → c < hactOf (b .page .irs) → stepC (clockOf b k (lineOf b r l) c) .address ≡ follows b start c
       pub draw-done : (room : ℕ) → sizeFor numbers .dots ≤ room → drawC (lineOf b r l) room ≡ answerOf Done
@@ -173,3 +202,16 @@ module _ (numbers chars attrs words flags unshifted shifted : List ℕ) where
       -- with it off, from the cell r x HACT moves after screen start 1
       pub row-from-start-from-c : tableOf (b .page .irs) ≡ false → ShownC r l (follows b (b .page .starts .start1) (r * hactOf (b .page .irs)))
       row-from-start-from-c t = shown-from-c _ (row-from-start b chars attrs f step-ok r l hr hl t)
+
+      run-is : runFor numbers chars r ≡ runAnswer Done (spanOf b chars r .start) (spanOf b chars r .count)
+      unfolding runFor
+      run-is =
+          let s = spanOf b chars r in
+          let done : s .refusal ≡ Done = span-number b chars r s refl ∙ run-answers b chars attrs f step-ok r l hr hl in
+          rw (numbers-passed numbers check-ok) (ap (λ (x : Refusal). runAnswer x (s .start) (s .count)) done)
+
+      -- the run that feldrime_row_run answers is what the row's first columns fetch, cell after cell
+      pub run-from-c : (runFor numbers chars r .refusal ≡ 0)
+          × ((k c : ℕ) → c < runFor numbers chars r .count → stepC (clockOf b k (lineOf b r l) c) .address ≡ runFor numbers chars r .first + c)
+      unfolding numbered
+      run-from-c = rw run-is (refl, λ k c h. rw (steps-from-c (clockOf b k (lineOf b r l) c)) (run-shown b chars attrs f step-ok r l hr hl k c h))

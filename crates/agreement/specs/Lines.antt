@@ -138,7 +138,9 @@ module _ (b : Board) (chars attrs : List ℕ) (f : Font) (ok : stepCheck b chars
     stepDots c = take (b .page .video .dots .0) (stepOf (after b chars attrs f (clockOf b k l c)) chars attrs f .dots)
 
     same-dots : (c : ℕ) → c < hactOf (b .page .irs) → stepDots c ≡ columnDots b chars attrs f l (k % 256) c
-    same-dots c hc = rw (dots-are k l c hl hc) (take-at _ _ (b .page .video .dots .0) (length-dots b chars attrs f l (k % 256) (fits b chars attrs f ok .page) c))
+    same-dots c hc =
+        rw (dots-are k l c hl hc)
+        (take-at _ _ (b .page .video .dots .0) (length-dots b chars attrs f l (k % 256) (fits b chars attrs f ok .page) c))
 
     -- the dots of the active clocks of line l of frame k, end to end
     pub stepped-line : joined 0 (hactOf (b .page .irs)) stepDots ≡ lineDots b chars attrs f l (k % 256)

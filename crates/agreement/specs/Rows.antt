@@ -1,20 +1,25 @@
 -- The sentence for which the project exists. With the row table on, on every line of row r the addresses that `step` puts out, and the cells whose dots
--- `draw_line` writes, are those that follow from the row's own table entry, whatever the rest of memory holds; with it off, those that follow from screen start 1.
--- Assumes nothing.
+-- `draw_line` writes, are those that follow from the row's own table entry, whatever the rest of memory holds; with it off, those that follow from screen
+-- start 1. The run that `row_run` gives is the first of them. Assumes nothing.
 use Prim.Native.Nat.{ℕ, min, _+_, _*_, _/_, _<_}
-use mathlib.Core.Path.{_≡_, sym, _∙_}
+use mathlib.Core.Path.{_≡_, refl, sym, _∙_}
 use mathlib.Core.Bool.{true, false}
 use mathlib.Core.List.{List}
 use native.Mathlib.Omega.{arith}
+use borrow.Author.Tests.{lt-leb, eq-eqb}
 use lib.Arith.{digits-div, digits-lt}
+use lib.ListN.{length}
 use Rattle.refusal.specs.declared.Refusal.the-variants.{Done}
-use Rattle.raster.specs.Moves.{advanceBy}
+use Rattle.raster.specs.Moves.{advanceBy, by-near}
 use Rattle.board.specs.declared.Board.{Board}
+use Rattle.board.specs.Range.{memoryRefused}
 use Rattle.timing.specs.Fields.{hactOf, linesOf, rowsOf, visibleOf, tableOf, bufferOf}
 use Rattle.fetch.specs.Rows.{entryOf, rowStart, cellAt}
+use Rattle.fetch.specs.Run.{runCheck, runCount, spanOf}
 use Rattle.fetch.specs.Laws.{cell-moved, start-table, start-sheet}
 use Rattle.shape.specs.Font.{Font}
 use Rattle.clock.specs.Step.{stepCheck}
+use Rattle.agreement.specs.Steps.{range-ok, call-ok, fits, page-ok}
 use Rattle.agreement.specs.Lines.{addressAt, DrawnFrom, address-is, drawn-from}
 
 -- line l of row r
@@ -55,3 +60,23 @@ module _ (b : Board) (chars attrs : List ℕ) (f : Font) (ok : stepCheck b chars
   -- with it off: from the cell r x HACT moves after screen start 1
   pub row-from-start : tableOf (b .page .irs) ≡ false → Shown (follows b (b .page .starts .start1) (r * hactOf (b .page .irs)))
   row-from-start t = shown (follows b (b .page .starts .start1) (r * hactOf (b .page .irs))) (start-sheet (b .page) chars r t)
+
+  -- ---- the row's run
+
+  pub run-answers : runCheck b (length chars) r ≡ Done
+  unfolding runCheck
+  run-answers =
+      rw (lt-leb (rowsOf (b .page .irs)) r hr)
+      (call-ok b (memoryRefused (length chars)) (rw (eq-eqb _ _ (fits b chars attrs f ok .chars-all))) (page-ok b chars attrs f ok)
+      (range-ok b (fits b chars attrs f ok .state)))
+
+  in-run : (start c : ℕ) → c < runCount (b .page) start → (c < hactOf (b .page .irs)) × (follows b start c ≡ start + c)
+  unfolding runCount
+  in-run start c h = (omega arith, by-near (bufferOf (b .page .irs)) c start (omega arith) ∙ omega arith)
+
+  -- the run that `row_run` gives is what the row's first columns fetch, on every line of the row, cell after cell
+  pub run-shown : (k c : ℕ) → c < spanOf b chars r .count → addressAt b chars attrs f k (lineOf b r l) c ≡ spanOf b chars r .start + c
+  unfolding spanOf
+  run-shown k c h =
+      let near = in-run (rowStart (b .page) chars r) c (rw run-answers at h) in
+      rw run-answers (shown (rowStart (b .page) chars r) refl .stepped k c (near .0) ∙ near .1)

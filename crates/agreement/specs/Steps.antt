@@ -45,6 +45,10 @@ pub call-ok : (b : Board) (size : Bool) → size ≡ false → pageCheck (b .pag
 unfolding callCheck
 call-ok b size s p r = rw (s, p, r)
 
+pub call-page : (b : Board) (size asked room : Bool) → callCheck b size asked room ≡ Done → pageCheck (b .page) ≡ Done
+unfolding callCheck
+call-page b size asked room e = not-refused (pageCheck (b .page)) _ (passed size Size _ refl e .1) .0
+
 -- ---- every state at once is in range
 
 record Small (c : Carried) : Type 0 where
@@ -87,9 +91,8 @@ module _ (b : Board) (chars attrs : List ℕ) (f : Font) (ok : stepCheck b chars
   pub fits : Fit b chars attrs f
   fits = fit b chars attrs f ok
 
-  page-ok : pageCheck (b .page) ≡ Done
-  unfolding callCheck
-  page-ok = not-refused (pageCheck (b .page)) _ (passed (lentRefused chars attrs f) Size _ refl ok .1) .0
+  pub page-ok : pageCheck (b .page) ≡ Done
+  page-ok = call-page b (lentRefused chars attrs f) false false ok
 
   lent-ok : lentRefused chars attrs f ≡ false
   lent-ok = call-passed b (lentRefused chars attrs f) false false ok .sized

@@ -1,5 +1,5 @@
 -- The promises are not empty: a worked page that nothing refuses, and two of the promises read off it. Assumes nothing.
-use Prim.Native.Nat.{ℕ}
+use Prim.Native.Nat.{ℕ, _*_}
 use mathlib.Core.Path.{_≡_, refl}
 use mathlib.Core.List.{List, _++_}
 use native.Mathlib.Omega.{arith}
@@ -47,6 +47,11 @@ unfolding sheet board page countsOf
 after-27234 =
     let framed = every-frame sheet memory memory font sheet-taken 27234 in
     (framed .ends refl .0, framed .ends refl .1, framed .counted)
+
+-- 256 frames on the field counter is back at 0
+pub after-256-frames : after sheet memory memory font (256 * 27234) .place .field ≡ 0
+unfolding sheet board page countsOf
+after-256-frames = every-frame sheet memory memory font sheet-taken (256 * 27234) .counted
 
 -- A7, by a single step of the board: with screen start 1 below the buffer a cell outside it is fetched, so `stays-inside` asks no more than it must
 pub low : Board
