@@ -9,8 +9,7 @@ use Rattle.refusal.specs.Number.{numberOf}
 use Rattle.raster.specs.Moves.{advance, advanceBy, toLast, around}
 use Rattle.raster.specs.Cells.{startOf, cellOf}
 use Rattle.board.specs.declared.Page.{Page}
-use Rattle.board.specs.declared.Board.{Board}
-use Rattle.board.specs.State.{clockZero}
+use Rattle.board.specs.State.{boardOf}
 use Rattle.board.specs.Range.{addressRefused}
 use Rattle.timing.specs.Fields.{htOf, hfpOf, vtOf, bufferOf, cursorOf, countsOf}
 use Rattle.timing.specs.Check.{pageCheck}
@@ -41,10 +40,6 @@ pub data Fact : Type 0 where
   dotsFor : (word width : ℕ) → List ℕ → Fact
   levels : (attributes symbol surround : ℕ) → Fact
 
--- the page on an active board at clock 0
-unfoldable pub board : Page → Board
-board p = record { page = p; place = clockZero; pointer = 0; resets = 2 }
-
 -- the address that a column of a row fetches, with the row table off
 pub fetched : Page → ℕ → ℕ → ℕ
 fetched p r c = cellAt p [] r c
@@ -66,7 +61,7 @@ ones = record { lit = false; symbol = 1; surround = 0 }
 
 -- the look of a cell with AFLG and these attributes, away from cursor, underline line and strike line
 pub look : Page → ℕ → Look
-look p a = lookOf (sceneOf (board p) 1 0) (effective (128 + a)) false
+look p a = lookOf (sceneOf (boardOf p) 1 0) (effective (128 + a)) false
 
 pub holds : Page → Fact → Bool
 holds p (HT n) = eqb (htOf (p .irs)) n
@@ -122,5 +117,5 @@ cases =
     ∷ []
 
 pub worked : all cases ≡ true
-unfolding all cases true-of holds run fetched page board same ones look pageCheck addressRefused countsOf bufferOf cursorOf rowStart cellAt startOf cellOf advance advanceBy toLast around sceneOf lookOf cellDots litBits cellBits lead bits xor
+unfolding all cases true-of holds run fetched page same ones look pageCheck addressRefused countsOf bufferOf cursorOf rowStart cellAt startOf cellOf advance advanceBy toLast around sceneOf lookOf cellDots litBits cellBits lead bits xor
 worked = refl

@@ -14,17 +14,19 @@ use Rattle.lists.specs.Tab.{length-tab}
 use Rattle.refusal.specs.declared.Refusal.the-variants.{Done}
 use Rattle.board.specs.declared.Page.{Page}
 use Rattle.board.specs.declared.Board.{Board}
-use Rattle.board.specs.State.{clockZero}
+use Rattle.board.specs.State.{boardOf}
 use Rattle.board.specs.Range.{memoriesRefused}
 use Rattle.timing.specs.Check.{pageCheck, stateRefused}
 use Rattle.shape.specs.Font.{Font, fontRefused}
+use Rattle.copies.specs.Put.{length-part}
 use Rattle.files.specs.Page.{wordAt, pageAt}
 use Rattle.files.specs.File.{longAt, versionRefused, lengthRefused, fileCheck, readCheck, pageRead, readPageOf, charsRead, attrsRead, headOf, fileOf, writeCheck, written}
 use Rattle.files.specs.FontFile.{fontCheck, fontIn, fontRead, fontWriteCheck, fontWritten}
-use Rattle.files.specs.Laws.{sized, length-part, FilePassed, file-passed, head-all, write-passed}
-use Rattle.files.specs.Round.{Bytes, page-again, page-kept, numbers-page}
+use Rattle.files.specs.Laws.{sized, FilePassed, file-passed, head-all, write-passed}
+use Rattle.files.specs.Round.{Bytes, page-again, page-kept}
 use Rattle.files.specs.FontRound.{font-again}
 use Rattle.feldrime.specs.Numbers.{numbersRefused}
+use Rattle.feldrime.specs.NumbersLaws.{numbers-page}
 use Rattle.feldrime.specs.Pages.{numbersRead}
 use Rattle.agreement.specs.Steps.{range-ok, call-ok, call-page}
 
@@ -36,16 +38,12 @@ length-is : (file : List ℕ) (n : ℕ) → lengthRefused file n ≡ false → l
 unfolding lengthRefused
 length-is file n e = eqb-true _ _ (not-false _ (neither (not (eqb (length file) (n + 5))) (not (eqb (longAt file 1) n)) e .1))
 
--- a page at clock 0
-abbrev pub atZero : Page → Board
-atZero p = record { page = p; place = clockZero; pointer = 0; resets = 2 }
+pub zero-ok : (p : Page) → stateRefused (boardOf p) ≡ false
+zero-ok p = range-ok (boardOf p) (record { line-lt = omega arith; clock-lt = omega arith; beam-le = omega arith; row-le = omega arith; pointer-le = omega arith })
 
-pub zero-ok : (p : Page) → stateRefused (atZero p) ≡ false
-zero-ok p = range-ok (atZero p) (record { line-lt = omega arith; clock-lt = omega arith; beam-le = omega arith; row-le = omega arith; pointer-le = omega arith })
-
-write-ok : (p : Page) (n : ℕ) → pageCheck p ≡ Done → 32797 ≤ n → writeCheck (atZero p) 16384 16384 n ≡ Done
+write-ok : (p : Page) (n : ℕ) → pageCheck p ≡ Done → 32797 ≤ n → writeCheck (boardOf p) 16384 16384 n ≡ Done
 unfolding writeCheck
-write-ok p n ok l = call-ok (atZero p) (ltb n 32797) (le-ltb n 32797 l) ok (zero-ok p)
+write-ok p n ok l = call-ok (boardOf p) (ltb n 32797) (le-ltb n 32797 l) ok (zero-ok p)
 
 -- ---- a page file, read and written again
 
@@ -82,12 +80,12 @@ module _ (file : List ℕ) (bytes : Bytes file) (size : Bool) (ok : readCheck fi
       page-again file bytes (file-length file size ok) (version-is file (passed .version-ok)) (length-is file 32792 (passed .length-ok))
 
   pub again : (chars attrs out : List ℕ) → 32797 ≤ length out
-      → (writeCheck (atZero (pageAt file 5)) (length (charsRead file size chars)) (length (attrsRead file size attrs)) (length out) ≡ Done)
-      × (written (atZero (pageAt file 5)) (charsRead file size chars) (attrsRead file size attrs) out ≡ file ++ drop 32797 out)
+      → (writeCheck (boardOf (pageAt file 5)) (length (charsRead file size chars)) (length (attrsRead file size attrs)) (length out) ≡ Done)
+      × (written (boardOf (pageAt file 5)) (charsRead file size chars) (attrsRead file size attrs) out ≡ file ++ drop 32797 out)
   unfolding charsRead attrsRead written
   again chars attrs out l = rw (chars-read-all file size ok chars, attrs-read-all file size ok attrs, fine, ok) (refl, rw same-bytes)
     where
-      fine : writeCheck (atZero (pageAt file 5)) 16384 16384 (length out) ≡ Done
+      fine : writeCheck (boardOf (pageAt file 5)) 16384 16384 (length out) ≡ Done
       fine = write-ok (pageAt file 5) (length out) (file-ok file size ok .rest-ok) l
 
   -- the write answers 0, and out begins with the file
@@ -146,7 +144,7 @@ module _ (b : Board) (irs-all : length (b .page .irs) ≡ 15) (chars attrs out :
 
   -- the file is read as that page at clock 0, and its memories are those that were written
   pub board-same : (c a file : List ℕ) → file ≡ take 32797 (written b chars attrs out)
-      → (readPageOf file false ≡ pageRead Done (atZero (b .page))) × (charsRead file false c ≡ chars) × (attrsRead file false a ≡ attrs)
+      → (readPageOf file false ≡ pageRead Done (boardOf (b .page))) × (charsRead file false c ≡ chars) × (attrsRead file false a ≡ attrs)
   unfolding readPageOf charsRead attrsRead
   board-same c a file e = rw (e ∙ file-is, read-ok) (rw page-is, chars-are, attrs-are)
 

@@ -14,7 +14,7 @@ use Rattle.files.specs.File.{readCheck, charsRead, attrsRead}
 use Rattle.files.specs.FontFile.{fontCheck, fontRead}
 use Rattle.files.specs.Round.{Bytes}
 use Rattle.feldrime.specs.declared.StepAnswer.{StepAnswer}
-use Rattle.feldrime.specs.Numbers.{boardOf}
+use Rattle.feldrime.specs.Numbers.{numbersBoard}
 use Rattle.feldrime.specs.Answers.{answerOf}
 use Rattle.feldrime.specs.Pages.{numbersCheck, pageReadSize, numbersRead, pageWriteCheck, pageWritten, boardFor}
 use Rattle.agreement.specs.Files.{file-ok, again, chars-read-all, attrs-read-all, numbers-fine, numbers-are, font-fine}
@@ -72,7 +72,7 @@ module _ (file numbers chars attrs : List ℕ)
         (font-fine fontfile (fontOf words flags unshifted shifted) font-ok)
 
     -- the hypothesis of the promises on `step`, `state_at` and `draw_line`
-    pub accepted-fits : stepCheck (boardOf numbersC) charsC attrsC fontC ≡ Done
+    pub accepted-fits : stepCheck (numbersBoard numbersC) charsC attrsC fontC ≡ Done
     accepted-fits = fit-from-c numbersC charsC attrsC (fontC .words) (fontC .flags) (fontC .unshifted) (fontC .shifted) accepted-check lent-fine
 
     begun : (boardFor numbersC .refusal ≡ 0) × (answerC 0 .refusal ≡ 0)

@@ -28,11 +28,11 @@ use Rattle.files.specs.Page.{pageAt}
 use Rattle.feldrime.specs.declared.StepAnswer.{StepAnswer}
 use Rattle.feldrime.specs.declared.BoardAnswer.{BoardAnswer}
 use Rattle.feldrime.specs.declared.Answer.{Answer}
-use Rattle.feldrime.specs.Numbers.{numbersRefused, boardOf}
+use Rattle.feldrime.specs.Numbers.{numbersRefused, numbersBoard}
 use Rattle.feldrime.specs.Answers.{answerOf, sizeAnswer, runAnswer, boardAnswer}
 use Rattle.feldrime.specs.Pages.{numbersCheck, sizeFor, runFor, boardFor}
 use Rattle.feldrime.specs.LineDraw.{lineDrawCheck, lineDrawn}
-use Rattle.feldrime.specs.Laws.{numbers-passed}
+use Rattle.feldrime.specs.NumbersLaws.{numbers-passed}
 use Rattle.feldrime.specs.Step.{numbered, stepNumbers}
 use Rattle.agreement.specs.Steps.{call-ok, call-page, after, step-answers, at-once-anywhere}
 use Rattle.agreement.specs.Files.{zero-ok}
@@ -55,7 +55,7 @@ step-taken b chars attrs f e = go (doneOf (stepCheck b chars attrs f)) refl
 module _ (numbers chars attrs words flags unshifted shifted : List ℕ) where
   -- the board that the numbers describe, and the font
   abbrev b : Board
-  b = boardOf numbers
+  b = numbersBoard numbers
 
   abbrev f : Font
   f = fontOf words flags unshifted shifted

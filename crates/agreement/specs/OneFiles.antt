@@ -1,9 +1,9 @@
--- No second answer meets the contract of a public function of `files` or `listing_lines`: it names its answer, so each of these is `only`.
+-- No second answer meets the contract of a public function of `copies`, `files` or `listing_lines`: it names its answer, so each of these is `only`.
 use Prim.Native.Nat.{ℕ}
 use mathlib.Core.Path.{_≡_}
 use mathlib.Core.Bool.{Bool}
 use mathlib.Core.List.{List}
-use lib.ListN.{length}
+use lib.ListN.{length, take, drop}
 use Rattle.lists.specs.Answer.{OneAnswer, only, only-both, only-three}
 use Rattle.refusal.specs.declared.Refusal.{Refusal}
 use Rattle.board.specs.declared.Page.{Page}
@@ -11,12 +11,22 @@ use Rattle.board.specs.declared.Board.{Board}
 use Rattle.board.specs.Range.{memoriesRefused}
 use Rattle.shape.specs.Font.{Font, fontRefused}
 use Rattle.line.specs.Line.{lentRefused}
+use Rattle.copies.specs.Put.{putAt}
 use Rattle.files.specs.declared.PageRead.{PageRead}
 use Rattle.files.specs.File.{readCheck, readPageOf, charsRead, attrsRead, writeCheck, written}
 use Rattle.files.specs.FontFile.{fontCheck, fontRead, fontWriteCheck, fontWritten}
-use Rattle.files.specs.Page.{pageAt, boardAt, numbersIn}
+use Rattle.files.specs.Page.{pageAt, boardAt}
 use Rattle.listing_lines.specs.declared.Listed.{Listed}
 use Rattle.listing_lines.specs.Listing.{listingHead, listingLine, headCheck, lineCheck, listedOf, listedIn}
+
+-- ---- `copies`
+
+-- the buffer
+pub take-from-one : (src : List ℕ) (at : ℕ) (dst : List ℕ) → OneAnswer (λ r. r ≡ take (length dst) (drop at src))
+take-from-one src at dst = only (take (length dst) (drop at src))
+
+pub put-one : (src : List ℕ) (at : ℕ) (out : List ℕ) → OneAnswer (λ r. r ≡ putAt at src out)
+put-one src at out = only (putAt at src out)
 
 -- ---- `files`
 
@@ -49,10 +59,6 @@ page-at-one bytes at = only (pageAt bytes at)
 
 pub board-at-one : (bytes : List ℕ) (at : ℕ) → OneAnswer (λ r. r ≡ boardAt bytes at)
 board-at-one bytes at = only (boardAt bytes at)
-
--- the numbers
-pub put-numbers-one : (file : List ℕ) → OneAnswer (λ r. r ≡ numbersIn file)
-put-numbers-one file = only (numbersIn file)
 
 -- ---- `listing_lines`
 

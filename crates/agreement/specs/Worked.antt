@@ -7,6 +7,7 @@ use lib.ListN.{length, replicate}
 use Rattle.refusal.specs.declared.Refusal.the-variants.{Done}
 use Rattle.raster.specs.Moves.{Inside, advanceBy, toLast}
 use Rattle.board.specs.declared.Board.{Board}
+use Rattle.board.specs.State.{boardOf}
 use Rattle.board.specs.Range.{addressRefused}
 use Rattle.timing.specs.Fields.{bufferOf, countsOf}
 use Rattle.timing.specs.Check.{pageCheck, stateRefused, callCheck}
@@ -18,7 +19,7 @@ use Rattle.files.specs.FontFile.{fontCheck, fontHead}
 use Rattle.feldrime.specs.Answers.{answerOf}
 use Rattle.feldrime.specs.Pages.{pageReadSize}
 use Rattle.shape.specs.Font.{fontRefused}
-use Rattle.agreement.specs.Cases.{page, board}
+use Rattle.agreement.specs.Cases.{page}
 use Rattle.agreement.specs.Steps.{after}
 use Rattle.agreement.specs.Frames.{every-frame}
 use Rattle.agreement.specs.Lines.{addressAt}
@@ -27,7 +28,7 @@ use Rattle.agreement.specs.FilesFromC.{answerC, accepted-steps}
 
 -- A1's page, memories and font of zeros
 pub sheet : Board
-sheet = board (page 35 80 0 16383 0 0)
+sheet = boardOf (page 35 80 0 16383 0 0)
 
 pub memory : List ℕ
 memory = replicate 16384 0
@@ -36,33 +37,33 @@ pub font : Font
 font = fontOf (replicate 1152 0) (replicate 128 0) (replicate 9 0) (replicate 9 0)
 
 pub sheet-taken : stepCheck sheet memory memory font ≡ Done
-unfolding sheet memory font board page callCheck pageCheck addressRefused stateRefused
+unfolding sheet memory font page callCheck pageCheck addressRefused stateRefused
 sheet-taken = refl
 
 -- A5, by single steps of the board: the frame that begins there is frame 1
 pub after-27234 : (after sheet memory memory font 27234 .place .line .0 ≡ 0)
     × (after sheet memory memory font 27234 .place .clock .0 ≡ 0)
     × (after sheet memory memory font 27234 .place .field ≡ 1)
-unfolding sheet board page countsOf
+unfolding sheet page countsOf
 after-27234 =
     let framed = every-frame sheet memory memory font sheet-taken 27234 in
     (framed .ends refl .0, framed .ends refl .1, framed .counted)
 
 -- 256 frames on the field counter is back at 0
 pub after-256-frames : after sheet memory memory font (256 * 27234) .place .field ≡ 0
-unfolding sheet board page countsOf
+unfolding sheet page countsOf
 after-256-frames = every-frame sheet memory memory font sheet-taken (256 * 27234) .counted
 
 -- A7, by a single step of the board: with screen start 1 below the buffer a cell outside it is fetched, so `stays-inside` asks no more than it must
 pub low : Board
-low = board (page 35 80 2048 3071 0 0)
+low = boardOf (page 35 80 2048 3071 0 0)
 
 pub low-taken : stepCheck low memory memory font ≡ Done
-unfolding low memory font board page callCheck pageCheck addressRefused stateRefused
+unfolding low memory font page callCheck pageCheck addressRefused stateRefused
 low-taken = refl
 
 pub outside : Inside (bufferOf (low .page .irs)) (addressAt low memory memory font 0 0 0) → ⊥
-unfolding low board page bufferOf advanceBy toLast
+unfolding low page bufferOf advanceBy toLast
 outside i =
     let shown = row-from-start low memory memory font low-taken 0 0 (omega arith) (omega arith) refl in
     let a : addressAt low memory memory font 0 0 0 ≡ 0 = shown .stepped 0 0 (omega arith) in
@@ -79,7 +80,7 @@ abbrev pub numbers : List ℕ
 numbers = replicate 32 0
 
 pub page-taken : answerOf (readCheck file (pageReadSize (length numbers) (length memory) (length memory))) .refusal ≡ 0
-unfolding sheet memory board page readCheck fileCheck lengthRefused longAt wordAt headOf fileOf pageAt pageCheck addressRefused
+unfolding sheet memory page readCheck fileCheck lengthRefused longAt wordAt headOf fileOf pageAt pageCheck addressRefused
 page-taken = refl
 
 pub font-taken : answerOf (fontCheck fontFile (fontRefused (fontOf (font .words) (font .flags) (font .unshifted) (font .shifted)))) .refusal ≡ 0

@@ -2,6 +2,7 @@
 use lib.ListN.{replicate}
 use Rattle.units.specs.Units.{clocks, lines, dots}
 use Rattle.raster.specs.Moves.{cell}
+use Rattle.board.specs.declared.Page.{Page}
 use Rattle.board.specs.declared.Place.{Place}
 use Rattle.board.specs.declared.Board.{Board}
 
@@ -22,3 +23,7 @@ powerOf = record {
   pointer = 0;
   resets = 0;
 }
+
+-- a page on an active board at clock 0, pointer at IR0
+abbrev pub boardOf : Page → Board
+boardOf p = record { page = p; place = clockZero; pointer = 0; resets = 2 }

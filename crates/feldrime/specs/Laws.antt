@@ -11,24 +11,15 @@ use Rattle.lists.specs.Choice.{pick, neither}
 use Rattle.refusal.specs.declared.Refusal.{Refusal}
 use Rattle.refusal.specs.declared.Refusal.the-variants.{Done, Size}
 use Rattle.refusal.specs.Number.{doneOf}
-use Rattle.refusal.specs.Laws.{passed}
 use Rattle.board.specs.Range.{memoriesRefused}
 use Rattle.timing.specs.Check.{pageCheck}
-use Rattle.files.specs.Page.{pageAt, numbersIn}
+use Rattle.files.specs.Page.{pageAt}
 use Rattle.files.specs.File.{readCheck}
 use Rattle.files.specs.Laws.{sized, FilePassed, file-passed}
 use Rattle.feldrime.specs.declared.Answer.{Answer}
-use Rattle.feldrime.specs.Numbers.{numbersRefused}
+use Rattle.feldrime.specs.Numbers.{numbersIn}
 use Rattle.feldrime.specs.Answers.{answerOf}
-use Rattle.feldrime.specs.Pages.{numbersCheck, pageReadSize, numbersRead}
-
-pub numbers-all : (numbers : List ℕ) → numbersRefused numbers ≡ false → length numbers ≡ 32
-unfolding numbersRefused
-numbers-all numbers e = eqb-true _ _ (not-false _ (neither _ _ e .0))
-
-pub numbers-passed : (numbers : List ℕ) → numbersCheck numbers ≡ Done → numbersRefused numbers ≡ false
-unfolding numbersCheck
-numbers-passed numbers e = passed (numbersRefused numbers) Size _ refl e .0
+use Rattle.feldrime.specs.Pages.{pageReadSize, numbersRead}
 
 -- a call that answers 3 where a test holds, and else what another call answers and leaves in a buffer
 module _ (t : Bool) (x : Refusal) (out₀ y : List ℕ) (a : Answer) where

@@ -3,5 +3,6 @@ pub mod Numbers
 pub mod Answers
 pub mod Pages
 pub mod LineDraw
+pub mod NumbersLaws
 pub mod Laws
 pub mod Step

@@ -6,14 +6,14 @@ use Rattle.refusal.specs.declared.Refusal.{Refusal}
 use Rattle.refusal.specs.declared.Refusal.the-variants.{Size}
 use Rattle.shape.specs.Font.{Font}
 use Rattle.line.specs.Line.{lentRefused, drawCheck, drawnOf}
-use Rattle.feldrime.specs.Numbers.{numbersRefused, boardOf}
+use Rattle.feldrime.specs.Numbers.{numbersRefused, numbersBoard}
 
 -- 3 for the numbers, then the line's own refusals
 unfoldable pub lineDrawCheck : (numbers chars attrs : List ℕ) → Font → (line room : ℕ) → Refusal
 lineDrawCheck numbers chars attrs f line room =
-    pick (numbersRefused numbers) Size (drawCheck (boardOf numbers) (lentRefused chars attrs f) line room)
+    pick (numbersRefused numbers) Size (drawCheck (numbersBoard numbers) (lentRefused chars attrs f) line room)
 
 -- the buffer afterwards, which stays where the numbers are refused
 unfoldable pub lineDrawn : (numbers chars attrs : List ℕ) → Font → (line field : ℕ) → List ℕ → List ℕ
 lineDrawn numbers chars attrs f line field out =
-    pick (numbersRefused numbers) out (drawnOf (boardOf numbers) chars attrs f line field out)
+    pick (numbersRefused numbers) out (drawnOf (numbersBoard numbers) chars attrs f line field out)

@@ -1,8 +1,8 @@
 -- A page's numbers in one buffer: the version byte, then the bytes of that version's page file between the length and the character memory, then zeros, which are ignored.
 use Prim.Native.Nat.{ℕ}
 use mathlib.Core.Bool.{Bool, _||_, not}
-use mathlib.Core.List.{List}
-use lib.ListN.{length, getD}
+use mathlib.Core.List.{List, _∷_, _++_}
+use lib.ListN.{length, getD, take, drop, replicate}
 use lib.Dec.{eqb}
 use Rattle.board.specs.declared.Board.{Board}
 use Rattle.files.specs.Page.{boardAt}
@@ -11,6 +11,10 @@ use Rattle.files.specs.Page.{boardAt}
 unfoldable pub numbersRefused : List ℕ → Bool
 numbersRefused numbers = not (eqb (length numbers) 32) || not (eqb (getD numbers 0 0) 1)
 
--- an active board at clock 0, pointer at IR0
-abbrev pub boardOf : List ℕ → Board
-boardOf numbers = boardAt numbers 1
+-- their page, on an active board at clock 0
+abbrev pub numbersBoard : List ℕ → Board
+numbersBoard numbers = boardAt numbers 1
+
+-- the numbers of a page file
+abbrev pub numbersIn : List ℕ → List ℕ
+numbersIn file = 1 ∷ (take 24 (drop 5 file) ++ replicate 7 0)

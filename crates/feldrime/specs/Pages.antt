@@ -11,12 +11,12 @@ use Rattle.board.specs.State.{powerOf}
 use Rattle.board.specs.Range.{memoriesRefused}
 use Rattle.timing.specs.Check.{pageCheck, sizeOf}
 use Rattle.fetch.specs.Run.{spanOf}
-use Rattle.files.specs.Page.{pageAt, numbersIn}
+use Rattle.files.specs.Page.{pageAt}
 use Rattle.files.specs.File.{readCheck, writeCheck, written}
 use Rattle.feldrime.specs.declared.SizeAnswer.{SizeAnswer}
 use Rattle.feldrime.specs.declared.RunAnswer.{RunAnswer}
 use Rattle.feldrime.specs.declared.BoardAnswer.{BoardAnswer}
-use Rattle.feldrime.specs.Numbers.{numbersRefused, boardOf}
+use Rattle.feldrime.specs.Numbers.{numbersRefused, numbersBoard, numbersIn}
 use Rattle.feldrime.specs.Answers.{sizeAnswer, runAnswer, boardAnswer}
 
 -- 3 for the numbers, then the page's own 12, 4, 5, 6
@@ -38,18 +38,18 @@ numbersRead file size numbers = pick (doneOf (readCheck file size)) (numbersIn f
 
 -- 3 for the numbers, then the write's own refusals
 unfoldable pub pageWriteCheck : List ℕ → (chars attrs out : ℕ) → Refusal
-pageWriteCheck numbers chars attrs out = pick (numbersRefused numbers) Size (writeCheck (boardOf numbers) chars attrs out)
+pageWriteCheck numbers chars attrs out = pick (numbersRefused numbers) Size (writeCheck (numbersBoard numbers) chars attrs out)
 
 -- the buffer afterwards, which stays where the numbers are refused
 unfoldable pub pageWritten : (numbers chars attrs out : List ℕ) → List ℕ
-pageWritten numbers chars attrs out = pick (numbersRefused numbers) out (written (boardOf numbers) chars attrs out)
+pageWritten numbers chars attrs out = pick (numbersRefused numbers) out (written (numbersBoard numbers) chars attrs out)
 
 -- a row's first run: its first address and how many cells, zeros on a refusal
 unfoldable pub runFor : (numbers chars : List ℕ) → ℕ → RunAnswer
 runFor numbers chars row =
     pick (numbersRefused numbers) (runAnswer Size 0 0)
-    (runAnswer (spanOf (boardOf numbers) chars row .refusal) (spanOf (boardOf numbers) chars row .start) (spanOf (boardOf numbers) chars row .count))
+    (runAnswer (spanOf (numbersBoard numbers) chars row .refusal) (spanOf (numbersBoard numbers) chars row .start) (spanOf (numbersBoard numbers) chars row .count))
 
 -- a refusal gives the board that power gives
 unfoldable pub boardFor : List ℕ → BoardAnswer
-boardFor numbers = boardAnswer (numbersCheck numbers) (pick (doneOf (numbersCheck numbers)) (boardOf numbers) powerOf)
+boardFor numbers = boardAnswer (numbersCheck numbers) (pick (doneOf (numbersCheck numbers)) (numbersBoard numbers) powerOf)

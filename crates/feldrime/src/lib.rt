@@ -1,19 +1,20 @@
 // What C calls. Only numbers and slices cross; every call checks what it is given, so none has a condition to meet.
 ghost use mathlib.Core.Path.{_≡_};
+ghost use Prim.Native.Nat.{_≤_};
 ghost use lib.ListN.{length};
 ghost use Rattle.lists.specs.Choice.{pick};
 ghost use lib.Dec.{eqb};
 ghost use mathlib.Core.Bool.{not};
-ghost use Rattle.units.specs.Units.{dots as width};
+ghost use Rattle.units.specs.Units.{dots};
 ghost use Rattle.board.specs.State.{powerOf};
 ghost use Rattle.registers.specs.Write.{writeOf};
 ghost use Rattle.registers.specs.Read.{readOf};
 ghost use Rattle.registers.specs.Video.{setVideoOf};
-ghost use Rattle.shape.specs.Font.{fontOf, fontRefused};
+ghost use Rattle.shape.specs.Font.{lentFont, leftFont, fontRefused};
 ghost use Rattle.clock.specs.Step.{stateOf};
 ghost use Rattle.files.specs.File.{readCheck, charsRead, attrsRead};
 ghost use Rattle.files.specs.FontFile.{fontCheck, fontRead};
-ghost use Rattle.feldrime.specs.Numbers.{numbersRefused};
+ghost use Rattle.feldrime.specs.Numbers.{numbersRefused, numbersIn};
 ghost use Rattle.feldrime.specs.Answers.{answerOf, boardAnswer, byteAnswer};
 ghost use Rattle.feldrime.specs.Pages.{numbersCheck, sizeFor, pageReadSize, numbersRead, pageWriteCheck, pageWritten, runFor, boardFor};
 ghost use Rattle.feldrime.specs.LineDraw.{lineDrawCheck, lineDrawn};
@@ -93,6 +94,18 @@ pub extern "C" fn feldrime_page_size(numbers: &[u8]) -> SizeAnswer
     }
 }
 
+// The numbers of a page file.
+fn put_numbers(file: &[u8], numbers: &mut [u8])
+    requires { ⌜ (29 ≤ length (now file)) × (length (now numbers) ≡ 32) ⌝ }
+    ensures { λ _. ⌜ now (numbers .exit) ≡ numbersIn (now (file .entry)) ⌝ }
+{
+    let version = [1u8; 1];
+    let zeros = [0u8; 7];
+    copies::put(&version, 0, numbers);
+    copies::put(&file[5..29], 1, numbers);
+    copies::put(&zeros, 25, numbers);
+}
+
 // Reads a page file: its numbers and the two memories. A refusal leaves them as they were.
 #[no_mangle]
 pub extern "C" fn feldrime_page_read(
@@ -101,17 +114,18 @@ pub extern "C" fn feldrime_page_read(
     chars: &mut [u8],
     attrs: &mut [u8],
 ) -> Answer
-    ensures { λ r. ⌜ (r ≡ answerOf (readCheck (now (file .entry)) (pageReadSize (length (now (numbers .entry))) (length (now (chars .entry))) (length (now (attrs .entry))))))
-        × (now (numbers .exit) ≡ numbersRead (now (file .entry)) (pageReadSize (length (now (numbers .entry))) (length (now (chars .entry))) (length (now (attrs .entry)))) (now (numbers .entry)))
-        × (now (chars .exit) ≡ charsRead (now (file .entry)) (pageReadSize (length (now (numbers .entry))) (length (now (chars .entry))) (length (now (attrs .entry)))) (now (chars .entry)))
-        × (now (attrs .exit) ≡ attrsRead (now (file .entry)) (pageReadSize (length (now (numbers .entry))) (length (now (chars .entry))) (length (now (attrs .entry)))) (now (attrs .entry))) ⌝ }
+    ensures { λ r. let size = pageReadSize (length (now (numbers .entry))) (length (now (chars .entry))) (length (now (attrs .entry))) in
+        ⌜ (r ≡ answerOf (readCheck (now (file .entry)) size))
+        × (now (numbers .exit) ≡ numbersRead (now (file .entry)) size (now (numbers .entry)))
+        × (now (chars .exit) ≡ charsRead (now (file .entry)) size (now (chars .entry)))
+        × (now (attrs .exit) ≡ attrsRead (now (file .entry)) size (now (attrs .entry))) ⌝ }
 {
     let size = (chars.len() != 16384) | (attrs.len() != 16384) | (numbers.len() != 32);
     let refused = files::read_check(file, size);
     let answer = answered(refused);
     if refusal::is_done(refused) {
         files::read_page(file, chars, attrs);
-        files::put_numbers(file, numbers);
+        put_numbers(file, numbers);
     }
     answer
 }
@@ -124,7 +138,8 @@ pub extern "C" fn feldrime_page_write(
     attrs: &[u8],
     out: &mut [u8],
 ) -> Answer
-    ensures { λ r. ⌜ (r ≡ answerOf (pageWriteCheck (now (numbers .entry)) (length (now (chars .entry))) (length (now (attrs .entry))) (length (now (out .entry)))))
+    ensures { λ r.
+        ⌜ (r ≡ answerOf (pageWriteCheck (now (numbers .entry)) (length (now (chars .entry))) (length (now (attrs .entry))) (length (now (out .entry)))))
         × (now (out .exit) ≡ pageWritten (now (numbers .entry)) (now (chars .entry)) (now (attrs .entry)) (now (out .entry))) ⌝ }
 {
     if numbers_refused(numbers) {
@@ -144,9 +159,9 @@ pub extern "C" fn feldrime_font_read(
     unshifted: &mut [u8],
     shifted: &mut [u8],
 ) -> Answer
-    ensures { λ r. ⌜ (r ≡ answerOf (fontCheck (now (file .entry)) (fontRefused (fontOf (now (words .entry)) (now (flags .entry)) (now (unshifted .entry)) (now (shifted .entry))))))
-        × (fontOf (now (words .exit)) (now (flags .exit)) (now (unshifted .exit)) (now (shifted .exit))
-        ≡ fontRead (now (file .entry)) (fontOf (now (words .entry)) (now (flags .entry)) (now (unshifted .entry)) (now (shifted .entry)))) ⌝ }
+    ensures { λ r. let f = lentFont words flags unshifted shifted in
+        ⌜ (r ≡ answerOf (fontCheck (now (file .entry)) (fontRefused f)))
+        × (leftFont words flags unshifted shifted ≡ fontRead (now (file .entry)) f) ⌝ }
 {
     let refused = files::read_font(file, words, flags, unshifted, shifted);
     answered(refused)
@@ -166,8 +181,9 @@ pub extern "C" fn feldrime_line_draw(
     field: u8,
     out: &mut [u8],
 ) -> Answer
-    ensures { λ r. ⌜ (r ≡ answerOf (lineDrawCheck (now (numbers .entry)) (now (chars .entry)) (now (attrs .entry)) (fontOf (now (words .entry)) (now (flags .entry)) (now (unshifted .entry)) (now (shifted .entry))) line (length (now (out .entry)))))
-        × (now (out .exit) ≡ lineDrawn (now (numbers .entry)) (now (chars .entry)) (now (attrs .entry)) (fontOf (now (words .entry)) (now (flags .entry)) (now (unshifted .entry)) (now (shifted .entry))) line field (now (out .entry))) ⌝ }
+    ensures { λ r. let f = lentFont words flags unshifted shifted in
+        ⌜ (r ≡ answerOf (lineDrawCheck (now (numbers .entry)) (now (chars .entry)) (now (attrs .entry)) f line (length (now (out .entry)))))
+        × (now (out .exit) ≡ lineDrawn (now (numbers .entry)) (now (chars .entry)) (now (attrs .entry)) f line field (now (out .entry))) ⌝ }
 {
     if numbers_refused(numbers) {
         return answered(refusal::Refusal::Size);
@@ -259,14 +275,21 @@ pub extern "C" fn feldrime_board_of(numbers: &[u8]) -> BoardAnswer
 #[no_mangle]
 pub extern "C" fn feldrime_set_video(
     b: board::Board,
-    dots: u8,
+    width: u8,
     strike: u8,
     bkgnd: u8,
     rblank: u8,
 ) -> BoardAnswer
-    ensures { λ r. ⌜ r ≡ boardAnswer (setVideoOf b (width dots) strike (not (eqb bkgnd 0)) (not (eqb rblank 0)) .refusal) (setVideoOf b (width dots) strike (not (eqb bkgnd 0)) (not (eqb rblank 0)) .board) ⌝ }
+    ensures { λ r. let s = setVideoOf b (dots width) strike (not (eqb bkgnd 0)) (not (eqb rblank 0)) in
+        ⌜ r ≡ boardAnswer (s .refusal) (s .board) ⌝ }
 {
-    let s = registers::set_video(b, units::Dots(dots as u32), strike, bkgnd != 0, rblank != 0);
+    let s = registers::set_video(
+        b,
+        units::Dots(width as u32),
+        strike,
+        bkgnd != 0,
+        rblank != 0,
+    );
     let refused = s.refusal;
     let board = s.board;
     with_board(refused, board)
@@ -274,7 +297,7 @@ pub extern "C" fn feldrime_set_video(
 
 #[no_mangle]
 pub extern "C" fn feldrime_write(b: board::Board, address: u8, byte: u8) -> BoardAnswer
-    ensures { λ r. ⌜ r ≡ boardAnswer (writeOf b address byte .refusal) (writeOf b address byte .board) ⌝ }
+    ensures { λ r. let w = writeOf b address byte in ⌜ r ≡ boardAnswer (w .refusal) (w .board) ⌝ }
 {
     let w = registers::write(b, address, byte);
     let refused = w.refusal;
@@ -291,7 +314,7 @@ pub struct ByteAnswer {
 
 #[no_mangle]
 pub extern "C" fn feldrime_read(b: board::Board, address: u8) -> ByteAnswer
-    ensures { λ r. ⌜ r ≡ byteAnswer (readOf b address .refusal) (readOf b address .byte) ⌝ }
+    ensures { λ r. let read = readOf b address in ⌜ r ≡ byteAnswer (read .refusal) (read .byte) ⌝ }
 {
     let read = registers::read(b, address);
     let refused = read.refusal;
@@ -310,7 +333,7 @@ pub extern "C" fn feldrime_state_at(
     attrs: &[u8],
     n: u32,
 ) -> BoardAnswer
-    ensures { λ r. ⌜ r ≡ boardAnswer (stateOf b (now (chars .entry)) (now (attrs .entry)) n .refusal) (stateOf b (now (chars .entry)) (now (attrs .entry)) n .board) ⌝ }
+    ensures { λ r. let s = stateOf b (now (chars .entry)) (now (attrs .entry)) n in ⌜ r ≡ boardAnswer (s .refusal) (s .board) ⌝ }
 {
     let s = clock::state_at(b, chars, attrs, n);
     let refused = s.refusal;
@@ -372,7 +395,8 @@ pub fn step_numbers(
     unshifted: &[u8],
     shifted: &[u8],
 ) -> StepBy
-    ensures { λ r. ⌜ r ≡ stepNumbers b (now (chars .entry)) (now (attrs .entry)) (now (words .entry)) (now (flags .entry)) (now (unshifted .entry)) (now (shifted .entry)) ⌝ }
+    ensures { λ r. ⌜ r ≡ stepNumbers b (now (chars .entry)) (now (attrs .entry))
+        (now (words .entry)) (now (flags .entry)) (now (unshifted .entry)) (now (shifted .entry)) ⌝ }
 {
     let s = clock::step(b, chars, attrs, words, flags, unshifted, shifted);
     let next = s.board;
@@ -393,8 +417,9 @@ pub extern "C" fn feldrime_step(
     unshifted: &[u8],
     shifted: &[u8],
 ) -> StepAnswer
-    ensures { λ r. ⌜ (r ≡ stepNumbers (now (b .entry)) (now (chars .entry)) (now (attrs .entry)) (now (words .entry)) (now (flags .entry)) (now (unshifted .entry)) (now (shifted .entry)) .answer)
-        × (now (b .exit) ≡ stepNumbers (now (b .entry)) (now (chars .entry)) (now (attrs .entry)) (now (words .entry)) (now (flags .entry)) (now (unshifted .entry)) (now (shifted .entry)) .board) ⌝ }
+    ensures { λ r. let s = stepNumbers (now (b .entry)) (now (chars .entry)) (now (attrs .entry))
+        (now (words .entry)) (now (flags .entry)) (now (unshifted .entry)) (now (shifted .entry)) in
+        ⌜ (r ≡ s .answer) × (now (b .exit) ≡ s .board) ⌝ }
 {
     let s = step_numbers(*b, chars, attrs, words, flags, unshifted, shifted);
     *b = s.board;

@@ -14,8 +14,8 @@ use Rattle.refusal.specs.Number.{doneOf}
 use Rattle.shape.specs.Font.{Font, fontOf, fontRefused, Whole}
 use Rattle.shape.specs.Laws.{font-whole}
 use Rattle.files.specs.FontFile.{wordsOf, byteOf, bytesIn, fontCheck, fontIn, fontRead, fontHead, fontFileOf, fontWriteCheck, fontWritten}
-use Rattle.files.specs.Put.{putAt, laid-none, put-on}
-use Rattle.files.specs.Laws.{sized, length-part, file-passed}
+use Rattle.copies.specs.Put.{length-part, putAt, laid-none, put-on}
+use Rattle.files.specs.Laws.{sized, file-passed}
 
 pub font-passed : (file : List ℕ) (f : Font) → fontCheck file (fontRefused f) ≡ Done → (length file ≡ 2455) × Whole f
 font-passed file f e =

@@ -13,7 +13,7 @@ use Rattle.lists.specs.Tab.{length-tab, getD-tab}
 use Rattle.files.specs.Page.{wordAt}
 use Rattle.files.specs.File.{longAt}
 use Rattle.files.specs.FontFile.{wordsOf, byteOf, bytesIn, fontIn, fontFileOf}
-use Rattle.files.specs.Laws.{length-part}
+use Rattle.copies.specs.Put.{length-part}
 use Rattle.files.specs.Round.{Bytes, word-high, word-low, word-kept, front-again}
 
 -- ---- words and their bytes

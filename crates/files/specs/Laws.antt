@@ -21,13 +21,9 @@ use Rattle.board.specs.Range.{memoriesRefused}
 use Rattle.board.specs.Laws.{memories-all}
 use Rattle.timing.specs.Check.{pageCheck}
 use Rattle.timing.specs.Laws.{call-passed}
-use Rattle.files.specs.Page.{pageAt, boardAt, numbersIn}
-use Rattle.files.specs.Put.{putAt, laid-none, put-on}
+use Rattle.files.specs.Page.{pageAt, boardAt}
+use Rattle.copies.specs.Put.{putAt, laid-none, put-on}
 use Rattle.files.specs.File.{longAt, versionRefused, lengthRefused, fileCheck, readCheck, pageRead, readPageOf, charsRead, attrsRead, bytesOf, headOf, fileOf, writeCheck, written}
-
--- a copy of all of s over a list of its length
-pub whole : (s d x : List ℕ) → length s ≡ length d → x ≡ take (length s) s ++ drop (length s) d → x ≡ s
-whole s d x l e = e ∙ rw (take-length s, l, drop-length d) (append-nil s)
 
 -- an empty file has no version
 pub no-version : (file : List ℕ) → length file ≡ 0 → true ≡ versionRefused file
@@ -38,9 +34,6 @@ no-version (x ∷ file) e = absurd (omega arith)
 pub sized : (file : List ℕ) (n : ℕ) → lengthRefused file n ≡ false → length file ≡ n + 5
 unfolding lengthRefused
 sized file n e = eqb-true _ _ (not-false _ (neither (not (eqb (length file) (n + 5))) (not (eqb (longAt file 1) n)) e .0))
-
-pub length-part : (xs : List ℕ) (a n : ℕ) → a + n ≤ length xs → length (take n (drop a xs)) ≡ n
-length-part xs a n l = length-take-le n (drop a xs) (rw (length-drop a xs) (omega arith))
 
 -- a file that 1, 2 and 3 pass
 pub record FilePassed (file : List ℕ) (n : ℕ) (size : Bool) (rest : Refusal) : Type 0 where
@@ -140,19 +133,6 @@ page-put p n chars attrs out nc na h e₁ e₂ e₃ =
     let l₁ = put-on [] (headOf p) out 0 29 (laid-none out) (head-all p n) (rw h at e₁) in
     let l₂ = put-on (headOf p) chars out 29 16384 l₁ nc e₂ in
     put-on (headOf p ++ chars) attrs out 16413 16384 l₂ na e₃ .1 ∙ rw (append-assoc (headOf p) chars attrs)
-
--- the numbers of a file, put part by part
-pub numbers-put : (file numbers : List ℕ) → 29 ≤ length file → length numbers ≡ 32 → {one two three : List ℕ}
-    → one ≡ putAt 0 (1 ∷ []) numbers → two ≡ putAt 1 (take 24 (drop 5 file)) one → three ≡ putAt 25 (replicate 7 0) two → three ≡ numbersIn file
-numbers-put file numbers l n e₁ e₂ e₃ =
-    let part = take 24 (drop 5 file) in
-    let l₁ = put-on [] (1 ∷ []) numbers 0 1 (laid-none numbers) refl e₁ in
-    let l₂ = put-on (1 ∷ []) part numbers 1 24 l₁ (length-part file 5 24 (omega (arith, l))) e₂ in
-    let l₃ = put-on ((1 ∷ []) ++ part) (replicate 7 0) numbers 25 7 l₂ refl e₃ in
-    l₃ .1 ∙ ends numbers n
-  where
-    ends : (xs : List ℕ) → length xs ≡ 32 → (((1 ∷ []) ++ take 24 (drop 5 file)) ++ replicate 7 0) ++ drop 32 xs ≡ numbersIn file
-    ends xs k = rw (sym k, drop-length xs) (append-nil _)
 
 -- a write that nothing refuses
 pub write-passed : (b : Board) (chars attrs out : ℕ) → writeCheck b chars attrs out ≡ Done

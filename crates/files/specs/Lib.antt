@@ -2,7 +2,6 @@
 pub mod Page
 pub mod File
 pub mod FontFile
-pub mod Put
 pub mod Laws
 pub mod FontLaws
 pub mod Round

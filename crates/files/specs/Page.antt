@@ -1,13 +1,13 @@
 -- 01, "Files": what a page file holds between its length and its character memory.
 use Prim.Native.Nat.{ℕ, _+_, _*_}
-use mathlib.Core.List.{List, _∷_, _++_}
-use lib.ListN.{getD, take, drop, replicate}
+use mathlib.Core.List.{List}
+use lib.ListN.{getD, take, drop}
 use Rattle.units.specs.Units.{dots}
 use Rattle.board.specs.declared.Starts.{Starts}
 use Rattle.board.specs.declared.Video.{Video}
 use Rattle.board.specs.declared.Page.{Page}
 use Rattle.board.specs.declared.Board.{Board}
-use Rattle.board.specs.State.{clockZero}
+use Rattle.board.specs.State.{boardOf}
 
 -- two bytes big-endian: the high byte first
 unfoldable pub wordAt : List ℕ → ℕ → ℕ
@@ -29,10 +29,6 @@ pageAt bytes at = record {
   video = videoOf (getD bytes (at + 22) 0) (getD bytes (at + 23) 0);
 }
 
--- a page read gives an active board at clock 0, pointer at IR0
+-- a page read gives an active board at clock 0
 abbrev pub boardAt : List ℕ → ℕ → Board
-boardAt bytes at = record { page = pageAt bytes at; place = clockZero; pointer = 0; resets = 2 }
-
--- for C: the version byte, these bytes, then zeros to 32
-abbrev pub numbersIn : List ℕ → List ℕ
-numbersIn file = 1 ∷ (take 24 (drop 5 file) ++ replicate 7 0)
+boardAt bytes at = boardOf (pageAt bytes at)

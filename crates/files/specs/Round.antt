@@ -1,7 +1,6 @@
 -- Round trip. Assumes nothing.
 --     page-again     a page file's parts, written again, are the same bytes
 --     page-kept      a page's numbers, written and read again, are that page
---     numbers-page   a file's numbers, as C has them, are its page
 use Prim.Native.Nat.{ℕ, _+_, _*_, _/_, _%_, _<_, _≤_}
 use mathlib.Core.Path.{_≡_, sym, _∙_}
 use mathlib.Core.List.{List, [], _∷_, _++_, append-assoc}
@@ -11,9 +10,8 @@ use lib.Seq.{drop-drop, take-all, take-at, drop-at, take-append-le, take-take, g
 use Rattle.lists.specs.Tab.{tab, tab-part}
 use Rattle.units.specs.Units.{dots}
 use Rattle.board.specs.declared.Page.{Page}
-use Rattle.files.specs.Page.{wordAt, pageAt, numbersIn}
+use Rattle.files.specs.Page.{wordAt, pageAt}
 use Rattle.files.specs.File.{longAt, bytesOf, headOf, fileOf}
-use Rattle.files.specs.Laws.{length-part}
 
 -- a list of bytes
 abbrev pub Bytes : List ℕ → Type 0
@@ -84,28 +82,3 @@ page-kept p rest n = λ i. record {
     both : (k : ℕ) → getD ((p .irs ++ numbers) ++ rest) (15 + k) 0 * 256 + getD ((p .irs ++ numbers) ++ rest) (15 + (k + 1)) 0
         ≡ getD (numbers ++ rest) k 0 * 256 + getD (numbers ++ rest) (k + 1) 0
     both k = rw (past k, past (k + 1))
-
--- a file's numbers, as C has them, are its page
-pub numbers-page : (file : List ℕ) → 29 ≤ length file → pageAt (numbersIn file) 1 ≡ pageAt file 5
-unfolding pageAt wordAt
-numbers-page file l = λ i. record {
-  irs = irs-same i;
-  starts = record { start1 = both 15 (omega arith) i; cursor = both 17 (omega arith) i; start2 = both 19 (omega arith) i };
-  switches = same 21 (omega arith) i;
-  video = record { dots = dots (same 22 (omega arith) i); strike = same 23 (omega arith) i };
-}
-  where
-    part : List ℕ
-    part = take 24 (drop 5 file)
-
-    all : length part ≡ 24
-    all = length-part file 5 24 (omega (arith, l))
-
-    same : (k : ℕ) → k < 24 → getD (part ++ replicate 7 0) k 0 ≡ getD file (5 + k) 0
-    same k h = List·getD-append part (replicate 7 0) 0 k (rw all h) ∙ getD-take 24 (drop 5 file) k 0 h ∙ getD-drop 5 file k 0
-
-    both : (k : ℕ) → k + 1 < 24 → getD (part ++ replicate 7 0) k 0 * 256 + getD (part ++ replicate 7 0) (k + 1) 0 ≡ getD file (5 + k) 0 * 256 + getD file (5 + (k + 1)) 0
-    both k h = rw (same k (omega (arith, h)), same (k + 1) h)
-
-    irs-same : take 15 (part ++ replicate 7 0) ≡ take 15 (drop 5 file)
-    irs-same = take-append-le 15 part (replicate 7 0) (omega (arith, all)) ∙ take-take 15 24 (drop 5 file) (omega arith)

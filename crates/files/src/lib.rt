@@ -3,14 +3,14 @@ ghost use mathlib.Core.Path.{_≡_};
 ghost use Prim.Native.Nat.{_+_, _*_, _/_, _%_, _≤_};
 ghost use mathlib.Core.List.{_++_};
 ghost use lib.ListN.{length, take, drop};
-ghost use Rattle.files.specs.Page.{wordAt, startsAt, videoOf, pageAt, boardAt, numbersIn};
+ghost use Rattle.files.specs.Page.{wordAt, startsAt, videoOf, pageAt, boardAt};
 ghost use Rattle.files.specs.File.{longAt, versionRefused, lengthRefused, fileCheck, readCheck, readPageOf, charsRead, attrsRead, headOf, fileOf, writeCheck, written};
 ghost use Rattle.files.specs.FontFile.{wordsOf, byteOf, bytesIn, fontCheck, fontRead, fontFileOf, fontWriteCheck, fontWritten};
-ghost use Rattle.files.specs.Put.{putAt};
+ghost use Rattle.copies.specs.Put.{putAt};
 ghost use Rattle.board.specs.Range.{memoriesRefused};
 ghost use Rattle.lists.specs.Tab.{tab};
 ghost use Rattle.refusal.specs.declared.Refusal.{Refusal};
-ghost use Rattle.shape.specs.Font.{fontOf, fontRefused, Whole};
+ghost use Rattle.shape.specs.Font.{fontNow, lentFont, leftFont, fontRefused, Whole};
 
 pub struct PageRead {
     pub refusal: refusal::Refusal,
@@ -131,23 +131,6 @@ fn length_refused(file: &[u8], n: u32) -> bool
     long_at(file, 1) != n
 }
 
-// All of src into dst, which is as long.
-fn copy_all(src: &[u8], dst: &mut [u8])
-    requires { ⌜ length (now src) ≡ length (now dst) ⌝ }
-    ensures { λ _. ⌜ now (dst .exit) ≡ now (src .entry) ⌝ }
-{
-    bytes::copy(src, dst);
-}
-
-// As many bytes of src as dst has room for, from a place on.
-fn take_from(src: &[u8], at: usize, dst: &mut [u8])
-    requires { ⌜ at + length (now dst) ≤ length (now src) ⌝ }
-    ensures { λ _. ⌜ now (dst .exit) ≡ take (length (now (dst .entry))) (drop at (now (src .entry))) ⌝ }
-{
-    let end = at + dst.len();
-    copy_all(&src[at..end], dst);
-}
-
 // 1, 2, 3, where n bytes follow the length.
 fn file_check(file: &[u8], n: u32, size: bool) -> refusal::Refusal
     requires { ⌜ n ≤ 65536 ⌝ }
@@ -178,15 +161,16 @@ pub fn read_check(file: &[u8], size: bool) -> refusal::Refusal
 
 // Reads a page file into the two memories. A refusal leaves both as they were.
 pub fn read_page(file: &[u8], chars: &mut [u8], attrs: &mut [u8]) -> PageRead
-    ensures { λ r. ⌜ (r ≡ readPageOf (now (file .entry)) (memoriesRefused (length (now (chars .entry))) (length (now (attrs .entry)))))
-        × (now (chars .exit) ≡ charsRead (now (file .entry)) (memoriesRefused (length (now (chars .entry))) (length (now (attrs .entry)))) (now (chars .entry)))
-        × (now (attrs .exit) ≡ attrsRead (now (file .entry)) (memoriesRefused (length (now (chars .entry))) (length (now (attrs .entry)))) (now (attrs .entry))) ⌝ }
+    ensures { λ r. let size = memoriesRefused (length (now (chars .entry))) (length (now (attrs .entry))) in
+        ⌜ (r ≡ readPageOf (now (file .entry)) size)
+        × (now (chars .exit) ≡ charsRead (now (file .entry)) size (now (chars .entry)))
+        × (now (attrs .exit) ≡ attrsRead (now (file .entry)) size (now (attrs .entry))) ⌝ }
 {
     let size = (chars.len() != 16384) | (attrs.len() != 16384);
     let answer = read_check(file, size);
     if refusal::is_done(answer) {
-        take_from(file, 29, chars);
-        take_from(file, 16413, attrs);
+        copies::take_from(file, 29, chars);
+        copies::take_from(file, 16413, attrs);
         return PageRead {
             refusal: answer,
             board: board_at(file, 5),
@@ -250,36 +234,16 @@ fn head_of(p: board::Page) -> [u8; 29]
     ]
 }
 
-// All of src into out, from a place on.
-fn put(src: &[u8], at: usize, out: &mut [u8])
-    requires { ⌜ at + length (now src) ≤ length (now out) ⌝ }
-    ensures { λ _. ⌜ now (out .exit) ≡ putAt at (now (src .entry)) (now (out .entry)) ⌝ }
-{
-    let end = at + src.len();
-    copy_all(src, &mut out[at..end]);
-}
-
 // A page's file into the front of out; bytes beyond it stay.
 fn put_file(p: board::Page, chars: &[u8], attrs: &[u8], out: &mut [u8])
-    requires { ⌜ (p .video .dots .0 ≤ 12) × (length (now chars) ≡ 16384) × (length (now attrs) ≡ 16384) × (32797 ≤ length (now out)) ⌝ }
+    requires { ⌜ (p .video .dots .0 ≤ 12)
+        × (length (now chars) ≡ 16384) × (length (now attrs) ≡ 16384) × (32797 ≤ length (now out)) ⌝ }
     ensures { λ _. ⌜ now (out .exit) ≡ fileOf p (now (chars .entry)) (now (attrs .entry)) ++ drop 32797 (now (out .entry)) ⌝ }
 {
     let head = head_of(p);
-    put(&head, 0, out);
-    put(chars, 29, out);
-    put(attrs, 16413, out);
-}
-
-// The numbers of a page file, as C has them.
-pub fn put_numbers(file: &[u8], numbers: &mut [u8])
-    requires { ⌜ (29 ≤ length (now file)) × (length (now numbers) ≡ 32) ⌝ }
-    ensures { λ _. ⌜ now (numbers .exit) ≡ numbersIn (now (file .entry)) ⌝ }
-{
-    let version = [1u8; 1];
-    let zeros = [0u8; 7];
-    put(&version, 0, numbers);
-    put(&file[5..29], 1, numbers);
-    put(&zeros, 25, numbers);
+    copies::put(&head, 0, out);
+    copies::put(chars, 29, out);
+    copies::put(attrs, 16413, out);
 }
 
 // 3, 12, 4, 5, 6, 7.
@@ -346,17 +310,17 @@ pub fn read_font(
     unshifted: &mut [u8],
     shifted: &mut [u8],
 ) -> refusal::Refusal
-    ensures { λ r. ⌜ (r ≡ fontCheck (now (file .entry)) (fontRefused (fontOf (now (words .entry)) (now (flags .entry)) (now (unshifted .entry)) (now (shifted .entry)))))
-        × (fontOf (now (words .exit)) (now (flags .exit)) (now (unshifted .exit)) (now (shifted .exit))
-        ≡ fontRead (now (file .entry)) (fontOf (now (words .entry)) (now (flags .entry)) (now (unshifted .entry)) (now (shifted .entry)))) ⌝ }
+    ensures { λ r. let f = lentFont words flags unshifted shifted in
+        ⌜ (r ≡ fontCheck (now (file .entry)) (fontRefused f))
+        × (leftFont words flags unshifted shifted ≡ fontRead (now (file .entry)) f) ⌝ }
 {
     let size = shape::font_refused(words, flags, unshifted, shifted);
     let refused = file_check(file, 2450, size);
     if refusal::is_done(refused) {
         read_words(&file[5..2309], words);
-        take_from(file, 2309, flags);
-        take_from(file, 2437, unshifted);
-        take_from(file, 2446, shifted);
+        copies::take_from(file, 2309, flags);
+        copies::take_from(file, 2437, unshifted);
+        copies::take_from(file, 2446, shifted);
     }
     refused
 }
@@ -372,15 +336,15 @@ fn put_words(words: &[u16], at: usize, out: &mut [u8])
 
 // A font's file into the front of out; bytes beyond it stay.
 fn put_font(words: &[u16], flags: &[u8], unshifted: &[u8], shifted: &[u8], out: &mut [u8])
-    requires { ⌜ (Whole (fontOf (now words) (now flags) (now unshifted) (now shifted))) × (2455 ≤ length (now out)) ⌝ }
-    ensures { λ _. ⌜ now (out .exit) ≡ fontFileOf (fontOf (now (words .entry)) (now (flags .entry)) (now (unshifted .entry)) (now (shifted .entry))) ++ drop 2455 (now (out .entry)) ⌝ }
+    requires { ⌜ Whole (fontNow words flags unshifted shifted) × (2455 ≤ length (now out)) ⌝ }
+    ensures { λ _. ⌜ now (out .exit) ≡ fontFileOf (lentFont words flags unshifted shifted) ++ drop 2455 (now (out .entry)) ⌝ }
 {
     let head = [1, 0, 0, 9, 146];
-    put(&head, 0, out);
+    copies::put(&head, 0, out);
     put_words(words, 5, out);
-    put(flags, 2309, out);
-    put(unshifted, 2437, out);
-    put(shifted, 2446, out);
+    copies::put(flags, 2309, out);
+    copies::put(unshifted, 2437, out);
+    copies::put(shifted, 2446, out);
 }
 
 // Writes a font as a font file. A refusal leaves out as it was.
@@ -391,8 +355,8 @@ pub fn write_font(
     shifted: &[u8],
     out: &mut [u8],
 ) -> refusal::Refusal
-    ensures { λ r. ⌜ (r ≡ fontWriteCheck (fontOf (now (words .entry)) (now (flags .entry)) (now (unshifted .entry)) (now (shifted .entry))) (length (now (out .entry))))
-        × (now (out .exit) ≡ fontWritten (fontOf (now (words .entry)) (now (flags .entry)) (now (unshifted .entry)) (now (shifted .entry))) (now (out .entry))) ⌝ }
+    ensures { λ r. let f = lentFont words flags unshifted shifted in
+        ⌜ (r ≡ fontWriteCheck f (length (now (out .entry)))) × (now (out .exit) ≡ fontWritten f (now (out .entry))) ⌝ }
 {
     if shape::font_refused(words, flags, unshifted, shifted) | (out.len() < 2455) {
         return refusal::Refusal::Size;

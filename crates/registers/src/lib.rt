@@ -1,11 +1,12 @@
 // The register calls: what the processor writes and reads (003 Tables 1, 4 and 6), and the board's own video setting.
 ghost use mathlib.Core.Path.{_≡_};
 ghost use mathlib.Core.List.{[], _∷_};
-ghost use Prim.Native.Nat.{_≤_, _-_, _+_};
+ghost use Prim.Native.Nat.{max, _≤_, _-_, _+_};
 ghost use Rattle.lists.specs.Choice.{pick, firstOf};
 ghost use Rattle.refusal.specs.declared.Refusal.{Refusal};
 ghost use Rattle.registers.specs.Write.{registerCheck, brokenOf, resetOf, pointedOf, nextPointer, loadedOf, lowerOf, upperOf, startsAfter, startedOf, switchesAfter, switchedOf, commandOf, activeOf, inactiveOf, writeOf};
-ghost use Rattle.registers.specs.Read.{shownAt, readOf};
+ghost use Rattle.registers.specs.Read.{shownAt, readAt, readOf};
+ghost use Rattle.registers.specs.Parts.{answer, byteRead};
 ghost use Rattle.registers.specs.Video.{videoCheck, videoSet, setVideoOf};
 
 pub struct Written {
@@ -39,7 +40,7 @@ fn register_check(b: board::Board) -> refusal::Refusal
 }
 
 fn choose(t: bool, a: u8, b: u8) -> u8
-    ensures { λ r. ⌜ r ≡ pick t a b ⌝ }
+    ensures { λ r. ⌜ (r ≡ pick t a b) × (r ≤ max a b) ⌝ }
 {
     if t { a } else { b }
 }
@@ -154,20 +155,12 @@ fn started(b: board::Board, a: u8, v: u8) -> board::Board
     n
 }
 
-// A switch after a command byte that names it, or does not.
-fn switch_after(named: bool, on: u8, old: u8) -> u8
-    requires { ⌜ (on ≤ 1) × (old ≤ 1) ⌝ }
-    ensures { λ r. ⌜ (r ≡ pick named on old) × (r ≤ 1) ⌝ }
-{
-    if named { on } else { old }
-}
-
 // Bit 3 names the display, bit 4 the cursor; bit 0 says on.
 fn switches_after(s: u8, v: u8) -> u8
     ensures { λ r. ⌜ r ≡ switchesAfter s v ⌝ }
 {
-    let cursor = switch_after(v / 16 % 2 == 1, v % 2, s / 2 % 2);
-    let display = switch_after(v / 8 % 2 == 1, v % 2, s % 2);
+    let cursor = choose(v / 16 % 2 == 1, v % 2, s / 2 % 2);
+    let display = choose(v / 8 % 2 == 1, v % 2, s % 2);
     s / 4 * 4 + 2 * cursor + display
 }
 
@@ -181,7 +174,7 @@ fn switched(b: board::Board, v: u8) -> board::Board
 }
 
 fn done(b: board::Board) -> Written
-    ensures { λ r. ⌜ r ≡ record { refusal = Refusal.Done; board = b } ⌝ }
+    ensures { λ r. ⌜ r ≡ answer Refusal.Done b ⌝ }
 {
     Written {
         refusal: refusal::Refusal::Done,
@@ -264,6 +257,7 @@ pub fn write(b: board::Board, a: u8, v: u8) -> Written
     }
 }
 
+// What addresses 2 to 7 show: lower, then upper.
 fn shown_at(s: board::Starts, a: u8) -> u8
     ensures { λ r. ⌜ r ≡ shownAt s a ⌝ }
 {
@@ -273,8 +267,30 @@ fn shown_at(s: board::Starts, a: u8) -> u8
         4 => (s.cursor % 256) as u8,
         5 => (s.cursor / 256 % 64) as u8,
         6 => (s.start2 % 256) as u8,
-        7 => (s.start2 / 256 % 64) as u8,
-        _ => 0,
+        _ => (s.start2 / 256 % 64) as u8,
+    }
+}
+
+fn byte_read(v: u8) -> ByteRead
+    ensures { λ r. ⌜ r ≡ byteRead Refusal.Done v ⌝ }
+{
+    ByteRead {
+        refusal: refusal::Refusal::Done,
+        byte: v,
+    }
+}
+
+// The register address of a read.
+fn read_at(s: board::Starts, a: u8) -> ByteRead
+    ensures { λ r. ⌜ r ≡ readAt s a ⌝ }
+{
+    match a {
+        0..=1 => byte_read(0),
+        2..=7 => byte_read(shown_at(s, a)),
+        _ => ByteRead {
+            refusal: refusal::Refusal::Register,
+            byte: 0,
+        },
     }
 }
 
@@ -284,17 +300,8 @@ pub fn read(b: board::Board, a: u8) -> ByteRead
 {
     let refused = register_check(b);
     if refusal::is_done(refused) {
-        if 7 < a {
-            return ByteRead {
-                refusal: refusal::Refusal::Register,
-                byte: 0,
-            };
-        }
         let s = b.page.starts;
-        return ByteRead {
-            refusal: refused,
-            byte: shown_at(s, a),
-        };
+        return read_at(s, a);
     }
     ByteRead {
         refusal: refused,
@@ -314,12 +321,6 @@ fn video_check(s: board::Starts, switches: u8, dots: units::Dots, strike: u8) ->
     refusal::Refusal::Done
 }
 
-fn weight(on: bool, n: u8) -> u8
-    ensures { λ r. ⌜ (r ≡ pick on n 0) × (r ≤ n) ⌝ }
-{
-    if on { n } else { 0 }
-}
-
 fn with_video(
     b: board::Board,
     dots: units::Dots,
@@ -329,8 +330,8 @@ fn with_video(
 ) -> board::Board
     ensures { λ r. ⌜ r ≡ videoSet b dots strike bkgnd rblank ⌝ }
 {
-    let background = weight(bkgnd, 4);
-    let retrace = weight(rblank, 8);
+    let background = choose(bkgnd, 4, 0);
+    let retrace = choose(rblank, 8, 0);
     let switches = b.page.switches % 4 + background + retrace;
     let video = board::Video {
         dots: dots,

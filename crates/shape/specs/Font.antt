@@ -5,6 +5,8 @@ use mathlib.Core.Bool.{Bool, _||_, not}
 use mathlib.Core.List.{List, [], _∷_}
 use lib.ListN.{length, getD}
 use lib.Dec.{eqb, ltb}
+use denote.Ref.{RefT, now}
+use denote.Triple.Both.{Both}
 use Rattle.lists.specs.Choice.{pick}
 
 -- 128 characters by nine words, a shift flag for each character, and two lists of nine line numbers
@@ -16,6 +18,16 @@ pub record Font : Type 0 where
 
 abbrev pub fontOf : List ℕ → List ℕ → List ℕ → List ℕ → Font
 fontOf words flags unshifted shifted = record { words = words; flags = flags; unshifted = unshifted; shifted = shifted }
+
+-- for a contract, over the names of the four lent parts: the font where a call is made (in a requires), as it was lent, and as it is left
+abbrev pub fontNow : (words flags unshifted shifted : RefT (List ℕ)) → Font
+fontNow w f u s = fontOf (now w) (now f) (now u) (now s)
+
+abbrev pub lentFont : {A B C D : Type 0} → Both (RefT (List ℕ)) A → Both (RefT (List ℕ)) B → Both (RefT (List ℕ)) C → Both (RefT (List ℕ)) D → Font
+lentFont w f u s = fontNow (w .entry) (f .entry) (u .entry) (s .entry)
+
+abbrev pub leftFont : {A B C D : Type 0} → Both A (RefT (List ℕ)) → Both B (RefT (List ℕ)) → Both C (RefT (List ℕ)) → Both D (RefT (List ℕ)) → Font
+leftFont w f u s = fontNow (w .exit) (f .exit) (u .exit) (s .exit)
 
 pub record Whole (f : Font) : Type 0 where
   pub words-all : length (f .words) ≡ 1152

@@ -2,7 +2,8 @@ use mathlib.Core.Path.{sym, _∙_}
 use native.Mathlib.Omega.{arith}
 use borrow.Author.Needs.{needs}
 use Rattle.feldrime.specs.Pages.{pageWriteCheck, pageWritten}
-use Rattle.feldrime.specs.Laws.{numbers-all, three, taken}
+use Rattle.feldrime.specs.NumbersLaws.{numbers-all}
+use Rattle.feldrime.specs.Laws.{three, taken}
 use Rattle.feldrime.proofs.feldrime_page_write.Statement.{statement}
 use Rattle.feldrime.proofs.feldrime_page_write.Tie as tie
 

@@ -3,7 +3,7 @@ use native.Mathlib.Omega.{arith}
 use borrow.Author.Needs.{needs}
 use Rattle.lists.specs.Choice.{stop, pass}
 use Rattle.feldrime.specs.Pages.{runFor}
-use Rattle.feldrime.specs.Laws.{numbers-all}
+use Rattle.feldrime.specs.NumbersLaws.{numbers-all}
 use Rattle.feldrime.proofs.feldrime_row_run.Statement.{statement}
 use Rattle.feldrime.proofs.feldrime_row_run.Tie as tie
 

@@ -3,7 +3,7 @@ use native.Mathlib.Omega.{arith}
 use borrow.Author.Needs.{needs}
 use Rattle.lists.specs.Choice.{stop, pass}
 use Rattle.feldrime.specs.Pages.{numbersCheck}
-use Rattle.feldrime.specs.Laws.{numbers-all}
+use Rattle.feldrime.specs.NumbersLaws.{numbers-all}
 use Rattle.feldrime.proofs.numbers_check.Statement.{statement}
 use Rattle.feldrime.proofs.numbers_check.Tie as tie
 

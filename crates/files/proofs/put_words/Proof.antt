@@ -2,7 +2,7 @@ use mathlib.Core.Path.{_∙_}
 use borrow.Author.Needs.{needs}
 use Rattle.lists.specs.Tab.{length-tab}
 use Rattle.files.specs.FontFile.{bytesIn}
-use Rattle.files.specs.Put.{put-back}
+use Rattle.copies.specs.Put.{put-back}
 use Rattle.files.specs.FontLaws.{words-put}
 use Rattle.files.proofs.put_words.Statement.{statement}
 use Rattle.files.proofs.put_words.Tie as tie

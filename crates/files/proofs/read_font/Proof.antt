@@ -5,7 +5,7 @@ use lib.ListN.{length}
 use Rattle.refusal.specs.Laws.{done-is, checked}
 use Rattle.shape.specs.Font.{Font, fontOf, fontRefused, Whole}
 use Rattle.files.specs.FontFile.{fontCheck}
-use Rattle.files.specs.Laws.{length-part}
+use Rattle.copies.specs.Put.{length-part}
 use Rattle.files.specs.FontLaws.{font-passed, font-done, font-kept}
 use Rattle.files.proofs.read_font.Statement.{statement}
 use Rattle.files.proofs.read_font.Tie as tie

@@ -1,9 +1,8 @@
-use mathlib.Core.Path.{ap, ap₂, refl, _∙_}
-use borrow.Author.Tests.{lt-ltb, le-ltb}
+use mathlib.Core.Path.{ap}
 use borrow.Author.Needs.{needs}
 use Rattle.lists.specs.Choice.{stop, pass}
 use Rattle.refusal.specs.declared.Refusal.{Refusal}
-use Rattle.refusal.specs.Laws.{checked, done-is}
+use Rattle.refusal.specs.Laws.{checked}
 use Rattle.registers.specs.Parts.{byteRead}
 use Rattle.registers.specs.Read.{readOf}
 use Rattle.registers.proofs.read.Statement.{statement}
@@ -12,31 +11,14 @@ use Rattle.registers.proofs.read.Tie as tie
 returns : tie.Need-returns
 unfolding readOf
 returns c =
-    let then = c .before in
-    stop _ (checked (then .before .before .register-check .ensures) (then .before .is-done .ensures) (then .if1 .taken))
-    (stop _ (lt-ltb _ _ (c .if2 .taken)) refl)
+    let then = c .before .before in
+    stop _ (checked (then .before .before .register-check .ensures) (then .before .is-done .ensures) (then .if1 .taken)) (c .read-at .ensures)
 
 returns-2 : tie.Need-returns-2
 unfolding readOf
 returns-2 c =
-    let then = c .before .before .before in
-    let check = then .before .before .register-check .ensures in
-    let ok = checked check (then .before .is-done .ensures) (then .if1 .taken) in
-    stop _ ok (pass _ (le-ltb _ _ (c .before .before .if2 .left)) (ap₂ byteRead (check ∙ done-is _ ok) (c .shown-at .ensures)))
-
-returns-3 : tie.Need-returns-3
-unfolding readOf
-returns-3 c =
     let check = c .before .before .register-check .ensures in
     pass _ (checked check (c .before .is-done .ensures) (c .if1 .left)) (ap (λ (r : Refusal). byteRead r 0) check)
 
 pub read-spec : {M : Type 1} → statement M
-read-spec =
-    tie.close
-    (tie.spec
-    (λ c κs. search needs)
-    (λ c κs. search needs)
-    returns
-    (λ c κs. search needs)
-    returns-2
-    returns-3)
+read-spec = tie.close (tie.spec (λ c κs. search needs) (λ c κs. search needs) (λ c κs. search needs) returns returns-2)

@@ -26,14 +26,9 @@ returns-5 c = simp (c .before .match .keys5)
 
 returns-6 : tie.Need-returns-6
 unfolding shownAt
-returns-6 c = simp (c .before .match .keys6)
-
-returns-7 : tie.Need-returns-7
-unfolding shownAt
-returns-7 c =
-    let r = c .match .rest in
-    simp
-    (ne-eqb _ _ (r .0 .0 .0 .0 .0 .1), ne-eqb _ _ (r .0 .0 .0 .0 .1), ne-eqb _ _ (r .0 .0 .0 .1), ne-eqb _ _ (r .0 .0 .1), ne-eqb _ _ (r .0 .1), ne-eqb _ _ (r .1))
+returns-6 c =
+    let r = c .before .match .rest in
+    simp (ne-eqb _ _ (r .0 .0 .0 .0 .1), ne-eqb _ _ (r .0 .0 .0 .1), ne-eqb _ _ (r .0 .0 .1), ne-eqb _ _ (r .0 .1), ne-eqb _ _ (r .1))
 
 pub shown-at-spec : {M : Type 1} → statement M
 shown-at-spec =
@@ -50,5 +45,4 @@ shown-at-spec =
     returns-3
     returns-4
     returns-5
-    returns-6
-    returns-7)
+    returns-6)

@@ -1,14 +1,22 @@
--- Parts put into a buffer one after the other. Assumes nothing.
+-- Parts taken out of a buffer, and parts put into one, one after the other. Assumes nothing.
+--     whole          a copy over a list of the same length
+--     length-part    a part that lies inside has its length
 --     putAt          a part put at a place
 --     put-back       a lent stretch that came back is such a part
 --     Laid           what stands at the front so far
 --     put-on         one part more, behind it
-use Prim.Native.Nat.{ℕ, _+_, _-_}
+use Prim.Native.Nat.{ℕ, _+_, _-_, _≤_}
 use mathlib.Core.Path.{_≡_, refl, sym, _∙_}
-use mathlib.Core.List.{List, [], _++_, append-assoc}
+use mathlib.Core.List.{List, [], _++_, append-nil, append-assoc}
 use native.Mathlib.Omega.{arith}
-use lib.ListN.{length, take, drop, length-append}
-use lib.Seq.{take-at, drop-at, drop-drop}
+use lib.ListN.{length, take, drop, length-drop, length-append}
+use lib.Seq.{take-at, drop-at, drop-drop, take-length, drop-length, length-take-le}
+
+pub whole : (s d x : List ℕ) → length s ≡ length d → x ≡ take (length s) s ++ drop (length s) d → x ≡ s
+whole s d x l e = e ∙ rw (take-length s, l, drop-length d) (append-nil s)
+
+pub length-part : (xs : List ℕ) (a n : ℕ) → a + n ≤ length xs → length (take n (drop a xs)) ≡ n
+length-part xs a n l = length-take-le n (drop a xs) (rw (length-drop a xs) (omega arith))
 
 -- all of part over what stands from a place on; the rest stays
 abbrev pub putAt : (at : ℕ) (part out : List ℕ) → List ℕ

@@ -1,8 +1,8 @@
 use mathlib.Core.Path.{refl}
 use borrow.Author.Needs.{needs}
-use Rattle.files.specs.Put.{put-back}
-use Rattle.files.proofs.put.Statement.{statement}
-use Rattle.files.proofs.put.Tie as tie
+use Rattle.copies.specs.Put.{put-back}
+use Rattle.copies.proofs.put.Statement.{statement}
+use Rattle.copies.proofs.put.Tie as tie
 
 returns : tie.Need-returns
 returns c =

@@ -1,7 +1,7 @@
 use borrow.Author.Needs.{needs}
-use Rattle.files.specs.Laws.{numbers-put}
-use Rattle.files.proofs.put_numbers.Statement.{statement}
-use Rattle.files.proofs.put_numbers.Tie as tie
+use Rattle.feldrime.specs.NumbersLaws.{numbers-put}
+use Rattle.feldrime.proofs.put_numbers.Statement.{statement}
+use Rattle.feldrime.proofs.put_numbers.Tie as tie
 
 returns : tie.Need-returns
 returns c =

@@ -1,7 +1,7 @@
 use borrow.Author.Needs.{needs}
-use Rattle.files.specs.Laws.{whole}
-use Rattle.files.proofs.copy_all.Statement.{statement}
-use Rattle.files.proofs.copy_all.Tie as tie
+use Rattle.copies.specs.Put.{whole}
+use Rattle.copies.proofs.copy_all.Statement.{statement}
+use Rattle.copies.proofs.copy_all.Tie as tie
 
 returns : tie.Need-returns
 returns c = whole _ _ _ (c .before .before .before .before .before .before .pre) (c .before .before .copy .ensures .1)

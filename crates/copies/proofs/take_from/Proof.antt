@@ -3,8 +3,8 @@ use mathlib.Core.Path.{_≡_, _∙_}
 use native.Mathlib.Omega.{arith}
 use borrow.Author.Needs.{needs}
 use lib.ListN.{length}
-use Rattle.files.proofs.take_from.Statement.{statement}
-use Rattle.files.proofs.take_from.Tie as tie
+use Rattle.copies.proofs.take_from.Statement.{statement}
+use Rattle.copies.proofs.take_from.Tie as tie
 
 returns : tie.Need-returns
 returns c =

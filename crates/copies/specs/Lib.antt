@@ -1,0 +1,2 @@
+-- Bytes copied from one buffer into another.
+pub mod Put

@@ -1,0 +1,96 @@
+"""Reads docs/PROMISES.md and says which cited names are missing from the tree, each with its line. Run by tests/names.
+
+A cited name stands in backquotes: a definition or theorem, a function, a type, a wrong program, a crate, a file, a script of tests/compare.
+Words like Fields or pageCheck behind a crate's name are spec files and definitions of that crate; one like pageCheck is a definition wherever it stands.
+
+Every public function is there too. One with a `requires` is listed as internal. Any other has a law that it has one answer, in the row of the
+table of calls or, where it is only listed, by its own name (draw_line: draw-line-one); or a paragraph that begins with its name says why not."""
+import re
+import sys
+from pathlib import Path
+
+PAGE = Path('docs/PROMISES.md')
+WORDS = {'requires', 'specs', 'refused N'}  # in backquotes, and no names of ours
+text = PAGE.read_text()
+lines = text.splitlines()
+missing = []
+
+
+def found(pattern, *globs):  # what a pattern finds in files: pairs of crate (or folder) and name
+    return {(p.parts[1], m) for g in globs for p in Path('.').glob(g) for m in re.findall(pattern, p.read_text(), re.M)}
+
+
+SPEC = r'^ *(?:(?:abbrev|unfoldable) )?(?:pub )?(?:record |data )?([^\s(){}:]+)(?: [^:=\n]*)? :'
+defined = found(SPEC, 'crates/*/specs/*.antt')
+functions = found(r'\bfn (\w+)', 'crates/*/src/*.rt')
+types = found(r'\b(?:struct|enum) (\w+)', 'crates/*/src/*.rt')
+modules = {(p.parts[1], p.stem) for p in Path('.').glob('crates/*/specs/*.antt')}
+crates = {p.name for p in Path('crates').iterdir()}
+edits = {p.stem for p in Path('.').glob('crates/*/must-fail/*.edit')}
+literals = {m for _, m in found(r'"([\w{}-]+)"', 'tests/independent/src/*.rs') if not m.startswith('{')}
+literals |= set(re.findall(r'`([\w-]+)`', Path('tests/SCRIPTS.md').read_text()))
+laws = {name for crate, name in defined if crate == 'agreement'}
+anywhere = {name for _, name in defined | functions | types | modules} | crates | edits
+
+
+def script(name):  # a script's name, or several by a star; a number in it is made by the program
+    pieces = name.rstrip('*').rstrip('-').split('-')
+    for literal in literals:
+        parts = [re.escape(x).replace(r'\{\}', r'\w+') for x in literal.split('-')]
+        fits = len(parts) == len(pieces) or (name.endswith('*') and len(parts) > len(pieces))
+        if fits and all(re.fullmatch(p, x) for p, x in zip(parts, pieces)):
+            return True
+    kind = re.fullmatch(r'(.+)-\d+', name)
+    return bool(kind) and kind.group(1) in literals
+
+
+def there(name):
+    if '::' in name:
+        return tuple(name.removesuffix('()').split('::')) in functions
+    path = name.split(' ')[0].replace('NAME', '*')
+    return name in WORDS | anywhere or script(name) or any(Path('.').glob(path)) or any(Path('tests').glob('**/' + path))
+
+
+for number, line in enumerate(lines, 1):
+    for name in re.findall('`([^`]+)`', line):
+        if not there(name):
+            missing.append((number, name))
+    for crate, words in re.findall(r'`(\w+)` ((?:(?:[A-Z]\w*|[a-z]+[A-Z]\w*)(?:, )?)+)', line):
+        for word in re.findall(r'\w+', words):
+            if crate in crates and (crate, word) not in modules | defined:
+                missing.append((number, f'{crate} {word}'))
+    for name in re.findall(r'(?<![\w`:-])[a-z]+[A-Z]\w*', line):
+        if name not in anywhere:
+            missing.append((number, name))
+
+# ---- the public functions
+
+rows = {}  # the first cell of a table's row: its line
+for number, line in enumerate(lines, 1):
+    if cell := re.match(r'\| `([\w:]+)(?:\(\))?` \|', line):
+        rows[cell.group(1)] = number
+paragraphs = re.split(r'\n\s*\n', text)
+internal = ' '.join(p for p in paragraphs if p.startswith('Internal'))
+
+for path in sorted(Path('.').glob('crates/*/src/*.rt')):
+    crate = path.parts[1]
+    if crate == 'agreement':  # its functions are the promises themselves
+        continue
+    for name, contract in re.findall(r'^pub (?:extern "C" )?fn (\w+)(.*?)^\{', path.read_text(), re.M | re.S):
+        full = f'{crate}::{name}'
+        row = rows.get(full) or rows.get(name)
+        if re.search(r'^    requires', contract, re.M):
+            if f'`{full}`' not in internal:
+                missing.append((0, f'{full} has a requires and is not listed as internal'))
+        elif row:
+            if not any(law in laws for law in re.findall('`([^`]+-one)`', lines[row - 1])):
+                missing.append((row, f'the law that {full} has one answer'))
+        elif f'`{full}`' not in text:
+            missing.append((0, f'{full} is public and not spoken of'))
+        elif name.replace('_', '-') + '-one' not in laws and not any(p.startswith(f'`{full}`') for p in paragraphs):
+            missing.append((0, f'the law that {full} has one answer: {name.replace("_", "-")}-one'))
+
+for number, what in sorted(missing):
+    print(f'names: {PAGE}:{number}: {what}' if number else f'names: {PAGE}: {what}')
+print(f'names: {len(missing)} missing')
+sys.exit(1 if missing else 0)
