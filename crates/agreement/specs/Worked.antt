@@ -11,14 +11,13 @@ use Rattle.board.specs.State.{boardOf}
 use Rattle.board.specs.Range.{addressRefused}
 use Rattle.timing.specs.Fields.{bufferOf, countsOf}
 use Rattle.timing.specs.Check.{pageCheck, stateRefused, callCheck}
-use Rattle.shape.specs.Font.{Font, fontOf}
+use Rattle.shape.specs.Font.{Font, fontOf, fontRefused}
 use Rattle.clock.specs.Step.{stepCheck}
 use Rattle.files.specs.File.{readCheck, fileCheck, lengthRefused, longAt, headOf, fileOf}
 use Rattle.files.specs.Page.{wordAt, pageAt}
 use Rattle.files.specs.FontFile.{fontCheck, fontHead}
 use Rattle.feldrime.specs.Answers.{answerOf}
 use Rattle.feldrime.specs.Pages.{pageReadSize}
-use Rattle.shape.specs.Font.{fontRefused}
 use Rattle.agreement.specs.Cases.{page}
 use Rattle.agreement.specs.Steps.{after}
 use Rattle.agreement.specs.Frames.{every-frame}
