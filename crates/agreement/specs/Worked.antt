@@ -1,4 +1,4 @@
--- The promises are not empty: a worked page that nothing refuses, and two of the promises read off it. Assumes nothing.
+-- The promises are not empty: worked pages that nothing refuses, as boards and as files, and promises read off them. Assumes nothing.
 use Prim.Native.Nat.{ℕ, _*_}
 use mathlib.Core.Path.{_≡_, refl}
 use mathlib.Core.List.{List, _++_}
@@ -53,7 +53,7 @@ pub after-256-frames : after sheet memory memory font (256 * 27234) .place .fiel
 unfolding sheet page countsOf
 after-256-frames = every-frame sheet memory memory font sheet-taken (256 * 27234) .counted
 
--- A7, by a single step of the board: with screen start 1 below the buffer a cell outside it is fetched, so `stays-inside` asks no more than it must
+-- A7, by a single step of the board: with screen start 1 below the buffer a cell outside it is fetched, so `stays-inside` has to ask
 pub low : Board
 low = boardOf (page 35 80 2048 3071 0 0)
 
@@ -68,7 +68,7 @@ outside i =
     let a : addressAt low memory memory font 0 0 0 ≡ 0 = shown .stepped 0 0 (omega arith) in
     absurd (omega (arith, a, i .above))
 
--- the same page and font as files, and buffers of zeros to read them into: neither is refused, so neither is a step
+-- A1's page and the font as files, and buffers of zeros to read them into: neither is refused, so neither is a step
 abbrev pub file : List ℕ
 file = fileOf (sheet .page) memory memory
 
