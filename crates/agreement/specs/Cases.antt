@@ -45,9 +45,9 @@ pub fetched : Page → ℕ → ℕ → ℕ
 fetched p r c = cellAt p [] r c
 
 -- columns 0 to n - 1 of row r fetch a, a + 1, ..
-pub run : Page → ℕ → ℕ → ℕ → Bool
-run p r zero a = true
-run p r (suc n) a = eqb (fetched p r n) (a + n) && run p r n a
+pub columnsFrom : Page → ℕ → ℕ → ℕ → Bool
+columnsFrom p r zero a = true
+columnsFrom p r (suc n) a = eqb (fetched p r n) (a + n) && columnsFrom p r n a
 
 pub same : List ℕ → List ℕ → Bool
 same [] [] = true
@@ -70,7 +70,7 @@ holds p (VT n) = eqb (vtOf (p .irs)) n
 holds p (frame n) = eqb ((clocksOf (countsOf (p .irs) .vt) (countsOf (p .irs) .ht)) .0) n
 holds p (answers n) = eqb (numberOf (pageCheck p)) n
 holds p (column r c a) = eqb (fetched p r c) a
-holds p (columns r n a) = run p r n a
+holds p (columns r n a) = columnsFrom p r n a
 holds p (row r a) = eqb (rowStart p [] r) a
 holds p (wraps a b) = eqb (advance (bufferOf (p .irs)) a) b
 holds p (dotsFor w d l) = same (cellDots ones w d) l
@@ -117,5 +117,5 @@ cases =
     ∷ []
 
 pub worked : all cases ≡ true
-unfolding all cases true-of holds run fetched page same ones look pageCheck addressRefused countsOf bufferOf cursorOf rowStart cellAt startOf cellOf advance advanceBy toLast around sceneOf lookOf cellDots litBits cellBits lead bits xor
+unfolding all cases true-of holds columnsFrom fetched page same ones look pageCheck addressRefused countsOf bufferOf cursorOf rowStart cellAt startOf cellOf advance advanceBy toLast around sceneOf lookOf cellDots litBits cellBits lead bits xor
 worked = refl

@@ -63,13 +63,13 @@ module _ (file numbers chars attrs : List ℕ)
     abbrev pub answerC : ℕ → StepAnswer
     answerC = stepC numbersC charsC attrsC (fontC .words) (fontC .flags) (fontC .unshifted) (fontC .shifted)
 
-    font-ok : fontCheck fontfile (fontRefused (fontOf words flags unshifted shifted)) ≡ Done
-    font-ok = zero-done (fontCheck fontfile (fontRefused (fontOf words flags unshifted shifted))) font-taken
+    font-done : fontCheck fontfile (fontRefused (fontOf words flags unshifted shifted)) ≡ Done
+    font-done = zero-done (fontCheck fontfile (fontRefused (fontOf words flags unshifted shifted))) font-taken
 
     lent-fine : lentRefused charsC attrsC fontC ≡ false
     lent-fine =
         rw (chars-read-all file size read-ok chars, attrs-read-all file size read-ok attrs)
-        (font-fine fontfile (fontOf words flags unshifted shifted) font-ok)
+        (font-fine fontfile (fontOf words flags unshifted shifted) font-done)
 
     -- the hypothesis of the promises on `step`, `state_at` and `draw_line`
     pub accepted-fits : stepCheck (numbersBoard numbersC) charsC attrsC fontC ≡ Done
