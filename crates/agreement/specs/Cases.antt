@@ -36,8 +36,8 @@ pub data Fact : Type 0 where
   column : (row column address : ℕ) → Fact
   columns : (row count from : ℕ) → Fact
   row : (row address : ℕ) → Fact
-  after : (address next : ℕ) → Fact
-  dots : (word width : ℕ) → List ℕ → Fact
+  wraps : (address next : ℕ) → Fact
+  dotsFor : (word width : ℕ) → List ℕ → Fact
   levels : (attributes symbol surround : ℕ) → Fact
 
 -- the address that a column of a row fetches, with the row table off
@@ -45,9 +45,9 @@ pub fetched : Page → ℕ → ℕ → ℕ
 fetched p r c = cellAt p [] r c
 
 -- columns 0 to n - 1 of row r fetch a, a + 1, ..
-pub run : Page → ℕ → ℕ → ℕ → Bool
-run p r zero a = true
-run p r (suc n) a = eqb (fetched p r n) (a + n) && run p r n a
+pub columnsFrom : Page → ℕ → ℕ → ℕ → Bool
+columnsFrom p r zero a = true
+columnsFrom p r (suc n) a = eqb (fetched p r n) (a + n) && columnsFrom p r n a
 
 pub same : List ℕ → List ℕ → Bool
 same [] [] = true
@@ -70,10 +70,10 @@ holds p (VT n) = eqb (vtOf (p .irs)) n
 holds p (frame n) = eqb ((clocksOf (countsOf (p .irs) .vt) (countsOf (p .irs) .ht)) .0) n
 holds p (answers n) = eqb (numberOf (pageCheck p)) n
 holds p (column r c a) = eqb (fetched p r c) a
-holds p (columns r n a) = run p r n a
+holds p (columns r n a) = columnsFrom p r n a
 holds p (row r a) = eqb (rowStart p [] r) a
-holds p (after a b) = eqb (advance (bufferOf (p .irs)) a) b
-holds p (dots w d l) = same (cellDots ones w d) l
+holds p (wraps a b) = eqb (advance (bufferOf (p .irs)) a) b
+holds p (dotsFor w d l) = same (cellDots ones w d) l
 holds p (levels a x y) = eqb (look p a .symbol) x && eqb (look p a .surround) y
 
 pub record Case : Type 0 where
@@ -103,13 +103,13 @@ cases =
     -- A7
     ∷ record { given = page 35 80 2048 3071 0 0; facts = columns 0 80 0 ∷ [] }
     -- A8
-    ∷ record { given = page 35 80 4095 1023 0 0; facts = after 16383 0 ∷ after 1023 4095 ∷ [] }
+    ∷ record { given = page 35 80 4095 1023 0 0; facts = wraps 16383 0 ∷ wraps 1023 4095 ∷ [] }
     -- A9
     ∷ record {
       given = page 35 80 0 16383 0 0;
       facts =
-          dots 0x041 12 (0 ∷ 1 ∷ 0 ∷ 0 ∷ 0 ∷ 0 ∷ 0 ∷ 1 ∷ 0 ∷ 0 ∷ 0 ∷ 0 ∷ [])
-          ∷ dots 0x041 8 (1 ∷ 0 ∷ 0 ∷ 0 ∷ 0 ∷ 0 ∷ 1 ∷ 0 ∷ [])
+          dotsFor 0x041 12 (0 ∷ 1 ∷ 0 ∷ 0 ∷ 0 ∷ 0 ∷ 0 ∷ 1 ∷ 0 ∷ 0 ∷ 0 ∷ 0 ∷ [])
+          ∷ dotsFor 0x041 8 (1 ∷ 0 ∷ 0 ∷ 0 ∷ 0 ∷ 0 ∷ 1 ∷ 0 ∷ [])
           ∷ [];
     }
     -- A10: reverse and highlight
@@ -117,5 +117,5 @@ cases =
     ∷ []
 
 pub worked : all cases ≡ true
-unfolding all cases true-of holds run fetched page same ones look pageCheck addressRefused countsOf bufferOf cursorOf rowStart cellAt startOf cellOf advance advanceBy toLast around sceneOf lookOf cellDots litBits cellBits lead bits xor
+unfolding all cases true-of holds columnsFrom fetched page same ones look pageCheck addressRefused countsOf bufferOf cursorOf rowStart cellAt startOf cellOf advance advanceBy toLast around sceneOf lookOf cellDots litBits cellBits lead bits xor
 worked = refl

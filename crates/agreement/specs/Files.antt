@@ -1,4 +1,4 @@
--- Promise 2: a page file accepted and written again is the same bytes, from Rattle and from C; likewise a font; and a board written and read again is that page at clock 0.
+-- Promise 2: a page file accepted and written again is the same bytes; likewise a font; and a board written and read again is that page at clock 0.
 -- All of it speaks of the public calls that read and write. A file is a list of bytes. Assumes nothing.
 use Prim.Native.Nat.{ℕ, _+_, _*_, _≤_}
 use mathlib.Core.Path.{_≡_, refl, sym, _∙_}
@@ -11,13 +11,12 @@ use lib.ListN.{length, getD, take, drop, replicate, length-append}
 use lib.Seq.{take-all, take-at, drop-at, drop-drop}
 use Rattle.lists.specs.Choice.{neither}
 use Rattle.lists.specs.Tab.{length-tab}
-use Rattle.refusal.specs.declared.Refusal.the-variants.{Done, Size}
-use Rattle.refusal.specs.Laws.{not-refused, passed}
+use Rattle.refusal.specs.declared.Refusal.the-variants.{Done}
 use Rattle.board.specs.declared.Page.{Page}
 use Rattle.board.specs.declared.Board.{Board}
 use Rattle.board.specs.State.{boardOf}
 use Rattle.board.specs.Range.{memoriesRefused}
-use Rattle.timing.specs.Check.{pageCheck, stateRefused, callCheck}
+use Rattle.timing.specs.Check.{pageCheck, stateRefused}
 use Rattle.shape.specs.Font.{Font, fontRefused}
 use Rattle.copies.specs.Put.{length-part}
 use Rattle.files.specs.Page.{wordAt, pageAt}
@@ -26,10 +25,10 @@ use Rattle.files.specs.FontFile.{fontCheck, fontIn, fontRead, fontWriteCheck, f
 use Rattle.files.specs.Laws.{sized, FilePassed, file-passed, head-all, write-passed}
 use Rattle.files.specs.Round.{Bytes, page-again, page-kept}
 use Rattle.files.specs.FontRound.{font-again}
-use Rattle.feldrime.specs.Numbers.{numbersRefused, numbersIn}
+use Rattle.feldrime.specs.Numbers.{numbersRefused}
 use Rattle.feldrime.specs.NumbersLaws.{numbers-page}
-use Rattle.feldrime.specs.Pages.{pageReadSize, numbersRead, pageWriteCheck, pageWritten}
-use Rattle.agreement.specs.Steps.{range-ok, call-ok}
+use Rattle.feldrime.specs.Pages.{numbersRead}
+use Rattle.agreement.specs.Steps.{range-ok, call-ok, call-page}
 
 -- an accepted file's version and length
 version-is : (file : List ℕ) → versionRefused file ≡ false → getD file 0 0 ≡ 1
@@ -39,7 +38,7 @@ length-is : (file : List ℕ) (n : ℕ) → lengthRefused file n ≡ false → l
 unfolding lengthRefused
 length-is file n e = eqb-true _ _ (not-false _ (neither (not (eqb (length file) (n + 5))) (not (eqb (longAt file 1) n)) e .1))
 
-zero-ok : (p : Page) → stateRefused (boardOf p) ≡ false
+pub zero-ok : (p : Page) → stateRefused (boardOf p) ≡ false
 zero-ok p = range-ok (boardOf p) (record { line-lt = omega arith; clock-lt = omega arith; beam-le = omega arith; row-le = omega arith; pointer-le = omega arith })
 
 write-ok : (p : Page) (n : ℕ) → pageCheck p ≡ Done → 32797 ≤ n → writeCheck (boardOf p) 16384 16384 n ≡ Done
@@ -48,25 +47,46 @@ write-ok p n ok l = call-ok (boardOf p) (ltb n 32797) (le-ltb n 32797 l) ok (zer
 
 -- ---- a page file, read and written again
 
-module _ (file : List ℕ) (bytes : Bytes file) (size : Bool) (ok : readCheck file size ≡ Done) where
-  file-ok : FilePassed file 32792 size (pageCheck (pageAt file 5))
+module _ (file : List ℕ) (size : Bool) (ok : readCheck file size ≡ Done) where
+  pub file-ok : FilePassed file 32792 size (pageCheck (pageAt file 5))
   unfolding readCheck
   file-ok = file-passed file 32792 size (pageCheck (pageAt file 5)) ok
 
-  whole : length file ≡ 32797
-  whole = sized file 32792 (file-ok .length-ok)
+  file-length : length file ≡ 32797
+  file-length = sized file 32792 (file-ok .length-ok)
 
+  -- the memories that it leaves have their size
+  pub chars-read-all : (chars : List ℕ) → length (charsRead file size chars) ≡ 16384
+  unfolding charsRead
+  chars-read-all chars = rw ok (length-part file 29 16384 (omega (arith, file-length)))
+
+  pub attrs-read-all : (attrs : List ℕ) → length (attrsRead file size attrs) ≡ 16384
+  unfolding attrsRead
+  attrs-read-all attrs = rw ok (length-part file 16413 16384 (omega (arith, file-length)))
+
+  -- as C has them, the numbers are refused by nothing, and are the file's page
+  pub numbers-fine : (numbers : List ℕ) → numbersRefused (numbersRead file size numbers) ≡ false
+  unfolding numbersRead numbersRefused
+  numbers-fine numbers = rw (ok, length-append (take 24 (drop 5 file)) (replicate 7 0), length-part file 5 24 (omega (arith, file-length)))
+
+  pub numbers-are : (numbers : List ℕ) → pageAt (numbersRead file size numbers) 1 ≡ pageAt file 5
+  unfolding numbersRead
+  numbers-are numbers = rw ok (numbers-page file (omega (arith, file-length)))
+
+module _ (file : List ℕ) (bytes : Bytes file) (size : Bool) (ok : readCheck file size ≡ Done) where
   same-bytes : fileOf (pageAt file 5) (take 16384 (drop 29 file)) (take 16384 (drop 16413 file)) ≡ file
-  same-bytes = page-again file bytes whole (version-is file (file-ok .version-ok)) (length-is file 32792 (file-ok .length-ok))
+  same-bytes =
+      let passed = file-ok file size ok in
+      page-again file bytes (file-length file size ok) (version-is file (passed .version-ok)) (length-is file 32792 (passed .length-ok))
 
-  again : (chars attrs out : List ℕ) → 32797 ≤ length out
+  pub again : (chars attrs out : List ℕ) → 32797 ≤ length out
       → (writeCheck (boardOf (pageAt file 5)) (length (charsRead file size chars)) (length (attrsRead file size attrs)) (length out) ≡ Done)
       × (written (boardOf (pageAt file 5)) (charsRead file size chars) (attrsRead file size attrs) out ≡ file ++ drop 32797 out)
   unfolding charsRead attrsRead written
-  again chars attrs out l = rw (ok, length-part file 29 16384 (omega (arith, whole)), length-part file 16413 16384 (omega (arith, whole)), fine) (refl, rw same-bytes)
+  again chars attrs out l = rw (chars-read-all file size ok chars, attrs-read-all file size ok attrs, fine, ok) (refl, rw same-bytes)
     where
       fine : writeCheck (boardOf (pageAt file 5)) 16384 16384 (length out) ≡ Done
-      fine = write-ok (pageAt file 5) (length out) (file-ok .rest-ok) l
+      fine = write-ok (pageAt file 5) (length out) (file-ok file size ok .rest-ok) l
 
   -- the write answers 0, and out begins with the file
   pub page-same : (chars attrs out : List ℕ) → 32797 ≤ length out
@@ -75,39 +95,25 @@ module _ (file : List ℕ) (bytes : Bytes file) (size : Bool) (ok : readCheck fi
   unfolding readPageOf
   page-same chars attrs out l = rw ok (again chars attrs out l)
 
--- ---- the same from C
-
-module _ (file : List ℕ) (bytes : Bytes file) (n c a : ℕ) (ok : readCheck file (pageReadSize n c a) ≡ Done) where
-  -- a page's numbers are refused by nothing, and are the file's page
-  numbers-fine : numbersRefused (numbersIn file) ≡ false
-  unfolding numbersRefused
-  numbers-fine = rw (length-append (take 24 (drop 5 file)) (replicate 7 0), length-part file 5 24 (omega (arith, whole file bytes (pageReadSize n c a) ok)))
-
-  -- the write answers 0, and out begins with the file
-  pub page-same-from-c : (numbers chars attrs out : List ℕ) → 32797 ≤ length out
-      → (pageWriteCheck (numbersRead file (pageReadSize n c a) numbers) (length (charsRead file (pageReadSize n c a) chars)) (length (attrsRead file (pageReadSize n c a) attrs)) (length out) ≡ Done)
-      × (pageWritten (numbersRead file (pageReadSize n c a) numbers) (charsRead file (pageReadSize n c a) chars) (attrsRead file (pageReadSize n c a) attrs) out ≡ file ++ drop 32797 out)
-  unfolding numbersRead pageWriteCheck pageWritten
-  page-same-from-c numbers chars attrs out l = rw (ok, numbers-fine, numbers-page file (omega (arith, whole file bytes (pageReadSize n c a) ok))) (again file bytes (pageReadSize n c a) ok chars attrs out l)
-
 -- ---- a board, written and read again
 
-file-all : (p : Page) (chars attrs : List ℕ) → length (p .irs) ≡ 15 → length chars ≡ 16384 → length attrs ≡ 16384 → length (fileOf p chars attrs) ≡ 32797
+length-file : (p : Page) (chars attrs : List ℕ) → length (p .irs) ≡ 15 → length chars ≡ 16384 → length attrs ≡ 16384 → length (fileOf p chars attrs) ≡ 32797
 unfolding fileOf
-file-all p chars attrs n c a = length-append (headOf p) (chars ++ attrs) ∙ rw (head-all p n, length-append chars attrs, c, a)
+length-file p chars attrs n c a = length-append (headOf p) (chars ++ attrs) ∙ rw (head-all p n, length-append chars attrs, c, a)
 
 -- a board has fifteen IRs
-module _ (b : Board) (irs-all : length (b .page .irs) ≡ 15) (chars attrs out : List ℕ) (ok : writeCheck b (length chars) (length attrs) (length out) ≡ Done) where
+module _ (b : Board) (irs-all : length (b .page .irs) ≡ 15) (chars attrs out : List ℕ)
+    (ok : writeCheck b (length chars) (length attrs) (length out) ≡ Done) where
   memories : (length chars ≡ 16384) × (length attrs ≡ 16384)
   memories = (write-passed b (length chars) (length attrs) (length out) ok .1, write-passed b (length chars) (length attrs) (length out) ok .2)
 
   page-ok : pageCheck (b .page) ≡ Done
-  unfolding writeCheck callCheck
-  page-ok = not-refused (pageCheck (b .page)) _ (passed (memoriesRefused (length chars) (length attrs) || ltb (length out) 32797) Size _ refl ok .1) .0
+  unfolding writeCheck
+  page-ok = call-page b (memoriesRefused (length chars) (length attrs) || ltb (length out) 32797) false false ok
 
   file-is : take 32797 (written b chars attrs out) ≡ fileOf (b .page) chars attrs
   unfolding written
-  file-is = rw ok (take-at (fileOf (b .page) chars attrs) (drop 32797 out) 32797 (file-all (b .page) chars attrs irs-all (memories .0) (memories .1)))
+  file-is = rw ok (take-at (fileOf (b .page) chars attrs) (drop 32797 out) 32797 (length-file (b .page) chars attrs irs-all (memories .0) (memories .1)))
 
   page-is : pageAt (fileOf (b .page) chars attrs) 5 ≡ b .page
   unfolding fileOf
@@ -123,7 +129,7 @@ module _ (b : Board) (irs-all : length (b .page .irs) ≡ 15) (chars attrs out :
 
   read-ok : readCheck (fileOf (b .page) chars attrs) false ≡ Done
   unfolding readCheck fileCheck lengthRefused
-  read-ok = rw (version, file-all (b .page) chars attrs irs-all (memories .0) (memories .1), long, page-is) page-ok
+  read-ok = rw (version, length-file (b .page) chars attrs irs-all (memories .0) (memories .1), long, page-is) page-ok
 
   chars-are : take 16384 (drop 29 (fileOf (b .page) chars attrs)) ≡ chars
   unfolding fileOf
@@ -132,7 +138,8 @@ module _ (b : Board) (irs-all : length (b .page .irs) ≡ 15) (chars attrs out :
   attrs-are : take 16384 (drop 16413 (fileOf (b .page) chars attrs)) ≡ attrs
   unfolding fileOf
   attrs-are =
-      rw (sym (drop-drop 16384 29 (headOf (b .page) ++ (chars ++ attrs))), drop-at (headOf (b .page)) (chars ++ attrs) 29 (head-all (b .page) irs-all), drop-at chars attrs 16384 (memories .0))
+      let head = drop-at (headOf (b .page)) (chars ++ attrs) 29 (head-all (b .page) irs-all) in
+      rw (sym (drop-drop 16384 29 (headOf (b .page) ++ (chars ++ attrs))), head, drop-at chars attrs 16384 (memories .0))
       (take-all 16384 attrs (omega (arith, memories .1)))
 
   -- the file is read as that page at clock 0, and its memories are those that were written
@@ -143,22 +150,31 @@ module _ (b : Board) (irs-all : length (b .page .irs) ≡ 15) (chars attrs out :
 
 -- ---- a font file, read and written again
 
-module _ (file : List ℕ) (bytes : Bytes file) (f : Font) (ok : fontCheck file (fontRefused f) ≡ Done) where
+module _ (file : List ℕ) (f : Font) (ok : fontCheck file (fontRefused f) ≡ Done) where
   font-ok : FilePassed file 2450 (fontRefused f) Done
   font-ok = file-passed file 2450 (fontRefused f) Done ok
 
-  font-file : length file ≡ 2455
-  font-file = sized file 2450 (font-ok .length-ok)
+  font-length : length file ≡ 2455
+  font-length = sized file 2450 (font-ok .length-ok)
 
   parts-fine : fontRefused (fontIn file) ≡ false
   unfolding fontIn
   parts-fine =
-      rw
-      (length-tab 1152 (λ (i : ℕ). wordAt (take 2304 (drop 5 file)) (2 * i)), length-part file 2309 128 (omega (arith, font-file)), length-part file 2437 9 (omega (arith, font-file)), length-part file 2446 9 (omega (arith, font-file)))
+      let words = length-tab 1152 (λ (i : ℕ). wordAt (take 2304 (drop 5 file)) (2 * i)) in
+      let flags = length-part file 2309 128 (omega (arith, font-length)) in
+      let unshifted = length-part file 2437 9 (omega (arith, font-length)) in
+      let shifted = length-part file 2446 9 (omega (arith, font-length)) in
+      rw (words, flags, unshifted, shifted)
+
+  -- the font that it leaves is whole
+  pub font-fine : fontRefused (fontRead file f) ≡ false
+  unfolding fontRead
+  font-fine = rw ok parts-fine
 
   -- the write answers 0, and out begins with the file
-  pub font-same : (out : List ℕ) → 2455 ≤ length out → (fontWriteCheck (fontRead file f) (length out) ≡ Done) × (fontWritten (fontRead file f) out ≡ file ++ drop 2455 out)
+  pub font-same : Bytes file → (out : List ℕ) → 2455 ≤ length out
+      → (fontWriteCheck (fontRead file f) (length out) ≡ Done) × (fontWritten (fontRead file f) out ≡ file ++ drop 2455 out)
   unfolding fontRead fontWriteCheck fontWritten
-  font-same out l =
+  font-same bytes out l =
       rw (ok, parts-fine, le-ltb (length out) 2455 l)
-      (refl, rw (font-again file bytes font-file (version-is file (font-ok .version-ok)) (length-is file 2450 (font-ok .length-ok))))
+      (refl, rw (font-again file bytes font-length (version-is file (font-ok .version-ok)) (length-is file 2450 (font-ok .length-ok))))

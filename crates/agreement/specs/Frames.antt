@@ -1,56 +1,77 @@
--- A frame takes exactly clocks per line times lines per frame; with the row table off and an ordered buffer no fetch leaves it. Assumes nothing.
-use Prim.Native.Nat.{ℕ, _*_, _/_, _≤_, _<_}
-use mathlib.Core.Path.{_≡_, sym, ap, _∙_}
+-- Promise 3: every frame takes exactly clocks per line times lines per frame; with the row table off and an ordered buffer no fetch leaves it, neither a step's
+-- nor a drawn line's. Assumes nothing.
+use Prim.Native.Nat.{ℕ, _*_, _/_, _%_, _≤_, _<_}
+use mathlib.Core.Path.{_≡_, sym, ap}
 use mathlib.Core.Bool.{false}
 use mathlib.Core.List.{List}
 use native.Mathlib.Nat.{mul-comm}
 use Rattle.units.specs.Units.{clocksOf}
 use Rattle.refusal.specs.declared.Refusal.the-variants.{Done}
 use Rattle.raster.specs.Moves.{cell, Inside}
-use Rattle.raster.specs.Frame.{just-then, no-sooner}
+use Rattle.raster.specs.Tick.{by-frame}
+use Rattle.raster.specs.Raster.{Good, scanAt}
+use Rattle.raster.specs.Frame.{frame→, frame←}
 use Rattle.raster.specs.Cells.{cells-inside}
 use Rattle.board.specs.declared.Board.{Board}
 use Rattle.timing.specs.Fields.{htOf, vtOf, hactOf, linesOf, visibleOf, tableOf, bufferOf, countsOf}
 use Rattle.timing.specs.Laws.{accepted-good, buffer-bounded, frame-bound}
 use Rattle.fetch.specs.Rows.{feedIn, tallyIn, cellAt}
 use Rattle.shape.specs.Font.{Font}
-use Rattle.place.specs.Place.{countsIn, rowsIn, placeAt}
-use Rattle.step.specs.Step.{stepCheck, stepOf}
+use Rattle.clock.specs.Place.{countsIn, rowsIn, placeAt}
+use Rattle.clock.specs.Step.{stepCheck}
 use Rattle.agreement.specs.Steps.{after, fits, steps-are}
-use Rattle.agreement.specs.Lines.{clockOf, address-is}
+use Rattle.agreement.specs.Lines.{addressAt, DrawnFrom, address-is, drawn-from}
 
 -- the clocks of a frame
 abbrev pub frameClocks : Board → ℕ
 frameClocks b = (clocksOf (countsOf (b .page .irs) .vt) (countsOf (b .page .irs) .ht)) .0
 
 module _ (b : Board) (chars attrs : List ℕ) (f : Font) (ok : stepCheck b chars attrs f ≡ Done) where
-  in-frame : frameClocks b ≡ htOf (b .page .irs) * vtOf (b .page .irs)
+  frame-product : frameClocks b ≡ htOf (b .page .irs) * vtOf (b .page .irs)
   unfolding countsOf
-  in-frame = mul-comm (vtOf (b .page .irs)) (htOf (b .page .irs))
+  frame-product = mul-comm (vtOf (b .page .irs)) (htOf (b .page .irs))
 
-  -- after a frame's clocks line and clock are 0 again
-  pub frame-ends : (after b chars attrs f (frameClocks b) .place .line .0 ≡ 0) × (after b chars attrs f (frameClocks b) .place .clock .0 ≡ 0)
-  unfolding placeAt countsOf
-  frame-ends =
-      rw (steps-are b chars attrs f ok (frameClocks b), in-frame)
-      (just-then (countsIn (b .page)) (rowsIn (b .page) chars) (accepted-good (b .page) (fits b chars attrs f ok .page)) (cell 0))
+  -- the counts of the beam
+  good : Good (countsIn (b .page))
+  good = accepted-good (b .page) (fits b chars attrs f ok .page)
 
-  -- and no sooner
-  pub frame-no-sooner : (n : ℕ) → n < frameClocks b → after b chars attrs f n .place .line .0 ≡ 0 → after b chars attrs f n .place .clock .0 ≡ 0 → n ≡ 0
-  unfolding placeAt countsOf
-  frame-no-sooner n h p q =
-      no-sooner (countsIn (b .page)) (rowsIn (b .page) chars) (accepted-good (b .page) (fits b chars attrs f ok .page)) (cell 0) n (rw in-frame at h)
-      (ap (λ (x : Board). x .place .line .0) (sym (steps-are b chars attrs f ok n)) ∙ p)
-      (ap (λ (x : Board). x .place .clock .0) (sym (steps-are b chars attrs f ok n)) ∙ q)
+  -- clock n, counted from clock 0: line and clock are both 0 exactly where whole frames are over, and the field counts the frames, modulo 256
+  pub record Framed (n : ℕ) : Type 0 where
+    pub ends : n % frameClocks b ≡ 0 → (after b chars attrs f n .place .line .0 ≡ 0) × (after b chars attrs f n .place .clock .0 ≡ 0)
+    pub nowhere-else : after b chars attrs f n .place .line .0 ≡ 0 → after b chars attrs f n .place .clock .0 ≡ 0 → n % frameClocks b ≡ 0
+    pub counted : after b chars attrs f n .place .field ≡ n / frameClocks b % 256
+
+  -- so every frame, and not the first alone, takes exactly its clocks
+  pub every-frame : (n : ℕ) → Framed n
+  unfolding placeAt scanAt countsOf
+  every-frame n =
+      let at-n = steps-are b chars attrs f ok n in
+      let counts = countsIn (b .page) in
+      let rows = rowsIn (b .page) chars in
+      record {
+        ends = λ e. rw at-n (frame→ counts rows good (cell 0) n (rw frame-product at e));
+        nowhere-else = λ p q. rw frame-product (frame← counts rows good (cell 0) n (rw at-n at p) (rw at-n at q));
+        counted = rw (at-n, frame-product) (ap (λ (x : ℕ). x % 256) (sym (by-frame n (htOf (b .page .irs)) (vtOf (b .page .irs)))));
+      }
 
   pub frame-at-most : frameClocks b ≤ 826752
   frame-at-most = frame-bound (b .page .irs)
 
-  -- table off, first ≤ screen start 1 ≤ last: every address that an active clock of a visible line puts out is in that range
-  pub stays-inside : tableOf (b .page .irs) ≡ false → Inside (bufferOf (b .page .irs)) (b .page .starts .start1)
-      → (k l c : ℕ) → l < visibleOf (b .page .irs) .0 → c < hactOf (b .page .irs)
-      → Inside (bufferOf (b .page .irs)) (stepOf (after b chars attrs f (clockOf b k l c)) chars attrs f .address)
+  cells-stay : tableOf (b .page .irs) ≡ false → Inside (bufferOf (b .page .irs)) (b .page .starts .start1)
+      → (r c : ℕ) → Inside (bufferOf (b .page .irs)) (cellAt (b .page) chars r c)
   unfolding cellAt
-  stays-inside t i k l c hl hc =
-      rw (address-is b chars attrs f ok k l c hl hc)
-      (cells-inside (feedIn (b .page) chars) (tallyIn (b .page)) t (buffer-bounded (b .page .irs) .last-lt) i (l / linesOf (b .page .irs)) c)
+  cells-stay t i r c = cells-inside (feedIn (b .page) chars) (tallyIn (b .page)) t (buffer-bounded (b .page .irs) .last-lt) i r c
+
+  -- table off, first ≤ screen start 1 ≤ last: line l of frame k fetches nothing outside that range
+  pub record Stays (k l : ℕ) : Type 0 where
+    -- every address that an active clock of the line puts out
+    pub stepped : (c : ℕ) → c < hactOf (b .page .irs) → Inside (bufferOf (b .page .irs)) (addressAt b chars attrs f k l c)
+    -- and what is drawn of the line, in any field, is the dots of the cells at those addresses, end to end
+    pub drawn : DrawnFrom b chars attrs f l (addressAt b chars attrs f k l)
+
+  pub stays-inside : tableOf (b .page .irs) ≡ false → Inside (bufferOf (b .page .irs)) (b .page .starts .start1)
+      → (k l : ℕ) → l < visibleOf (b .page .irs) .0 → Stays k l
+  stays-inside t i k l hl = record {
+    stepped = λ c hc. rw (address-is b chars attrs f ok k l c hl hc) (cells-stay t i (l / linesOf (b .page .irs)) c);
+    drawn = drawn-from b chars attrs f ok l hl (addressAt b chars attrs f k l) (λ c hc. address-is b chars attrs f ok k l c hl hc);
+  }

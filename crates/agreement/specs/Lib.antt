@@ -1,9 +1,14 @@
 -- The promises.
 pub mod Cases
 pub mod Files
-pub mod OneAnswer
+pub mod OneBase
+pub mod OneDraw
+pub mod OneFiles
+pub mod OneC
 pub mod Steps
 pub mod Lines
 pub mod Frames
 pub mod Rows
+pub mod FromC
+pub mod FilesFromC
 pub mod Worked

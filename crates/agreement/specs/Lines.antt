@@ -25,16 +25,29 @@ use Rattle.fetch.specs.Laws.{fed, tallied}
 use Rattle.shape.specs.Font.{Font}
 use Rattle.video.specs.Scene.{sceneOf}
 use Rattle.line.specs.Length.{length-dots}
-use Rattle.line.specs.Line.{dotsAt, columnDots, lineDots, lineLength, lentRefused, drawCheck, drawnOf}
-use Rattle.place.specs.declared.Carried.{Carried}
-use Rattle.place.specs.Place.{countsIn, carrierIn, rowsIn, carriedOf, loadedIn, placeAt}
-use Rattle.step.specs.Signals.{activeIn, padded, clockDots}
-use Rattle.step.specs.Step.{steppedOf, stepCheck, stepOf, addressOf}
+use Rattle.line.specs.Line.{scanOf, dotsAt, columnDots, lineDots, lineLength, lentRefused, drawCheck, drawnOf}
+use Rattle.clock.specs.declared.Carried.{Carried}
+use Rattle.clock.specs.Place.{countsIn, carrierIn, rowsIn, carriedOf, loadedIn, placeAt}
+use Rattle.clock.specs.Signals.{activeIn, padded, clockDots}
+use Rattle.clock.specs.Step.{steppedOf, stepCheck, stepOf, addressOf}
 use Rattle.agreement.specs.Steps.{after, fits, atClock, step-is, steps-are}
 
--- clock c of line l of frame k, counted from clock 0
+-- line l of frame k, and clock c of it, counted from clock 0
+unfoldable pub lineCount : Board → (k l : ℕ) → ℕ
+lineCount b k l = k * vtOf (b .page .irs) + l
+
 unfoldable pub clockOf : Board → (k l c : ℕ) → ℕ
-clockOf b k l c = (k * vtOf (b .page .irs) + l) * htOf (b .page .irs) + c
+clockOf b k l c = lineCount b k l * htOf (b .page .irs) + c
+
+-- the address that the step at that clock puts out
+abbrev pub addressAt : Board → (chars attrs : List ℕ) → Font → (k l c : ℕ) → ℕ
+addressAt b chars attrs f k l c = stepOf (after b chars attrs f (clockOf b k l c)) chars attrs f .address
+
+-- what is drawn of a line, in any field and into any buffer that has room, is the dots of the cells at these addresses, end to end; bytes beyond stay
+abbrev pub DrawnFrom : Board → (chars attrs : List ℕ) → Font → (line : ℕ) → (address : ℕ → ℕ) → Type 0
+DrawnFrom b chars attrs f line address = (field : ℕ) (out : List ℕ) → lineLength b ≤ length out
+    → drawnOf b chars attrs f line field out
+    ≡ joined 0 (hactOf (b .page .irs)) (λ c. dotsAt b chars attrs f (scanOf (line % linesOf (b .page .irs))) field (address c)) ++ drop (lineLength b) out
 
 loaded-visible : (p : Page) (chars : List ℕ) (q : Place) → q .line .0 < visibleOf (p .irs) .0
     → loadedIn p chars q ≡ carriedOf (loaded (countsIn p) (carrierIn p chars) (q .line .0) (q .clock .0) (pair (q .beam) (q .row)))
@@ -48,10 +61,11 @@ module _ (b : Board) (chars attrs : List ℕ) (f : Font) (ok : stepCheck b chars
       ≡ cellAt (b .page) chars (n / htOf (b .page .irs) % vtOf (b .page .irs) / linesOf (b .page .irs)) (n % htOf (b .page .irs))
   unfolding placeAt scanAt cellAt countsOf
   fetched-at n h =
+      let page = fits b chars attrs f ok .page in
       ap (λ (x : Carried). x .beam .address) (loaded-visible (b .page) chars (placeAt (b .page) chars n) h)
       ∙ (ap (λ (x : Pair Cell). x .beam .address)
-      (loaded-meets (countsIn (b .page)) (carrierIn (b .page) chars) (rowsIn (b .page) chars) (accepted-good (b .page) (fits b chars attrs f ok .page))
-      (cells-lawful (countsIn (b .page)) (feedIn (b .page) chars) (tallyIn (b .page)) (fed (b .page) chars (fits b chars attrs f ok .page)) (tallied (b .page) chars (fits b chars attrs f ok .page)))
+      (loaded-meets (countsIn (b .page)) (carrierIn (b .page) chars) (rowsIn (b .page) chars) (accepted-good (b .page) page)
+      (cells-lawful (countsIn (b .page)) (feedIn (b .page) chars) (tallyIn (b .page)) (fed (b .page) chars page) (tallied (b .page) chars page))
       (cell 0) (n % htOf (b .page .irs)) (n / htOf (b .page .irs) % vtOf (b .page .irs)) (n / htOf (b .page .irs) / vtOf (b .page .irs)) h))
 
   module _ (k l c : ℕ) (hl : l < visibleOf (b .page .irs) .0) (hc : c < hactOf (b .page .irs)) where
@@ -63,16 +77,18 @@ module _ (b : Board) (chars attrs : List ℕ) (f : Font) (ok : stepCheck b chars
 
     clock-is : clockOf b k l c % htOf (b .page .irs) ≡ c
     unfolding clockOf
-    clock-is = digits-mod (k * vtOf (b .page .irs) + l) c-lt
+    clock-is = digits-mod (lineCount b k l) c-lt
 
-    count-is : clockOf b k l c / htOf (b .page .irs) ≡ k * vtOf (b .page .irs) + l
+    count-is : clockOf b k l c / htOf (b .page .irs) ≡ lineCount b k l
     unfolding clockOf
-    count-is = digits-div (k * vtOf (b .page .irs) + l) c-lt
+    count-is = digits-div (lineCount b k l) c-lt
 
     line-is : clockOf b k l c / htOf (b .page .irs) % vtOf (b .page .irs) ≡ l
+    unfolding lineCount
     line-is = rw count-is (digits-mod k l-lt)
 
     frame-is : clockOf b k l c / htOf (b .page .irs) / vtOf (b .page .irs) ≡ k
+    unfolding lineCount
     frame-is = rw count-is (digits-div k l-lt)
 
     -- the address that the step puts out, and the board's place
@@ -87,22 +103,34 @@ module _ (b : Board) (chars attrs : List ℕ) (f : Font) (ok : stepCheck b chars
     unfolding placeAt scanAt countsOf
     active = rw (line-is, clock-is, lt-ltb l (visibleOf (b .page .irs) .0) hl, lt-ltb c (hactOf (b .page .irs)) hc)
 
-    pub dots-are : stepOf (after b chars attrs f (clockOf b k l c)) chars attrs f .dots ≡ padded (columnDots b chars attrs f l (k % 256) c) (b .page .video .dots .0)
+    pub dots-are : stepOf (after b chars attrs f (clockOf b k l c)) chars attrs f .dots
+        ≡ padded (columnDots b chars attrs f l (k % 256) c) (b .page .video .dots .0)
     unfolding steppedOf clockDots columnDots dotsAt sceneOf placeAt scanAt countsOf
     dots-are =
-        rw (steps-are b chars attrs f ok (clockOf b k l c), step-is b chars attrs f ok (clockOf b k l c), active, fetched-at (clockOf b k l c) (rw line-is hl), line-is, clock-is, frame-is)
+        let n = clockOf b k l c in
+        rw (steps-are b chars attrs f ok n, step-is b chars attrs f ok n, active, fetched-at n (rw line-is hl), line-is, clock-is, frame-is)
 
   -- ---- the line
 
   -- a visible line and a buffer with room: nothing is refused, and the line's dots stand at the front of the buffer
-  pub draw-answers : (l : ℕ) → l < visibleOf (b .page .irs) .0 → (out : List ℕ) → lineLength b ≤ length out → drawCheck b (lentRefused chars attrs f) l (length out) ≡ Done
+  pub draw-answers : (l : ℕ) → l < visibleOf (b .page .irs) .0 → (room : ℕ) → lineLength b ≤ room
+      → drawCheck b (lentRefused chars attrs f) l room ≡ Done
   unfolding drawCheck
-  draw-answers l hl out room = rw (lt-leb (visibleOf (b .page .irs) .0) l hl, le-ltb (length out) (lineLength b) room) ok
+  draw-answers l hl room h = rw (lt-leb (visibleOf (b .page .irs) .0) l hl, le-ltb room (lineLength b) h) ok
 
   pub draw-is : (l : ℕ) → l < visibleOf (b .page .irs) .0 → (field : ℕ) (out : List ℕ) → lineLength b ≤ length out
       → drawnOf b chars attrs f l field out ≡ lineDots b chars attrs f l field ++ drop (lineLength b) out
   unfolding drawnOf
-  draw-is l hl field out room = rw (draw-answers l hl out room)
+  draw-is l hl field out room = rw (draw-answers l hl (length out) room)
+
+  pub drawn-from : (l : ℕ) → l < visibleOf (b .page .irs) .0 → (address : ℕ → ℕ)
+      → ((c : ℕ) → c < hactOf (b .page .irs) → address c ≡ cellAt (b .page) chars (l / linesOf (b .page .irs)) c) → DrawnFrom b chars attrs f l address
+  unfolding lineDots columnDots
+  drawn-from l hl address same field out room =
+      draw-is l hl field out room
+      ∙ ap (λ (d : List ℕ). d ++ drop (lineLength b) out)
+      (same-joined 0 (hactOf (b .page .irs)) _ _
+      (λ c _ h. ap (dotsAt b chars attrs f (scanOf (l % linesOf (b .page .irs))) field) (sym (same c (omega arith)))))
 
   module _ (k l : ℕ) (hl : l < visibleOf (b .page .irs) .0) where
     -- the dots that the step at column c puts out, without the places past them
@@ -110,7 +138,9 @@ module _ (b : Board) (chars attrs : List ℕ) (f : Font) (ok : stepCheck b chars
     stepDots c = take (b .page .video .dots .0) (stepOf (after b chars attrs f (clockOf b k l c)) chars attrs f .dots)
 
     same-dots : (c : ℕ) → c < hactOf (b .page .irs) → stepDots c ≡ columnDots b chars attrs f l (k % 256) c
-    same-dots c hc = rw (dots-are k l c hl hc) (take-at _ _ (b .page .video .dots .0) (length-dots b chars attrs f l (k % 256) (fits b chars attrs f ok .page) c))
+    same-dots c hc =
+        rw (dots-are k l c hl hc)
+        (take-at _ _ (b .page .video .dots .0) (length-dots b chars attrs f l (k % 256) (fits b chars attrs f ok .page) c))
 
     -- the dots of the active clocks of line l of frame k, end to end
     pub stepped-line : joined 0 (hactOf (b .page .irs)) stepDots ≡ lineDots b chars attrs f l (k % 256)
@@ -118,5 +148,6 @@ module _ (b : Board) (chars attrs : List ℕ) (f : Font) (ok : stepCheck b chars
     stepped-line = same-joined 0 (hactOf (b .page .irs)) stepDots (columnDots b chars attrs f l (k % 256)) (λ c _ h. same-dots c (omega arith))
 
     -- the line drawn whole with field count k modulo 256, into any buffer that has room
-    pub same-line : (out : List ℕ) → lineLength b ≤ length out → drawnOf b chars attrs f l (k % 256) out ≡ joined 0 (hactOf (b .page .irs)) stepDots ++ drop (lineLength b) out
+    pub same-line : (out : List ℕ) → lineLength b ≤ length out
+        → drawnOf b chars attrs f l (k % 256) out ≡ joined 0 (hactOf (b .page .irs)) stepDots ++ drop (lineLength b) out
     same-line out room = draw-is l hl (k % 256) out room ∙ ap (λ (d : List ℕ). d ++ drop (lineLength b) out) (sym stepped-line)

@@ -35,12 +35,19 @@ use Rattle.clock.specs.Laws.{fit, line-shown, line-idle, carried-on, carried-li
 pub range-ok : (b : Board) → InRange b → stateRefused b ≡ false
 unfolding stateRefused
 range-ok b i =
-    rw
-    (lt-leb (vtOf (b .page .irs)) (b .place .line .0) (i .line-lt), lt-leb (htOf (b .page .irs)) (b .place .clock .0) (i .clock-lt), le-ltb 16383 (b .place .beam .address) (i .beam-le), le-ltb 16383 (b .place .row .address) (i .row-le), le-ltb 14 (b .pointer) (i .pointer-le))
+    let line = lt-leb (vtOf (b .page .irs)) (b .place .line .0) (i .line-lt) in
+    let clock = lt-leb (htOf (b .page .irs)) (b .place .clock .0) (i .clock-lt) in
+    let beam = le-ltb 16383 (b .place .beam .address) (i .beam-le) in
+    let row = le-ltb 16383 (b .place .row .address) (i .row-le) in
+    rw (line, clock, beam, row, le-ltb 14 (b .pointer) (i .pointer-le))
 
 pub call-ok : (b : Board) (size : Bool) → size ≡ false → pageCheck (b .page) ≡ Done → stateRefused b ≡ false → callCheck b size false false ≡ Done
 unfolding callCheck
 call-ok b size s p r = rw (s, p, r)
+
+pub call-page : (b : Board) (size asked room : Bool) → callCheck b size asked room ≡ Done → pageCheck (b .page) ≡ Done
+unfolding callCheck
+call-page b size asked room e = not-refused (pageCheck (b .page)) _ (passed size Size _ refl e .1) .0
 
 -- ---- every state at once is in range
 
@@ -84,23 +91,23 @@ module _ (b : Board) (chars attrs : List ℕ) (f : Font) (ok : stepCheck b chars
   pub fits : Fit b chars attrs f
   fits = fit b chars attrs f ok
 
-  page-ok : pageCheck (b .page) ≡ Done
-  unfolding callCheck
-  page-ok = not-refused (pageCheck (b .page)) _ (passed (lentRefused chars attrs f) Size _ refl ok .1) .0
+  pub page-ok : pageCheck (b .page) ≡ Done
+  page-ok = call-page b (lentRefused chars attrs f) false false ok
 
-  size-ok : lentRefused chars attrs f ≡ false
-  size-ok = call-passed b (lentRefused chars attrs f) false false ok .sized
+  lent-ok : lentRefused chars attrs f ≡ false
+  lent-ok = call-passed b (lentRefused chars attrs f) false false ok .sized
 
   -- the board at clock n, at once
   abbrev pub atClock : ℕ → Board
   atClock n = withPlace b (placeAt (b .page) chars n)
 
-  in-range : (n : ℕ) → InRange (atClock n)
+  clock-in-range : (n : ℕ) → InRange (atClock n)
   unfolding placeAt scanAt carriedBefore countsOf
-  in-range n =
+  clock-in-range n =
       let h : 0 < htOf (b .page .irs) = omega arith in
       let v : 0 < vtOf (b .page .irs) = omega arith in
-      let c = carried-small (b .page) chars (fits .page) (n % htOf (b .page .irs)) (n / htOf (b .page .irs) % vtOf (b .page .irs)) (n / htOf (b .page .irs) / vtOf (b .page .irs)) in
+      let y = n / htOf (b .page .irs) in
+      let c = carried-small (b .page) chars (fits .page) (n % htOf (b .page .irs)) (y % vtOf (b .page .irs)) (y / vtOf (b .page .irs)) in
       record {
         line-lt = mod-lt (n / htOf (b .page .irs)) v;
         clock-lt = mod-lt n h;
@@ -110,16 +117,16 @@ module _ (b : Board) (chars attrs : List ℕ) (f : Font) (ok : stepCheck b chars
       }
 
   pub accepts : (n : ℕ) → stepCheck (atClock n) chars attrs f ≡ Done
-  accepts n = call-ok (atClock n) (lentRefused chars attrs f) size-ok page-ok (range-ok (atClock n) (in-range n))
+  accepts n = call-ok (atClock n) (lentRefused chars attrs f) lent-ok page-ok (range-ok (atClock n) (clock-in-range n))
 
   -- a step that nothing refuses
   pub step-is : (n : ℕ) → stepOf (atClock n) chars attrs f ≡ steppedOf (atClock n) chars attrs f
   unfolding stepOf
   step-is n = rw (accepts n)
 
-  at-zero : withPlace b clockZero ≡ atClock 0
+  begins-at-zero : withPlace b clockZero ≡ atClock 0
   unfolding placeAt scanAt carriedAt
-  at-zero = simp (zero-div, zero-mod)
+  begins-at-zero = simp (zero-div, zero-mod)
 
   step-on : (n : ℕ) → stepOf (atClock n) chars attrs f .board ≡ atClock (suc n)
   unfolding steppedOf
@@ -127,7 +134,7 @@ module _ (b : Board) (chars attrs : List ℕ) (f : Font) (ok : stepCheck b chars
 
   pub steps-are : (n : ℕ) → after b chars attrs f n ≡ atClock n
   unfolding after
-  steps-are zero = at-zero
+  steps-are zero = begins-at-zero
   steps-are (suc n) = ap (λ (x : Board). stepOf x chars attrs f .board) (steps-are n) ∙ step-on n
 
   -- each of the n steps answers 0
@@ -135,12 +142,22 @@ module _ (b : Board) (chars attrs : List ℕ) (f : Font) (ok : stepCheck b chars
   unfolding steppedOf
   step-answers n = rw (steps-are n, step-is n)
 
+  memories-ok : memoriesRefused (length chars) (length attrs) ≡ false
+  memories-ok = rw (eq-eqb _ _ (fits .chars-all), eq-eqb _ _ (fits .attrs-all))
+
   state-ok : stateCheck b chars attrs ≡ Done
-  state-ok =
-      call-ok b (memoriesRefused (length chars) (length attrs)) (rw (eq-eqb _ _ (fits .chars-all), eq-eqb _ _ (fits .attrs-all))) page-ok
-      (range-ok b (fits .state))
+  state-ok = call-ok b (memoriesRefused (length chars) (length attrs)) memories-ok page-ok (range-ok b (fits .state))
+
+  state-ok-at : (n : ℕ) → stateCheck (atClock n) chars attrs ≡ Done
+  state-ok-at n = call-ok (atClock n) (memoriesRefused (length chars) (length attrs)) memories-ok page-ok (range-ok (atClock n) (clock-in-range n))
 
   -- the state for clock n answers 0 and is the board after n single steps from clock 0
   pub at-once : (n : ℕ) → (stateOf b chars attrs n .refusal ≡ Done) × (stateOf b chars attrs n .board ≡ after b chars attrs f n)
   unfolding stateOf
   at-once n = (state-ok, rw state-ok (sym (steps-are n)))
+
+  -- the board that is asked may itself stand at any clock m
+  pub at-once-anywhere : (m n : ℕ) → (stateOf (after b chars attrs f m) chars attrs n .refusal ≡ Done)
+      × (stateOf (after b chars attrs f m) chars attrs n .board ≡ after b chars attrs f n)
+  unfolding stateOf
+  at-once-anywhere m n = rw (steps-are m, steps-are n, state-ok-at m) (refl, refl)

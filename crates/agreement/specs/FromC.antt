@@ -1,0 +1,217 @@
+-- The sentence for which the project exists, as its users call it. A generator draws whole lines with `feldrime_line_draw` from a page's 32 numbers; an editor
+-- makes a board of the same numbers with `feldrime_board_of` and takes it from clock to clock with `feldrime_step`. Both show the same cells and the same dots.
+-- All of it speaks of the definitions that the contracts of these calls cite, over the same numbers, memories and font parts. Assumes nothing.
+use Prim.Native.Nat.{ℕ, zero, suc, _+_, _*_, _%_, _≤_, _<_}
+use mathlib.Core.Path.{_≡_, refl, sym, ap, _∙_}
+use mathlib.Core.Bool.{Bool, true, false}
+use mathlib.Core.List.{List, _++_}
+use borrow.Author.Tests.{eq-eqb}
+use lib.Arith.{digits-lt}
+use lib.Dec.{ltb, leb}
+use lib.ListN.{length, take, drop}
+use Rattle.lists.specs.Join.{joined, same-joined}
+use Rattle.refusal.specs.declared.Refusal.{Refusal}
+use Rattle.refusal.specs.declared.Refusal.the-variants.{Done, Size}
+use Rattle.refusal.specs.Number.{numberOf, doneOf}
+use Rattle.refusal.specs.Laws.{done-is, passed}
+use Rattle.board.specs.declared.Board.{Board}
+use Rattle.timing.specs.Fields.{hactOf, linesOf, rowsOf, visibleOf, tableOf}
+use Rattle.timing.specs.Check.{pageCheck, sizeOf}
+use Rattle.timing.specs.Laws.{call-passed}
+use Rattle.fetch.specs.Rows.{entryOf}
+use Rattle.fetch.specs.Run.{spanOf}
+use Rattle.fetch.specs.Laws.{span-number}
+use Rattle.shape.specs.Font.{Font, fontOf}
+use Rattle.line.specs.Line.{scanOf, dotsAt, lineLength, lentRefused, drawCheck, drawnOf}
+use Rattle.clock.specs.Step.{steppedOf, stepCheck, stepOf, stateOf}
+use Rattle.files.specs.Page.{pageAt}
+use Rattle.feldrime.specs.declared.StepAnswer.{StepAnswer}
+use Rattle.feldrime.specs.declared.BoardAnswer.{BoardAnswer}
+use Rattle.feldrime.specs.declared.Answer.{Answer}
+use Rattle.feldrime.specs.Numbers.{numbersRefused, numbersBoard}
+use Rattle.feldrime.specs.Answers.{answerOf, sizeAnswer, runAnswer, boardAnswer}
+use Rattle.feldrime.specs.Pages.{numbersCheck, sizeFor, runFor, boardFor}
+use Rattle.feldrime.specs.LineDraw.{lineDrawCheck, lineDrawn}
+use Rattle.feldrime.specs.NumbersLaws.{numbers-passed}
+use Rattle.feldrime.specs.Step.{numbered, stepNumbers}
+use Rattle.agreement.specs.Steps.{call-ok, call-page, after, step-answers, at-once-anywhere}
+use Rattle.agreement.specs.Files.{zero-ok}
+use Rattle.agreement.specs.Lines.{clockOf, draw-answers, same-line}
+use Rattle.agreement.specs.Rows.{lineOf, follows, Shown, row-from-table, row-from-start, run-answers, run-shown}
+
+-- a refusal whose number is 0 is none
+pub zero-done : (r : Refusal) → numberOf r ≡ 0 → r ≡ Done
+zero-done r e = done-is r (eq-eqb (numberOf r) 0 e)
+
+-- a step that answers 0 was refused by nothing
+step-taken : (b : Board) (chars attrs : List ℕ) (f : Font) → stepOf b chars attrs f .refusal ≡ Done → stepCheck b chars attrs f ≡ Done
+unfolding stepOf
+step-taken b chars attrs f e = go (doneOf (stepCheck b chars attrs f)) refl
+  where
+    go : (t : Bool) → doneOf (stepCheck b chars attrs f) ≡ t → stepCheck b chars attrs f ≡ Done
+    go true d = done-is (stepCheck b chars attrs f) d
+    go false d = rw d at e
+
+module _ (numbers chars attrs words flags unshifted shifted : List ℕ) where
+  -- the board that the numbers describe, and the font
+  abbrev b : Board
+  b = numbersBoard numbers
+
+  abbrev f : Font
+  f = fontOf words flags unshifted shifted
+
+  -- the board after n calls of feldrime_step, from the board that feldrime_board_of gives
+  unfoldable pub afterC : ℕ → Board
+  afterC zero = boardFor numbers .board
+  afterC (suc n) = stepNumbers (afterC n) chars attrs words flags unshifted shifted .board
+
+  -- what the next feldrime_step answers
+  abbrev pub stepC : ℕ → StepAnswer
+  stepC n = stepNumbers (afterC n) chars attrs words flags unshifted shifted .answer
+
+  -- what feldrime_state_at answers of a board
+  abbrev pub stateC : Board → ℕ → BoardAnswer
+  stateC from n = boardAnswer (stateOf from chars attrs n .refusal) (stateOf from chars attrs n .board)
+
+  -- what feldrime_line_draw answers, and what it leaves in the buffer
+  abbrev pub drawC : (line room : ℕ) → Answer
+  drawC line room = answerOf (lineDrawCheck numbers chars attrs f line room)
+
+  abbrev pub drawnC : (line field : ℕ) → List ℕ → List ℕ
+  drawnC line field out = lineDrawn numbers chars attrs f line field out
+
+  -- ---- both are refused together
+
+  -- a page's numbers that pass, and memories and font parts of the right sizes: this is what the promises on `step`, `state_at` and `draw_line` ask
+  pub fit-from-c : numbersCheck numbers ≡ Done → lentRefused chars attrs f ≡ false → stepCheck b chars attrs f ≡ Done
+  unfolding numbersCheck
+  fit-from-c c l = call-ok b (lentRefused chars attrs f) l (passed (numbersRefused numbers) Size _ refl c .1) (zero-ok (pageAt numbers 1))
+
+  -- then feldrime_board_of answers 0, and so does the first feldrime_step
+  pub begins-from-c : numbersCheck numbers ≡ Done → lentRefused chars attrs f ≡ false → (boardFor numbers .refusal ≡ 0) × (stepC 0 .refusal ≡ 0)
+  unfolding numbered afterC boardFor stepOf steppedOf
+  begins-from-c c l = rw (c, fit-from-c c l) (refl, refl)
+
+  -- and so they do where feldrime_line_draw answers 0 for any line
+  pub drawn-begins : (line room : ℕ) → drawC line room .refusal ≡ 0 → (boardFor numbers .refusal ≡ 0) × (stepC 0 .refusal ≡ 0)
+  unfolding lineDrawCheck drawCheck numbersCheck
+  drawn-begins line room e =
+      let d = passed (numbersRefused numbers) Size _ refl (zero-done (lineDrawCheck numbers chars attrs f line room) e) in
+      let asked = leb (visibleOf (b .page .irs) .0) line in
+      let short = ltb room (lineLength b) in
+      let page = call-page b (lentRefused chars attrs f) asked short (d .1) in
+      begins-from-c (rw (d .0) page) (call-passed b (lentRefused chars attrs f) asked short (d .1) .sized)
+
+  -- numbers of which a board is made, and a first step that is not refused
+  module _ (board-made : boardFor numbers .refusal ≡ 0) (first-step : stepC 0 .refusal ≡ 0) where
+    check-ok : numbersCheck numbers ≡ Done
+    unfolding boardFor
+    check-ok = zero-done (numbersCheck numbers) board-made
+
+    page-fine : pageCheck (b .page) ≡ Done
+    unfolding numbersCheck
+    page-fine = passed (numbersRefused numbers) Size _ refl check-ok .1
+
+    board-is : boardFor numbers .board ≡ b
+    unfolding boardFor
+    board-is = rw check-ok
+
+    step-ok : stepCheck b chars attrs f ≡ Done
+    unfolding afterC numbered
+    step-ok = step-taken b chars attrs f (zero-done (stepOf b chars attrs f .refusal) (rw board-is at first-step))
+
+    -- the steps for C are the steps, so all that holds of these holds of those
+    pub steps-from-c : (n : ℕ) → afterC n ≡ after b chars attrs f n
+    unfolding afterC after
+    steps-from-c zero = board-is
+    steps-from-c (suc n) = ap (λ (x : Board). stepOf x chars attrs f .board) (steps-from-c n)
+
+    -- then no step is refused
+    pub steps-answer : (n : ℕ) → stepC n .refusal ≡ 0
+    unfolding numbered
+    steps-answer n = rw (steps-from-c n, step-answers b chars attrs f step-ok n)
+
+    -- feldrime_state_at for clock n, asked of the board after any number of steps, answers 0 and the board after n steps
+    pub at-once-from-c : (m n : ℕ) → (stateC (afterC m) n .refusal ≡ 0) × (stateC (afterC m) n .board ≡ afterC n)
+    at-once-from-c m n =
+        let s = at-once-anywhere b chars attrs f step-ok m n in
+        rw (steps-from-c m, steps-from-c n) (ap numberOf (s .0), s .1)
+
+    -- feldrime_page_size gives the visible lines, and how many bytes a line takes
+    pub size-from-c : sizeFor numbers ≡ sizeAnswer Done (visibleOf (b .page .irs) .0) (lineLength b)
+    unfolding sizeFor sizeOf numbersCheck
+    size-from-c = rw (numbers-passed numbers check-ok, page-fine)
+
+    line-in : (l : ℕ) → l < sizeFor numbers .lines → l < visibleOf (b .page .irs) .0
+    line-in l h = rw size-from-c at h
+
+    room-in : (room : ℕ) → sizeFor numbers .dots ≤ room → lineLength b ≤ room
+    room-in room h = rw size-from-c at h
+
+    -- and where these do, feldrime_line_draw does, for every visible line and any buffer with room for it
+    pub draw-answers-from-c : (l : ℕ) → l < sizeFor numbers .lines → (room : ℕ) → sizeFor numbers .dots ≤ room → drawC l room ≡ answerOf Done
+    unfolding lineDrawCheck
+    draw-answers-from-c l hl room h = rw (numbers-passed numbers check-ok, draw-answers b chars attrs f step-ok l (line-in l hl) room (room-in room h))
+
+    drawn-is : (l field : ℕ) (out : List ℕ) → drawnC l field out ≡ drawnOf b chars attrs f l field out
+    unfolding lineDrawn
+    drawn-is l field out = rw (numbers-passed numbers check-ok)
+
+    -- line l of frame k, with field count k modulo 256: feldrime_line_draw answers 0, and the buffer begins with the dots of the line's active clocks as
+    -- feldrime_step answers them, end to end; bytes beyond stay
+    pub same-line-from-c : (k l : ℕ) → l < sizeFor numbers .lines → (out : List ℕ) → sizeFor numbers .dots ≤ length out
+        → (drawC l (length out) ≡ answerOf Done)
+        × (drawnC l (k % 256) out
+        ≡ joined 0 (hactOf (b .page .irs)) (λ c. take (b .page .video .dots .0) (stepC (clockOf b k l c) .dots)) ++ drop (sizeFor numbers .dots) out)
+    unfolding numbered
+    same-line-from-c k l hl out room = (
+      draw-answers-from-c l hl (length out) room,
+      drawn-is l (k % 256) out
+          ∙ same-line b chars attrs f step-ok k l (line-in l hl) out (room-in (length out) room)
+          ∙ rw size-from-c
+          (ap (λ (d : List ℕ). d ++ drop (lineLength b) out)
+          (same-joined 0 (hactOf (b .page .irs)) _ _
+          (λ c _ h. ap (λ (x : Board). take (b .page .video .dots .0) (stepOf x chars attrs f .dots)) (sym (steps-from-c (clockOf b k l c)))))),
+    )
+
+    -- ---- the cells of a row
+
+    -- line l of row r, where the row's cells follow from an address: the addresses that feldrime_step answers in every frame, and in every field the cells whose
+    -- dots feldrime_line_draw puts end to end
+    pub record ShownC (r l start : ℕ) : Type 0 where
+      pub stepped : (k c : ℕ) → c < hactOf (b .page .irs) → stepC (clockOf b k (lineOf b r l) c) .address ≡ follows b start c
+      pub draw-done : (room : ℕ) → sizeFor numbers .dots ≤ room → drawC (lineOf b r l) room ≡ answerOf Done
+      pub drawn : (field : ℕ) (out : List ℕ) → sizeFor numbers .dots ≤ length out
+          → drawnC (lineOf b r l) field out
+          ≡ joined 0 (hactOf (b .page .irs)) (λ c. dotsAt b chars attrs f (scanOf (lineOf b r l % linesOf (b .page .irs))) field (follows b start c))
+          ++ drop (sizeFor numbers .dots) out
+
+    module _ (r l : ℕ) (hr : r < rowsOf (b .page .irs)) (hl : l < linesOf (b .page .irs)) where
+      shown-from-c : (start : ℕ) → Shown b chars attrs f step-ok r l hr hl start → ShownC r l start
+      unfolding numbered
+      shown-from-c start s = record {
+        stepped = λ k c h. rw (steps-from-c (clockOf b k (lineOf b r l) c)) (s .stepped k c h);
+        draw-done = draw-answers-from-c (lineOf b r l) (rw size-from-c (digits-lt hr hl));
+        drawn = λ field out room. drawn-is (lineOf b r l) field out ∙ rw size-from-c (s .drawn field out (room-in (length out) room));
+      }
+
+      -- with the row table on they follow from the row's own entry, whatever the rest of memory holds
+      pub row-from-table-from-c : tableOf (b .page .irs) ≡ true → ShownC r l (entryOf (b .page) chars r)
+      row-from-table-from-c t = shown-from-c (entryOf (b .page) chars r) (row-from-table b chars attrs f step-ok r l hr hl t)
+
+      -- with it off, from the cell r x HACT moves after screen start 1
+      pub row-from-start-from-c : tableOf (b .page .irs) ≡ false → ShownC r l (follows b (b .page .starts .start1) (r * hactOf (b .page .irs)))
+      row-from-start-from-c t = shown-from-c _ (row-from-start b chars attrs f step-ok r l hr hl t)
+
+      run-is : runFor numbers chars r ≡ runAnswer Done (spanOf b chars r .start) (spanOf b chars r .count)
+      unfolding runFor
+      run-is =
+          let s = spanOf b chars r in
+          let done : s .refusal ≡ Done = span-number b chars r s refl ∙ run-answers b chars attrs f step-ok r l hr hl in
+          rw (numbers-passed numbers check-ok) (ap (λ (x : Refusal). runAnswer x (s .start) (s .count)) done)
+
+      -- the run that feldrime_row_run answers is what the row's first columns fetch, cell after cell
+      pub run-from-c : (runFor numbers chars r .refusal ≡ 0)
+          × ((k c : ℕ) → c < runFor numbers chars r .count → stepC (clockOf b k (lineOf b r l) c) .address ≡ runFor numbers chars r .first + c)
+      unfolding numbered
+      run-from-c = rw run-is (refl, λ k c h. rw (steps-from-c (clockOf b k (lineOf b r l) c)) (run-shown b chars attrs f step-ok r l hr hl k c h))

@@ -1,0 +1,103 @@
+-- No second answer meets the contract of a public function of `fetch`, `shape`, `video`, `line` or `clock`: it names its answer, so each of these is `only`.
+use Prim.Native.Nat.{ℕ}
+use mathlib.Core.Path.{_≡_}
+use mathlib.Core.Bool.{Bool}
+use mathlib.Core.List.{List, _++_}
+use lib.ListN.{length, drop}
+use Rattle.lists.specs.Answer.{OneAnswer, only, only-both}
+use Rattle.refusal.specs.declared.Refusal.{Refusal}
+use Rattle.refusal.specs.Number.{numberOf}
+use Rattle.raster.specs.Moves.{cell}
+use Rattle.board.specs.declared.Page.{Page}
+use Rattle.board.specs.declared.Board.{Board}
+use Rattle.fetch.specs.Run.{runCheck, spanOf, runOf}
+use Rattle.fetch.specs.Rows.{entryOf, rowStart, cellAt}
+use Rattle.shape.specs.Font.{Font, fontRefused, positionOf, wordBy, wordOf}
+use Rattle.video.specs.declared.Scene.{Scene}
+use Rattle.video.specs.declared.Look.{Look}
+use Rattle.video.specs.Levels.{blankLevel, symbolLevel, surroundLevel}
+use Rattle.video.specs.Scene.{sceneOf, cursorAt}
+use Rattle.video.specs.Look.{effective, lookOf}
+use Rattle.video.specs.Cell.{cellDots}
+use Rattle.line.specs.Line.{lentRefused, drawCheck, drawnOf}
+use Rattle.clock.specs.Step.{stepOf, stateOf}
+
+-- ---- `fetch`
+
+-- the number and the part
+pub row-run-one : (b : Board) (chars : List ℕ) (row : ℕ)
+    → OneAnswer (λ (r : List ℕ × ℕ). (r .0 ≡ runOf b chars row) × (r .1 ≡ numberOf (runCheck b (length chars) row)))
+row-run-one b chars row = only-both (runOf b chars row) (numberOf (runCheck b (length chars) row))
+
+pub span-of-one : (b : Board) (chars : List ℕ) (row : ℕ) → OneAnswer (λ r. r ≡ spanOf b chars row)
+span-of-one b chars row = only (spanOf b chars row)
+
+pub entry-one : (p : Page) (chars : List ℕ) (row : ℕ) → OneAnswer (λ r. r ≡ cell (entryOf p chars row))
+entry-one p chars row = only (cell (entryOf p chars row))
+
+pub row-start-one : (p : Page) (chars : List ℕ) (row : ℕ) → OneAnswer (λ r. r ≡ cell (rowStart p chars row))
+row-start-one p chars row = only (cell (rowStart p chars row))
+
+pub cell-at-one : (p : Page) (chars : List ℕ) (row column : ℕ) → OneAnswer (λ r. r ≡ cell (cellAt p chars row column))
+cell-at-one p chars row column = only (cell (cellAt p chars row column))
+
+-- ---- `shape`
+
+pub position-one : (list : List ℕ) (scan : ℕ) → OneAnswer (λ r. r ≡ positionOf list scan)
+position-one list scan = only (positionOf list scan)
+
+pub font-refused-one : (f : Font) → OneAnswer (λ r. r ≡ fontRefused f)
+font-refused-one f = only (fontRefused f)
+
+pub word-by-one : (words flags : List ℕ) (plain moved code : ℕ) → OneAnswer (λ r. r ≡ wordBy words flags plain moved code)
+word-by-one words flags plain moved code = only (wordBy words flags plain moved code)
+
+pub word-of-one : (f : Font) (code scan : ℕ) → OneAnswer (λ r. r ≡ wordOf f code scan)
+word-of-one f code scan = only (wordOf f code scan)
+
+-- ---- `video`
+
+pub blank-level-one : (rblank bkgnd : Bool) → OneAnswer (λ r. r ≡ blankLevel rblank bkgnd)
+blank-level-one rblank bkgnd = only (blankLevel rblank bkgnd)
+
+pub surround-level-one : (e highlight : Bool) → OneAnswer (λ r. r ≡ surroundLevel e highlight)
+surround-level-one e highlight = only (surroundLevel e highlight)
+
+pub symbol-level-one : (e highlight hidden : Bool) → OneAnswer (λ r. r ≡ symbolLevel e highlight hidden)
+symbol-level-one e highlight hidden = only (symbolLevel e highlight hidden)
+
+pub scene-of-one : (b : Board) (scan field : ℕ) → OneAnswer (λ r. r ≡ sceneOf b scan field)
+scene-of-one b scan field = only (sceneOf b scan field)
+
+pub cursor-at-one : (s : Scene) (at : ℕ) → OneAnswer (λ r. r ≡ cursorAt s at)
+cursor-at-one s at = only (cursorAt s at)
+
+pub effective-of-one : (byte : ℕ) → OneAnswer (λ r. r ≡ effective byte)
+effective-of-one byte = only (effective byte)
+
+pub look-of-one : (s : Scene) (attributes : ℕ) (cursor : Bool) → OneAnswer (λ r. r ≡ lookOf s attributes cursor)
+look-of-one s attributes cursor = only (lookOf s attributes cursor)
+
+-- the buffer
+pub draw-cell-one : (look : Look) (word d : ℕ) (out : List ℕ) → OneAnswer (λ r. r ≡ cellDots look word d ++ drop d out)
+draw-cell-one look word d out = only (cellDots look word d ++ drop d out)
+
+-- ---- `line`
+
+pub lent-refused-one : (chars attrs : List ℕ) (f : Font) → OneAnswer (λ r. r ≡ lentRefused chars attrs f)
+lent-refused-one chars attrs f = only (lentRefused chars attrs f)
+
+-- the refusal and the buffer
+pub draw-line-one : (b : Board) (chars attrs : List ℕ) (f : Font) (line field : ℕ) (out : List ℕ)
+    → OneAnswer (λ (r : Refusal × List ℕ). (r .0 ≡ drawCheck b (lentRefused chars attrs f) line (length out))
+    × (r .1 ≡ drawnOf b chars attrs f line field out))
+draw-line-one b chars attrs f line field out =
+    only-both (drawCheck b (lentRefused chars attrs f) line (length out)) (drawnOf b chars attrs f line field out)
+
+-- ---- `clock`
+
+pub step-one : (b : Board) (chars attrs : List ℕ) (f : Font) → OneAnswer (λ r. r ≡ stepOf b chars attrs f)
+step-one b chars attrs f = only (stepOf b chars attrs f)
+
+pub state-at-one : (b : Board) (chars attrs : List ℕ) (n : ℕ) → OneAnswer (λ r. r ≡ stateOf b chars attrs n)
+state-at-one b chars attrs n = only (stateOf b chars attrs n)
