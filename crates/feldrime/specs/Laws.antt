@@ -8,6 +8,7 @@ use borrow.Author.Tests.{eqb-true, not-false}
 use lib.Dec.{eqb}
 use lib.ListN.{length}
 use Rattle.lists.specs.Choice.{pick, neither}
+use Rattle.lists.specs.Tab.{tab}
 use Rattle.refusal.specs.declared.Refusal.{Refusal}
 use Rattle.refusal.specs.declared.Refusal.the-variants.{Done, Size}
 use Rattle.refusal.specs.Number.{doneOf}
@@ -17,7 +18,8 @@ use Rattle.files.specs.Page.{pageAt}
 use Rattle.files.specs.File.{readCheck}
 use Rattle.files.specs.Laws.{sized, FilePassed, file-passed}
 use Rattle.feldrime.specs.declared.Answer.{Answer}
-use Rattle.feldrime.specs.Numbers.{numbersIn}
+use Rattle.feldrime.specs.Numbers.{numberAt}
+use Rattle.feldrime.specs.NumbersLaws.{numbers-tab}
 use Rattle.feldrime.specs.Answers.{answerOf}
 use Rattle.feldrime.specs.Pages.{pageReadSize, numbersRead}
 
@@ -35,19 +37,18 @@ module _ (file : List ℕ) (n c a : ℕ) (ok : readCheck file (pageReadSize n c 
   unfolding readCheck
   page-read-passed = file-passed file 32792 (pageReadSize n c a) (pageCheck (pageAt file 5)) ok
 
-  pub page-read-fits : (29 ≤ length file) × (n ≡ 32)
+  page-read-fits : (29 ≤ length file) × (n ≡ 32)
   page-read-fits =
       (omega (arith, sized file 32792 (page-read-passed .length-ok)), eqb-true _ _ (not-false _ (neither (memoriesRefused c a) (not (eqb n 32)) (page-read-passed .size-ok) .1)))
 
   pub same-size : memoriesRefused c a ≡ pageReadSize n c a
   same-size = neither (memoriesRefused c a) (not (eqb n 32)) (page-read-passed .size-ok) .0 ∙ sym (page-read-passed .size-ok)
 
--- what such a read leaves
-module _ (file : List ℕ) (size : Bool) (numbers₀ : List ℕ) where
-  pub numbers-done : doneOf (readCheck file size) ≡ true → {numbers : List ℕ} → numbers ≡ numbersIn file → numbers ≡ numbersRead file size numbers₀
+  -- what such a read leaves
+  pub numbers-done : (numbers₀ : List ℕ) {numbers : List ℕ} → numbers ≡ tab n (numberAt file) → numbers ≡ numbersRead file (pageReadSize n c a) numbers₀
   unfolding numbersRead
-  numbers-done t e = rw t e
+  numbers-done numbers₀ e = rw ok (e ∙ rw (page-read-fits .1) (numbers-tab file (page-read-fits .0)))
 
-  pub numbers-kept : doneOf (readCheck file size) ≡ false → numbers₀ ≡ numbersRead file size numbers₀
-  unfolding numbersRead
-  numbers-kept t = rw t
+pub numbers-kept : (file : List ℕ) (size : Bool) (numbers₀ : List ℕ) → doneOf (readCheck file size) ≡ false → numbers₀ ≡ numbersRead file size numbers₀
+unfolding numbersRead
+numbers-kept file size numbers₀ t = rw t

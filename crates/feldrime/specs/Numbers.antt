@@ -1,9 +1,10 @@
 -- A page's numbers in one buffer: the version byte, then the bytes of that version's page file between the length and the character memory, then zeros, which are ignored.
-use Prim.Native.Nat.{ℕ}
+use Prim.Native.Nat.{ℕ, _+_}
 use mathlib.Core.Bool.{Bool, _||_, not}
 use mathlib.Core.List.{List, _∷_, _++_}
 use lib.ListN.{length, getD, take, drop, replicate}
-use lib.Dec.{eqb}
+use lib.Dec.{eqb, ltb}
+use Rattle.lists.specs.Choice.{pick}
 use Rattle.board.specs.declared.Board.{Board}
 use Rattle.files.specs.Page.{boardAt}
 
@@ -18,3 +19,7 @@ numbersBoard numbers = boardAt numbers 1
 -- the numbers of a page file
 abbrev pub numbersIn : List ℕ → List ℕ
 numbersIn file = 1 ∷ (take 24 (drop 5 file) ++ replicate 7 0)
+
+-- byte i of them, as they are stored
+unfoldable pub numberAt : List ℕ → ℕ → ℕ
+numberAt file i = pick (eqb i 0) 1 (pick (ltb 24 i) 0 (getD file (i + 4) 0))

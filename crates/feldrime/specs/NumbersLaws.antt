@@ -1,21 +1,22 @@
 -- A page's numbers. Assumes nothing.
---     numbers-put    the numbers of a file, put part by part
+--     numbers-tab    the numbers of a file, byte by byte
 --     numbers-page   they are the file's page
 use Prim.Native.Nat.{ℕ, _+_, _*_, _<_, _≤_}
 use mathlib.Core.Path.{_≡_, refl, sym, _∙_}
 use mathlib.Core.Bool.{false}
-use mathlib.Core.List.{List, [], _∷_, _++_, append-nil}
+use mathlib.Core.List.{List, _++_}
 use native.Mathlib.Omega.{arith}
 use borrow.Author.Tests.{eqb-true, not-false}
 use lib.ListN.{length, getD, take, drop, replicate, List·getD-append}
-use lib.Seq.{drop-length, take-append-le, take-take, getD-take, getD-drop}
+use lib.Seq.{take-append-le, take-take, getD-take, getD-drop}
 use Rattle.lists.specs.Choice.{neither}
+use Rattle.lists.specs.Tab.{tab, tab-part}
 use Rattle.units.specs.Units.{dots}
 use Rattle.refusal.specs.declared.Refusal.the-variants.{Done, Size}
 use Rattle.refusal.specs.Laws.{passed}
-use Rattle.copies.specs.Put.{length-part, putAt, laid-none, put-on}
+use Rattle.copies.specs.Put.{length-part}
 use Rattle.files.specs.Page.{wordAt, pageAt}
-use Rattle.feldrime.specs.Numbers.{numbersRefused, numbersIn}
+use Rattle.feldrime.specs.Numbers.{numbersRefused, numbersIn, numberAt}
 use Rattle.feldrime.specs.Pages.{numbersCheck}
 
 pub numbers-all : (numbers : List ℕ) → numbersRefused numbers ≡ false → length numbers ≡ 32
@@ -26,17 +27,11 @@ pub numbers-passed : (numbers : List ℕ) → numbersCheck numbers ≡ Done → 
 unfolding numbersCheck
 numbers-passed numbers e = passed (numbersRefused numbers) Size _ refl e .0
 
-pub numbers-put : (file numbers : List ℕ) → 29 ≤ length file → length numbers ≡ 32 → {one two three : List ℕ}
-    → one ≡ putAt 0 (1 ∷ []) numbers → two ≡ putAt 1 (take 24 (drop 5 file)) one → three ≡ putAt 25 (replicate 7 0) two → three ≡ numbersIn file
-numbers-put file numbers l n e₁ e₂ e₃ =
-    let part = take 24 (drop 5 file) in
-    let l₁ = put-on [] (1 ∷ []) numbers 0 1 (laid-none numbers) refl e₁ in
-    let l₂ = put-on (1 ∷ []) part numbers 1 24 l₁ (length-part file 5 24 (omega (arith, l))) e₂ in
-    let l₃ = put-on ((1 ∷ []) ++ part) (replicate 7 0) numbers 25 7 l₂ refl e₃ in
-    l₃ .1 ∙ ends numbers n
-  where
-    ends : (xs : List ℕ) → length xs ≡ 32 → (((1 ∷ []) ++ take 24 (drop 5 file)) ++ replicate 7 0) ++ drop 32 xs ≡ numbersIn file
-    ends xs k = rw (sym k, drop-length xs) (append-nil _)
+pub numbers-tab : (file : List ℕ) → 29 ≤ length file → tab 32 (numberAt file) ≡ numbersIn file
+unfolding tab numberAt
+numbers-tab file l =
+    let part : take 24 (drop 5 file) ≡ tab 24 (λ i. getD file (5 + i) 0) = sym (tab-part file 5 24 (omega (arith, l))) in
+    rw part
 
 pub numbers-page : (file : List ℕ) → 29 ≤ length file → pageAt (numbersIn file) 1 ≡ pageAt file 5
 unfolding pageAt wordAt

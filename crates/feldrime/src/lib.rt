@@ -1,8 +1,8 @@
 // What C calls. Only numbers and slices cross; every call checks what it is given, so none has a condition to meet.
 ghost use mathlib.Core.Path.{_≡_};
-ghost use Prim.Native.Nat.{_≤_};
 ghost use lib.ListN.{length};
 ghost use Rattle.lists.specs.Choice.{pick};
+ghost use Rattle.lists.specs.Tab.{tab};
 ghost use lib.Dec.{eqb};
 ghost use mathlib.Core.Bool.{not};
 ghost use Rattle.units.specs.Units.{dots};
@@ -14,7 +14,7 @@ ghost use Rattle.shape.specs.Font.{lentFont, leftFont, fontRefused};
 ghost use Rattle.step.specs.Step.{stateOf};
 ghost use Rattle.files.specs.File.{readCheck, charsRead, attrsRead};
 ghost use Rattle.files.specs.FontFile.{fontCheck, fontRead};
-ghost use Rattle.feldrime.specs.Numbers.{numbersRefused, numbersIn};
+ghost use Rattle.feldrime.specs.Numbers.{numbersRefused, numberAt};
 ghost use Rattle.feldrime.specs.Answers.{answerOf, boardAnswer, byteAnswer};
 ghost use Rattle.feldrime.specs.Pages.{numbersCheck, sizeFor, pageReadSize, numbersRead, pageWriteCheck, pageWritten, runFor, boardFor};
 ghost use Rattle.feldrime.specs.LineDraw.{lineDrawCheck, lineDrawn};
@@ -94,16 +94,31 @@ pub extern "C" fn feldrime_page_size(numbers: &[u8]) -> SizeAnswer
     }
 }
 
-// The numbers of a page file.
-fn put_numbers(file: &[u8], numbers: &mut [u8])
-    requires { ⌜ (29 ≤ length (now file)) × (length (now numbers) ≡ 32) ⌝ }
-    ensures { λ _. ⌜ now (numbers .exit) ≡ numbersIn (now (file .entry)) ⌝ }
+// Byte i of a page file's numbers.
+fn number_at(file: &[u8], i: usize) -> u8
+    ensures { λ r. ⌜ r ≡ numberAt (now (file .entry)) i ⌝ }
 {
-    let version = [1u8; 1];
-    let zeros = [0u8; 7];
-    copies::put(&version, 0, numbers);
-    copies::put(&file[5..29], 1, numbers);
-    copies::put(&zeros, 25, numbers);
+    if i == 0 {
+        return 1;
+    }
+    if 24 < i {
+        return 0;
+    }
+    if file.len() <= i + 4 {
+        return 0;
+    }
+    file[i + 4]
+}
+
+// As many of a page file's numbers as there is room for.
+fn put_numbers(file: &[u8], numbers: &mut [u8])
+    ensures { λ _. ⌜ now (numbers .exit) ≡ tab (length (now (numbers .entry))) (numberAt (now (file .entry))) ⌝ }
+{
+    let mut i = 0;
+    while i < numbers.len() {
+        numbers[i] = number_at(file, i);
+        i += 1;
+    }
 }
 
 // Reads a page file: its numbers and the two memories. A refusal leaves them as they were.
@@ -121,9 +136,9 @@ pub extern "C" fn feldrime_page_read(
         × (now (attrs .exit) ≡ attrsRead (now (file .entry)) size (now (attrs .entry))) ⌝ }
 {
     let size = (chars.len() != 16384) | (attrs.len() != 16384) | (numbers.len() != 32);
-    let refused = files::read_check(file, size);
-    let answer = answered(refused);
-    if refusal::is_done(refused) {
+    let judged = files::read_check(file, size);
+    let answer = answered(judged);
+    if refusal::is_done(judged) {
         files::read_page(file, chars, attrs);
         put_numbers(file, numbers);
     }

@@ -2,12 +2,12 @@
 use Prim.Native.Nat.{ℕ, _+_, _/_, _%_, _≤_}
 use mathlib.Core.Path.{_≡_, refl, sym, _∙_}
 use mathlib.Core.Bool.{Bool, true, false, _||_, not, true≢false}
-use mathlib.Core.List.{List, [], _∷_, _++_, append-nil, append-assoc}
+use mathlib.Core.List.{List, [], _∷_, _++_, append-assoc}
 use native.Mathlib.Omega.{arith}
 use borrow.Author.Tests.{eqb-true, ltb-false, not-false}
 use lib.Dec.{eqb, ltb}
-use lib.ListN.{length, getD, take, drop, replicate, length-drop, length-append}
-use lib.Seq.{take-length, drop-length, length-take-le, ext-getD}
+use lib.ListN.{length, getD, take, drop, length-append}
+use lib.Seq.{ext-getD}
 use Rattle.lists.specs.Choice.{firstOf, neither}
 use Rattle.lists.specs.Tab.{tab, length-tab, getD-tab}
 use Rattle.refusal.specs.declared.Refusal.{Refusal}

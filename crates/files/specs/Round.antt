@@ -1,12 +1,12 @@
 -- Round trip. Assumes nothing.
 --     page-again     a page file's parts, written again, are the same bytes
 --     page-kept      a page's numbers, written and read again, are that page
-use Prim.Native.Nat.{ℕ, _+_, _*_, _/_, _%_, _<_, _≤_}
+use Prim.Native.Nat.{ℕ, _+_, _*_, _/_, _%_, _<_}
 use mathlib.Core.Path.{_≡_, sym, _∙_}
 use mathlib.Core.List.{List, [], _∷_, _++_, append-assoc}
 use native.Mathlib.Omega.{arith}
-use lib.ListN.{length, getD, take, drop, replicate, length-drop, take-append-drop, List·getD-append}
-use lib.Seq.{drop-drop, take-all, take-at, drop-at, take-append-le, take-take, getD-take, getD-drop}
+use lib.ListN.{length, getD, take, drop, length-drop, take-append-drop}
+use lib.Seq.{drop-drop, take-all, take-at, drop-at, getD-drop}
 use Rattle.lists.specs.Tab.{tab, tab-part}
 use Rattle.units.specs.Units.{dots}
 use Rattle.board.specs.declared.Page.{Page}

@@ -5,16 +5,9 @@ use Rattle.refusal.specs.Laws.{done-is, checked}
 use Rattle.board.specs.State.{powerOf}
 use Rattle.files.specs.Laws.{read-refused}
 use Rattle.feldrime.specs.Answers.{answerOf}
-use Rattle.feldrime.specs.Laws.{page-read-fits, same-size, numbers-done, numbers-kept}
+use Rattle.feldrime.specs.Laws.{same-size, numbers-done, numbers-kept}
 use Rattle.feldrime.proofs.feldrime_page_read.Statement.{statement}
 use Rattle.feldrime.proofs.feldrime_page_read.Tie as tie
-
-put-numbers-requires : tie.Need-put-numbers-requires
-put-numbers-requires c κs =
-    let then = c .before .before .before .before .before .before .before .before in
-    let start = then .before .before .before .before .before .before .before .before in
-    page-read-fits (start .args .file .now) (length (start .args .numbers .now)) (length (start .args .chars .now)) (length (start .args .attrs .now))
-    (done-is _ (checked (then .before .before .before .read-check .ensures) (then .before .is-done .ensures) (then .if1 .taken)))
 
 returns : tie.Need-returns
 returns c =
@@ -22,8 +15,12 @@ returns c =
     let start = then .before .before .before .before .before .before .before .before in
     let check = then .before .before .before .read-check .ensures in
     let done = checked check (then .before .is-done .ensures) (then .if1 .taken) in
-    let read = rw (same-size (start .args .file .now) (length (start .args .numbers .now)) (length (start .args .chars .now)) (length (start .args .attrs .now)) (done-is _ done)) at (c .before .before .before .before .before .before .before .before .read-page .ensures) in
-    (then .before .before .answered .ensures ∙ ap answerOf check, numbers-done _ _ _ done (c .before .before .put-numbers .ensures), read .1, read .2)
+    let file = start .args .file .now in
+    let n = length (start .args .numbers .now) in
+    let chars = length (start .args .chars .now) in
+    let attrs = length (start .args .attrs .now) in
+    let read = rw (same-size file n chars attrs (done-is _ done)) at (c .before .before .before .before .before .before .before .before .read-page .ensures) in
+    (then .before .before .answered .ensures ∙ ap answerOf check, numbers-done file n chars attrs (done-is _ done) _ (c .before .before .put-numbers .ensures), read .1, read .2)
 
 returns-2 : tie.Need-returns-2
 returns-2 c =
@@ -40,7 +37,7 @@ feldrime-page-read-spec =
     (λ c κs. search needs)
     (λ c κs. search needs)
     (λ c κs. search needs)
-    put-numbers-requires
+    (λ c κs. search needs)
     (λ c. search needs)
     (λ c. search needs)
     (λ c. search needs)
