@@ -1,0 +1,2 @@
+-- The promises, about the calls themselves.
+pub mod Sizes

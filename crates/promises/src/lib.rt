@@ -1,0 +1,2 @@
+// The promises as functions that call the calls for C: each proves only where the contracts that it calls are strong enough for its own.
+pub mod sizes;
