@@ -1,2 +1,4 @@
 -- The promises, about the calls themselves.
 pub mod Sizes
+pub mod Again
+pub mod Lines

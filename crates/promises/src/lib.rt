@@ -1,2 +1,4 @@
 // The promises as functions that call the calls for C: each proves only where the contracts that it calls are strong enough for its own.
+pub mod again;
+pub mod lines;
 pub mod sizes;

@@ -1,0 +1,60 @@
+// A line drawn by stepping, dot by dot, beside the line drawn whole. The calls that follow take the step by value:
+// `feldrime_step` alters a board where it stands, which only C may lend; its contract is `step_numbers`' own.
+use feldrime::Answer;
+ghost use mathlib.Core.Path.{_≡_};
+ghost use mathlib.Core.Bool.{true};
+ghost use mathlib.Core.List.{_++_};
+ghost use Prim.Native.Nat.{_<_};
+ghost use lib.ListN.{length, drop};
+ghost use Rattle.timing.specs.Fields.{visibleOf};
+ghost use Rattle.agreement.specs.Lines.{clockOf};
+ghost use Rattle.refusal.specs.Number.{numberOf};
+ghost use Rattle.shape.specs.Font.{fontOf};
+ghost use Rattle.line.specs.Line.{lineDots, lineLength};
+ghost use Rattle.feldrime.specs.Answers.{answerOf};
+ghost use Rattle.feldrime.specs.LineDraw.{lineDrawCheck, lineDrawn};
+ghost use Rattle.promises.specs.Lines.{Steppable};
+
+// The board's clock at the first dot of a line, in the frame whose number is the field's.
+fn clock_of(b: board::Board, line: u32, field: u8) -> u32
+    requires { ⌜ line < visibleOf (b .page .irs) .0 ⌝ }
+    ensures { λ r. ⌜ r ≡ clockOf b field line 0 ⌝ }
+{
+    let irs = b.page.irs;
+    let t = timing::timing_of(irs);
+    (field as u32 * t.counts.vt.0 + line) * t.counts.ht.0
+}
+
+// The dots of a line's active clocks, each clock's into its own stretch of out.
+fn step_line(
+    out: &mut [u8],
+    b: board::Board,
+    chars: &[u8],
+    attrs: &[u8],
+    words: &[u16],
+    flags: &[u8],
+    unshifted: &[u8],
+    shifted: &[u8],
+    line: u32,
+    field: u8,
+)
+    requires { ⌜ Steppable b (now chars) (now attrs) (fontOf (now words) (now flags) (now unshifted) (now shifted)) line (length (now out)) ⌝ }
+    ensures { λ _. ⌜ now (out .exit) ≡ lineDots b (now (chars .entry)) (now (attrs .entry)) (fontOf (now (words .entry)) (now (flags .entry)) (now (unshifted .entry)) (now (shifted .entry))) line field
+        ++ drop (lineLength b) (now (out .entry)) ⌝ }
+{
+    let irs = b.page.irs;
+    let t = timing::timing_of(irs);
+    let n = t.counts.hact.0 as usize;
+    let asked = feldrime::feldrime_state_at(b, chars, attrs, clock_of(b, line, field));
+    let mut at = asked.board;
+    let mut c = 0;
+    while c < n {
+        let d = b.page.video.dots.0 as usize;
+        let a = c * d;
+        let s = feldrime::step_numbers(at, chars, attrs, words, flags, unshifted, shifted);
+        let dots = s.answer.dots;
+        bytes::copy(&dots[..d], &mut out[a..]);
+        at = s.board;
+        c += 1;
+    }
+}
