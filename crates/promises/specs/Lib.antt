@@ -2,3 +2,4 @@
 pub mod Sizes
 pub mod Again
 pub mod Lines
+pub mod Asked

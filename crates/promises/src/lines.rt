@@ -58,3 +58,91 @@ fn step_line(
         c += 1;
     }
 }
+
+// What the call that draws answers, from the calls that step. A step answers 3 for what is lent whatever the board is.
+fn line_answer(
+    numbers: &[u8],
+    chars: &[u8],
+    attrs: &[u8],
+    words: &[u16],
+    flags: &[u8],
+    unshifted: &[u8],
+    shifted: &[u8],
+    line: u32,
+    room: usize,
+) -> u32
+    ensures { λ r. ⌜ r ≡ numberOf (lineDrawCheck (now (numbers .entry)) (now (chars .entry)) (now (attrs .entry))
+        (fontOf (now (words .entry)) (now (flags .entry)) (now (unshifted .entry)) (now (shifted .entry))) line room) ⌝ }
+{
+    let made = feldrime::feldrime_board_of(numbers);
+    if made.refusal == 3 {
+        return 3;
+    }
+    let board = made.board;
+    let tried = feldrime::step_numbers(board, chars, attrs, words, flags, unshifted, shifted);
+    if tried.answer.refusal == 3 {
+        return 3;
+    }
+    if made.refusal != 0 {
+        return made.refusal;
+    }
+    let size = feldrime::feldrime_page_size(numbers);
+    if size.lines <= line {
+        return 7;
+    }
+    if room < size.dots as usize {
+        return 8;
+    }
+    0
+}
+
+// Draws a visible line as it looks in a field by stepping, dot by dot: the contract is that of `feldrime_line_draw`.
+pub fn line_by_steps(
+    numbers: &[u8],
+    chars: &[u8],
+    attrs: &[u8],
+    words: &[u16],
+    flags: &[u8],
+    unshifted: &[u8],
+    shifted: &[u8],
+    line: u32,
+    field: u8,
+    out: &mut [u8],
+) -> Answer
+    ensures { λ r. ⌜ (r ≡ answerOf (lineDrawCheck (now (numbers .entry)) (now (chars .entry)) (now (attrs .entry))
+        (fontOf (now (words .entry)) (now (flags .entry)) (now (unshifted .entry)) (now (shifted .entry))) line (length (now (out .entry)))))
+        × (now (out .exit) ≡ lineDrawn (now (numbers .entry)) (now (chars .entry)) (now (attrs .entry))
+        (fontOf (now (words .entry)) (now (flags .entry)) (now (unshifted .entry)) (now (shifted .entry))) line field (now (out .entry))) ⌝ }
+{
+    let refused = line_answer(
+        numbers,
+        chars,
+        attrs,
+        words,
+        flags,
+        unshifted,
+        shifted,
+        line,
+        out.len(),
+    );
+    if refused == 0 {
+        let made = feldrime::feldrime_board_of(numbers);
+        let board = made.board;
+        step_line(
+            out,
+            board,
+            chars,
+            attrs,
+            words,
+            flags,
+            unshifted,
+            shifted,
+            line,
+            field,
+        );
+    }
+    Answer {
+        refusal: refused,
+        beside: 0,
+    }
+}
