@@ -5,7 +5,7 @@ use mathlib.Core.Bool.{Bool, true, false, _||_, not, or-true}
 use mathlib.Core.List.{List, [], _∷_, _++_}
 use native.Mathlib.Omega.{arith}
 use borrow.Author.Tests.{eq-eqb, ne-eqb, le-leb, lt-leb, lt-ltb, le-ltb, leb-false, ltb-false}
-use lib.Dec.{ltb, leb}
+use lib.Dec.{eqb, ltb, leb}
 use lib.ListN.{length, drop}
 use Rattle.lists.specs.Choice.{pick, firstOf, neither}
 use Rattle.refusal.specs.declared.Refusal.{Refusal}
@@ -21,6 +21,7 @@ use Rattle.shape.specs.Font.{Font, fontOf}
 use Rattle.line.specs.Line.{lentRefused, lineLength, lineDots, drawCheck, drawnOf}
 use Rattle.clock.specs.Step.{steppedOf, stepCheck, stepOf}
 use Rattle.files.specs.Page.{pageAt}
+use Rattle.feldrime.specs.declared.Answer.{Answer}
 use Rattle.feldrime.specs.declared.SizeAnswer.{SizeAnswer}
 use Rattle.feldrime.specs.declared.BoardAnswer.{BoardAnswer}
 use Rattle.feldrime.specs.declared.StepBy.{StepBy}
@@ -69,6 +70,12 @@ step-answer b chars attrs f = go (doneOf (stepCheck b chars attrs f)) refl
     go true t = rw t (sym (done-is _ t))
     go false t = rw t
 
+pub step-is : (b : Board) (chars attrs words flags unshifted shifted : List ℕ) {s : StepBy} → s ≡ stepNumbers b chars attrs words flags unshifted shifted
+    → s .answer .refusal ≡ numberOf (stepCheck b chars attrs (fontOf words flags unshifted shifted))
+unfolding numbered
+step-is b chars attrs words flags unshifted shifted e =
+    ap (λ (x : StepBy). x .answer .refusal) e ∙ ap numberOf (step-answer b chars attrs (fontOf words flags unshifted shifted))
+
 -- ---- the calls, one after the other
 
 module _ (numbers chars attrs words flags unshifted shifted : List ℕ) (line room : ℕ) {m : BoardAnswer} (made : m ≡ boardFor numbers) where
@@ -101,14 +108,10 @@ module _ (numbers chars attrs words flags unshifted shifted : List ℕ) (line ro
       go false t = t
 
   module _ {s : StepBy} (tried : s ≡ stepNumbers (m .board) chars attrs words flags unshifted shifted) where
-    tried-is : s .answer .refusal ≡ numberOf (stepCheck (m .board) chars attrs (fontOf words flags unshifted shifted))
-    unfolding numbered
-    tried-is = ap (λ (x : StepBy). x .answer .refusal) tried ∙ ap numberOf (step-answer (m .board) chars attrs (fontOf words flags unshifted shifted))
-
     -- 3 for what is lent: a step answers it whatever the board is
     pub lent-three : s .answer .refusal ≡ 3 → 3 ≡ answer
     unfolding lineDrawCheck drawCheck callCheck
-    lent-three e = rw (call-three (m .board) lent (sym tried-is ∙ e)) (go (numbersRefused numbers))
+    lent-three e = rw (call-three (m .board) lent (sym (step-is (m .board) chars attrs words flags unshifted shifted tried) ∙ e)) (go (numbersRefused numbers))
       where
         go : (t : Bool) → 3 ≡ numberOf (pick t Size Size)
         go true = refl
@@ -116,7 +119,7 @@ module _ (numbers chars attrs words flags unshifted shifted : List ℕ) (line ro
 
     module _ (no-three : m .refusal ≡ 3 → ⊥) (none-lent : s .answer .refusal ≡ 3 → ⊥) where
       lent-fine : lent ≡ false
-      lent-fine = call-size (m .board) lent (λ e. none-lent (tried-is ∙ e))
+      lent-fine = call-size (m .board) lent (λ e. none-lent (step-is (m .board) chars attrs words flags unshifted shifted tried ∙ e))
 
       -- then the page's own
       pub pages-own : (m .refusal ≡ 0 → ⊥) → m .refusal ≡ answer
@@ -208,3 +211,12 @@ module _ (numbers chars attrs : List ℕ) (f : Font) (line : ℕ) (out : List �
         → (record { refusal = r; beside = 0 } ≡ answerOf (lineDrawCheck numbers chars attrs f line (length out))) × (out′ ≡ lineDrawn numbers chars attrs f line field out)
     unfolding lineDrawn drawnOf
     stepped field q = (answered, rw (accepted .0, accepted .1) (rw board-is at q))
+
+-- two calls with the contract of the call that draws
+pub same-drawn : (numbers chars attrs : List ℕ) (f : Font) (line field : ℕ) (out other : List ℕ) {a b : Answer} {out′ other′ : List ℕ}
+    → (a ≡ answerOf (lineDrawCheck numbers chars attrs f line (length out))) × (out′ ≡ lineDrawn numbers chars attrs f line field out)
+    → (b ≡ answerOf (lineDrawCheck numbers chars attrs f line (length other))) × (other′ ≡ lineDrawn numbers chars attrs f line field other)
+    → out ≡ other → (eqb (a .refusal) (b .refusal) ≡ true) × (out′ ≡ other′)
+same-drawn numbers chars attrs f line field out other {a} {b} p q e =
+    let same : a ≡ b = p .0 ∙ rw e (sym (q .0)) in
+    (eq-eqb _ _ (ap (λ (x : Answer). x .refusal) same), p .1 ∙ rw e (sym (q .1)))

@@ -3,3 +3,4 @@ pub mod Sizes
 pub mod Again
 pub mod Lines
 pub mod Asked
+pub mod States

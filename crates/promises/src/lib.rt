@@ -2,3 +2,4 @@
 pub mod again;
 pub mod lines;
 pub mod sizes;
+pub mod states;

@@ -114,6 +114,7 @@ pub fn line_by_steps(
         × (now (out .exit) ≡ lineDrawn (now (numbers .entry)) (now (chars .entry)) (now (attrs .entry))
         (fontOf (now (words .entry)) (now (flags .entry)) (now (unshifted .entry)) (now (shifted .entry))) line field (now (out .entry))) ⌝ }
 {
+    let room = out.len();
     let refused = line_answer(
         numbers,
         chars,
@@ -123,7 +124,7 @@ pub fn line_by_steps(
         unshifted,
         shifted,
         line,
-        out.len(),
+        room,
     );
     if refused == 0 {
         let made = feldrime::feldrime_board_of(numbers);
@@ -145,4 +146,47 @@ pub fn line_by_steps(
         refusal: refused,
         beside: 0,
     }
+}
+
+// The two ways to draw from C, over the same numbers: the same answer, and what was the same in both buffers is the same again.
+pub fn drawn_both_ways(
+    numbers: &[u8],
+    chars: &[u8],
+    attrs: &[u8],
+    words: &[u16],
+    flags: &[u8],
+    unshifted: &[u8],
+    shifted: &[u8],
+    line: u32,
+    field: u8,
+    out: &mut [u8],
+    other: &mut [u8],
+) -> bool
+    ensures { λ r. ⌜ (now (out .entry) ≡ now (other .entry) → (r ≡ true) × (now (out .exit) ≡ now (other .exit))) ⌝ }
+{
+    let whole = feldrime::feldrime_line_draw(
+        numbers,
+        chars,
+        attrs,
+        words,
+        flags,
+        unshifted,
+        shifted,
+        line,
+        field,
+        out,
+    );
+    let stepped = line_by_steps(
+        numbers,
+        chars,
+        attrs,
+        words,
+        flags,
+        unshifted,
+        shifted,
+        line,
+        field,
+        other,
+    );
+    whole.refusal == stepped.refusal
 }
