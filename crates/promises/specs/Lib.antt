@@ -4,3 +4,4 @@ pub mod Again
 pub mod Lines
 pub mod Asked
 pub mod States
+pub mod Registers
