@@ -1,7 +1,4 @@
--- The promises, about the calls themselves.
+-- Promises about the calls: files, a page's numbers, registers.
 pub mod Sizes
 pub mod Again
-pub mod Lines
-pub mod Asked
-pub mod States
 pub mod Registers

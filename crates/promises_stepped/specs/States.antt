@@ -18,7 +18,7 @@ use Rattle.feldrime.specs.declared.StepBy.{StepBy}
 use Rattle.feldrime.specs.Answers.{boardAnswer}
 use Rattle.feldrime.specs.Step.{numbered, stepNumbers}
 use Rattle.agreement.specs.Steps.{after, at-once}
-use Rattle.promises.specs.Asked.{step-is}
+use Rattle.promises_stepped.specs.Asked.{step-is}
 
 -- what a step answers for the board; where that is 0, the board that is asked for at clock n, and else the old one
 unfoldable pub steppedTo : Board → (chars attrs : List ℕ) → Font → ℕ → BoardAnswer

@@ -11,9 +11,9 @@ use Rattle.line.specs.Line.{columnDots, lineDots}
 use Rattle.timing.specs.Fields.{hactOf}
 use Rattle.agreement.specs.Steps.{after}
 use Rattle.agreement.specs.Lines.{clockOf}
-use Rattle.promises.specs.Lines.{hact-is, width, turns-fit, each, begins, goes-on, wide, enough, copied}
-use Rattle.promises.proofs.lines.step_line.Statement.{statement}
-use Rattle.promises.proofs.lines.step_line.Tie as tie
+use Rattle.promises_stepped.specs.Lines.{hact-is, width, turns-fit, each, begins, goes-on, wide, enough, copied}
+use Rattle.promises_stepped.proofs.lines.step_line.Statement.{statement}
+use Rattle.promises_stepped.proofs.lines.step_line.Tie as tie
 
 abbrev Inv-loop : tie.InvT-loop
 Inv-loop out₀ b chars attrs words flags unshifted shifted line field n at₀ c₀ out at c =

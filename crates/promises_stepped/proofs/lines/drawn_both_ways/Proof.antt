@@ -1,7 +1,7 @@
 use borrow.Author.Needs.{needs}
-use Rattle.promises.specs.Asked.{same-drawn}
-use Rattle.promises.proofs.lines.drawn_both_ways.Statement.{statement}
-use Rattle.promises.proofs.lines.drawn_both_ways.Tie as tie
+use Rattle.promises_stepped.specs.Asked.{same-drawn}
+use Rattle.promises_stepped.proofs.lines.drawn_both_ways.Statement.{statement}
+use Rattle.promises_stepped.proofs.lines.drawn_both_ways.Tie as tie
 
 returns : tie.Need-returns
 returns c same =

@@ -4,9 +4,9 @@ use native.Mathlib.Omega.{arith}
 use borrow.Author.Needs.{needs}
 use Rattle.shape.specs.Font.{fontOf}
 use Rattle.agreement.specs.Steps.{after}
-use Rattle.promises.specs.States.{not-stepped, stepped, starts, goes}
-use Rattle.promises.proofs.states.stepped_to.Statement.{statement}
-use Rattle.promises.proofs.states.stepped_to.Tie as tie
+use Rattle.promises_stepped.specs.States.{not-stepped, stepped, starts, goes}
+use Rattle.promises_stepped.proofs.states.stepped_to.Statement.{statement}
+use Rattle.promises_stepped.proofs.states.stepped_to.Tie as tie
 
 abbrev Inv-loop : tie.InvT-loop
 Inv-loop chars attrs words flags unshifted shifted n refused at₀ i₀ at i = (i ≤ n) × (at ≡ after at₀ chars attrs (fontOf words flags unshifted shifted) i)

@@ -1,5 +1,4 @@
-// A line drawn by stepping, dot by dot, beside the line drawn whole. The calls that follow take the step by value:
-// `feldrime_step` alters a board where it stands, which only C may lend; its contract is `step_numbers`' own.
+// A line drawn by stepping, dot by dot, beside the line drawn whole.
 use feldrime::Answer;
 ghost use mathlib.Core.Path.{_≡_};
 ghost use mathlib.Core.Bool.{true};
@@ -13,7 +12,7 @@ ghost use Rattle.shape.specs.Font.{fontOf};
 ghost use Rattle.line.specs.Line.{lineDots, lineLength};
 ghost use Rattle.feldrime.specs.Answers.{answerOf};
 ghost use Rattle.feldrime.specs.LineDraw.{lineDrawCheck, lineDrawn};
-ghost use Rattle.promises.specs.Lines.{Steppable};
+ghost use Rattle.promises_stepped.specs.Lines.{Steppable};
 
 // The board's clock at the first dot of a line, in the frame whose number is the field's.
 fn clock_of(b: board::Board, line: u32, field: u8) -> u32

@@ -1,7 +1,7 @@
 use borrow.Author.Needs.{needs}
-use Rattle.promises.specs.Asked.{kept, steppable, stepped}
-use Rattle.promises.proofs.lines.line_by_steps.Statement.{statement}
-use Rattle.promises.proofs.lines.line_by_steps.Tie as tie
+use Rattle.promises_stepped.specs.Asked.{kept, steppable, stepped}
+use Rattle.promises_stepped.proofs.lines.line_by_steps.Statement.{statement}
+use Rattle.promises_stepped.proofs.lines.line_by_steps.Tie as tie
 
 step-line-requires : tie.Need-step-line-requires
 step-line-requires c κs =

@@ -1,8 +1,8 @@
 use mathlib.Core.Path.{ap}
 use borrow.Author.Needs.{needs}
 use Rattle.clock.specs.Step.{withPlace}
-use Rattle.promises.proofs.states.at_zero.Statement.{statement}
-use Rattle.promises.proofs.states.at_zero.Tie as tie
+use Rattle.promises_stepped.proofs.states.at_zero.Statement.{statement}
+use Rattle.promises_stepped.proofs.states.at_zero.Tie as tie
 
 returns : tie.Need-returns
 returns c = ap (withPlace (c .before .args .b)) (c .clock-zero .ensures)

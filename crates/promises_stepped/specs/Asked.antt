@@ -31,7 +31,7 @@ use Rattle.feldrime.specs.Pages.{numbersCheck, sizeFor, boardFor}
 use Rattle.feldrime.specs.LineDraw.{lineDrawCheck, lineDrawn}
 use Rattle.feldrime.specs.Step.{numbered, stepNumbers}
 use Rattle.agreement.specs.Steps.{range-ok, call-ok}
-use Rattle.promises.specs.Lines.{Steppable}
+use Rattle.promises_stepped.specs.Lines.{Steppable}
 
 -- ---- 3 is a size and nothing else
 

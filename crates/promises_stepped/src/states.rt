@@ -1,10 +1,10 @@
-// A state asked for, and stepped to. The step is by value: see `lines`.
+// A state asked for, and stepped to.
 use feldrime::BoardAnswer;
 ghost use mathlib.Core.Path.{_≡_};
 ghost use Rattle.board.specs.State.{clockZero};
 ghost use Rattle.clock.specs.Step.{withPlace};
 ghost use Rattle.shape.specs.Font.{fontOf};
-ghost use Rattle.promises.specs.States.{steppedTo};
+ghost use Rattle.promises_stepped.specs.States.{steppedTo};
 
 fn at_zero(b: board::Board) -> board::Board
     ensures { λ r. ⌜ r ≡ withPlace b clockZero ⌝ }

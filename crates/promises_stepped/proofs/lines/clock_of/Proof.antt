@@ -1,9 +1,9 @@
 use native.Mathlib.Omega.{arith}
 use borrow.Author.Needs.{needs}
 use Rattle.timing.specs.Laws.{visible-bound}
-use Rattle.promises.specs.Lines.{frames-fit, clocks-fit, clock-is}
-use Rattle.promises.proofs.lines.clock_of.Statement.{statement}
-use Rattle.promises.proofs.lines.clock_of.Tie as tie
+use Rattle.promises_stepped.specs.Lines.{frames-fit, clocks-fit, clock-is}
+use Rattle.promises_stepped.proofs.lines.clock_of.Statement.{statement}
+use Rattle.promises_stepped.proofs.lines.clock_of.Tie as tie
 
 mul-result : tie.Need-mul-result
 mul-result c =

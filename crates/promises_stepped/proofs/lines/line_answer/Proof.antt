@@ -1,8 +1,8 @@
 use native.Mathlib.Omega.{arith}
 use borrow.Author.Needs.{needs}
-use Rattle.promises.specs.Asked.{numbers-three, lent-three, pages-own, hidden, no-room, nothing}
-use Rattle.promises.proofs.lines.line_answer.Statement.{statement}
-use Rattle.promises.proofs.lines.line_answer.Tie as tie
+use Rattle.promises_stepped.specs.Asked.{numbers-three, lent-three, pages-own, hidden, no-room, nothing}
+use Rattle.promises_stepped.proofs.lines.line_answer.Statement.{statement}
+use Rattle.promises_stepped.proofs.lines.line_answer.Tie as tie
 
 returns : tie.Need-returns
 returns c = numbers-three _ _ _ _ _ _ _ _ _ (c .before .before .feldrime-board-of .ensures) (c .if1 .taken)
