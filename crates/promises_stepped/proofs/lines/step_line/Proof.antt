@@ -53,7 +53,7 @@ cast-n : tie.Need-cast-n Inv-loop μ-loop
 cast-n c = omega (arith, hact-is _ (c .before .timing-of .ensures))
 
 clock-of-requires : tie.Need-clock-of-requires Inv-loop μ-loop
-clock-of-requires c κs = c .before .before .before .before .before .before .before .before .before .before .pre .visible
+clock-of-requires c κs = omega (arith, c .before .before .before .before .before .before .before .before .before .before .pre .visible)
 
 feldrime-state-at-requires : tie.Need-feldrime-state-at-requires Inv-loop μ-loop
 feldrime-state-at-requires c κs = search needs
