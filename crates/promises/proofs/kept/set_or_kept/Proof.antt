@@ -1,0 +1,14 @@
+use borrow.Author.Needs.{needs}
+use Rattle.promises.specs.Registers.{video-kept}
+use Rattle.promises.proofs.kept.set_or_kept.Statement.{statement}
+use Rattle.promises.proofs.kept.set_or_kept.Tie as tie
+
+returns : tie.Need-returns
+returns c = video-kept _ _ _ _ _ (c .feldrime-set-video .ensures)
+
+pub set-or-kept-spec : {M : Type 1} → statement M
+set-or-kept-spec =
+    tie.close
+    (tie.spec
+    (λ c κs. search needs)
+    returns)

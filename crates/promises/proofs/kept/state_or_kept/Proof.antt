@@ -1,0 +1,14 @@
+use borrow.Author.Needs.{needs}
+use Rattle.promises.specs.Registers.{state-kept}
+use Rattle.promises.proofs.kept.state_or_kept.Statement.{statement}
+use Rattle.promises.proofs.kept.state_or_kept.Tie as tie
+
+returns : tie.Need-returns
+returns c = state-kept _ _ _ _ (c .feldrime-state-at .ensures)
+
+pub state-or-kept-spec : {M : Type 1} → statement M
+state-or-kept-spec =
+    tie.close
+    (tie.spec
+    (λ c κs. search needs)
+    returns)

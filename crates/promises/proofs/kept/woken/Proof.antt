@@ -1,0 +1,17 @@
+use borrow.Author.Needs.{needs}
+use Rattle.promises.specs.Registers.{wakes}
+use Rattle.promises.proofs.kept.woken.Statement.{statement}
+use Rattle.promises.proofs.kept.woken.Tie as tie
+
+returns : tie.Need-returns
+returns c = wakes (c .before .before .before .before .before .feldrime-power .ensures) (c .before .before .before .before .feldrime-write .ensures) _ (c .before .before .feldrime-write2 .ensures) (c .feldrime-write3 .ensures)
+
+pub woken-spec : {M : Type 1} → statement M
+woken-spec =
+    tie.close
+    (tie.spec
+    (λ c κs. search needs)
+    (λ c κs. search needs)
+    (λ c κs. search needs)
+    (λ c κs. search needs)
+    returns)

@@ -1,0 +1,14 @@
+use borrow.Author.Needs.{needs}
+use Rattle.promises.specs.Registers.{write-kept}
+use Rattle.promises.proofs.kept.written_or_kept.Statement.{statement}
+use Rattle.promises.proofs.kept.written_or_kept.Tie as tie
+
+returns : tie.Need-returns
+returns c = write-kept _ _ _ (c .feldrime-write .ensures)
+
+pub written-or-kept-spec : {M : Type 1} → statement M
+written-or-kept-spec =
+    tie.close
+    (tie.spec
+    (λ c κs. search needs)
+    returns)

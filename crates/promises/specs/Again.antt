@@ -1,0 +1,111 @@
+-- A file read and written again. Assumes nothing.
+use Prim.Native.Nat.{ℕ, _≤_}
+use mathlib.Core.Path.{_≡_, refl, sym, ap, _∙_}
+use mathlib.Core.Bool.{Bool, true, false, _||_, or-true}
+use mathlib.Core.List.{List, _++_}
+use borrow.Author.Tests.{eq-eqb, ne-eqb, ltb-false}
+use lib.ListN.{length, drop, replicate}
+use lib.Dec.{ltb}
+use Rattle.lists.specs.Choice.{pick}
+use Rattle.refusal.specs.declared.Refusal.{Refusal}
+use Rattle.refusal.specs.declared.Refusal.the-variants.{Done, Size}
+use Rattle.refusal.specs.Number.{numberOf, doneOf}
+use Rattle.refusal.specs.Laws.{done-is}
+use Rattle.board.specs.declared.Board.{Board}
+use Rattle.board.specs.Range.{memoriesRefused}
+use Rattle.timing.specs.Check.{callCheck}
+use Rattle.shape.specs.Font.{Font, fontOf, fontRefused}
+use Rattle.files.specs.File.{readCheck, charsRead, attrsRead, writeCheck, written}
+use Rattle.files.specs.FontFile.{fontCheck, fontRead, fontWriteCheck, fontWritten}
+use Rattle.files.specs.Round.{Bytes}
+use Rattle.feldrime.specs.declared.Answer.{Answer}
+use Rattle.feldrime.specs.Numbers.{numbersRefused, boardOf}
+use Rattle.feldrime.specs.Answers.{answerOf}
+use Rattle.feldrime.specs.Pages.{numbersRead, pageWriteCheck, pageWritten}
+use Rattle.agreement.specs.Files.{page-same-from-c, font-same}
+
+-- the read's own answer, then 3 where there is room for less than the file's n bytes
+unfoldable pub againCheck : (read : Refusal) (n room : ℕ) → Refusal
+againCheck read n room = pick (doneOf read) (pick (ltb room n) Size Done) read
+
+-- the file, and what stood beyond it; on a refusal the buffer as it was
+unfoldable pub again : (read : Refusal) (n : ℕ) (file out : List ℕ) → List ℕ
+again read n file out = pick (doneOf (againCheck read n (length out))) (file ++ drop n out) out
+
+-- a call's answer that is 0, and one that is not
+pub answer-done : (r : Refusal) {a : Answer} → a ≡ answerOf r → a .refusal ≡ 0 → r ≡ Done
+answer-done r p e = done-is r (eq-eqb _ _ (ap (λ (x : Answer). x .refusal) (sym p) ∙ e))
+
+-- a read that refuses
+pub read-stops : (r : Refusal) (n : ℕ) (file out : List ℕ) {a : Answer} → a ≡ answerOf r → (a .refusal ≡ 0 → ⊥)
+    → (a ≡ answerOf (againCheck r n (length out))) × (out ≡ again r n file out)
+unfolding againCheck again
+read-stops r n file out p e = let d : doneOf r ≡ false = ne-eqb _ _ (λ q. e (ap (λ (x : Answer). x .refusal) p ∙ q)) in (rw d p, rw (d, d))
+
+-- a read that is done, and the write after it: w is the write's answer, and out′ what it leaves
+module _ (n : ℕ) (file out : List ℕ) {r w : Refusal} {a : Answer} {out′ : List ℕ} (ok : r ≡ Done) (p : a ≡ answerOf w)
+    (roomy : n ≤ length out → (w ≡ Done) × (out′ ≡ file ++ drop n out)) (short : ltb (length out) n ≡ true → (w ≡ Size) × (out′ ≡ out)) where
+  pub wrote : (a ≡ answerOf (againCheck r n (length out))) × (out′ ≡ again r n file out)
+  unfolding againCheck again
+  wrote = go (ltb (length out) n) refl
+    where
+      go : (t : Bool) → ltb (length out) n ≡ t → (a ≡ answerOf (againCheck r n (length out))) × (out′ ≡ again r n file out)
+      go true t = (rw (ok, t) (p ∙ ap answerOf (short t .0)), rw (ok, t) (short t .1))
+      go false t = let w = roomy (ltb-false _ _ t) in (rw (ok, t) (p ∙ ap answerOf (w .0)), rw (ok, t) (w .1))
+
+-- ---- a page
+
+-- a buffer that is too short
+write-short : (b : Board) (c a n : ℕ) → ltb n 32797 ≡ true → writeCheck b c a n ≡ Size
+unfolding writeCheck callCheck
+write-short b c a n t = rw (t, or-true (memoriesRefused c a))
+
+page-short : (numbers chars attrs out : List ℕ) → ltb (length out) 32797 ≡ true
+    → (pageWriteCheck numbers (length chars) (length attrs) (length out) ≡ Size) × (pageWritten numbers chars attrs out ≡ out)
+unfolding pageWriteCheck pageWritten written
+page-short numbers chars attrs out t = rw (write-short (boardOf numbers) (length chars) (length attrs) (length out) t) (both (numbersRefused numbers))
+  where
+    both : (x : Bool) → (pick x Size Size ≡ Size) × (pick x out out ≡ out)
+    both true = (refl, refl)
+    both false = (refl, refl)
+
+-- what the three buffers of zeros hold once the file is read into them
+abbrev zeros : ℕ → List ℕ
+zeros n = replicate n 0
+
+module _ (file : List ℕ) (bytes : Bytes file) (out : List ℕ) {a : Answer} {numbers chars attrs : List ℕ}
+    (read : (a ≡ answerOf (readCheck file false)) × (numbers ≡ numbersRead file false (zeros 32)) × (chars ≡ charsRead file false (zeros 16384)) × (attrs ≡ attrsRead file false (zeros 16384))) where
+  pub page-refused : (a .refusal ≡ 0 → ⊥) → (a ≡ answerOf (againCheck (readCheck file false) 32797 (length out))) × (out ≡ again (readCheck file false) 32797 file out)
+  page-refused e = read-stops (readCheck file false) 32797 file out (read .0) e
+
+  pub page-wrote : a .refusal ≡ 0 → {w : Answer} {out′ : List ℕ}
+      → (w ≡ answerOf (pageWriteCheck numbers (length chars) (length attrs) (length out))) × (out′ ≡ pageWritten numbers chars attrs out)
+      → (w ≡ answerOf (againCheck (readCheck file false) 32797 (length out))) × (out′ ≡ again (readCheck file false) 32797 file out)
+  page-wrote e {w} {out′} write =
+      let ok : readCheck file false ≡ Done = answer-done _ (read .0) e in
+      wrote 32797 file out ok (write .0)
+      (λ l. let s = page-same-from-c file bytes 32 16384 16384 ok (zeros 32) (zeros 16384) (zeros 16384) out l in (rw (read .1, read .2, read .3) (s .0), write .1 ∙ rw (read .1, read .2, read .3) (s .1)))
+      (λ t. let s = page-short numbers chars attrs out t in (s .0, write .1 ∙ s .1))
+
+-- ---- a font
+
+-- the parts before the file is read into them
+abbrev noFont : Font
+noFont = fontOf (zeros 1152) (zeros 128) (zeros 9) (zeros 9)
+
+font-short : (f : Font) (out : List ℕ) → ltb (length out) 2455 ≡ true → (fontWriteCheck f (length out) ≡ Size) × (fontWritten f out ≡ out)
+unfolding fontWriteCheck fontWritten
+font-short f out t = rw (t, or-true (fontRefused f)) (refl, refl)
+
+module _ (file : List ℕ) (bytes : Bytes file) (out : List ℕ) {a : Answer} {f : Font}
+    (read : (a ≡ answerOf (fontCheck file false)) × (f ≡ fontRead file noFont)) where
+  pub font-refused : (a .refusal ≡ 0 → ⊥) → (a ≡ answerOf (againCheck (fontCheck file false) 2455 (length out))) × (out ≡ again (fontCheck file false) 2455 file out)
+  font-refused e = read-stops (fontCheck file false) 2455 file out (read .0) e
+
+  pub font-wrote : a .refusal ≡ 0 → {w : Refusal} {out′ : List ℕ} → (w ≡ fontWriteCheck f (length out)) × (out′ ≡ fontWritten f out) → {n : ℕ} → n ≡ numberOf w
+      → (record { refusal = n; beside = 0 } ≡ answerOf (againCheck (fontCheck file false) 2455 (length out))) × (out′ ≡ again (fontCheck file false) 2455 file out)
+  font-wrote e {w} {out′} write number =
+      let ok : fontCheck file false ≡ Done = answer-done _ (read .0) e in
+      wrote 2455 file out ok (ap (λ (k : ℕ). record { refusal = k; beside = 0 }) number)
+      (λ l. let s = font-same file bytes noFont ok out l in (write .0 ∙ rw (read .1) (s .0), write .1 ∙ rw (read .1) (s .1)))
+      (λ t. let s = font-short f out t in (write .0 ∙ s .0, write .1 ∙ s .1))

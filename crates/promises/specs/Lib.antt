@@ -1,0 +1,4 @@
+-- Promises about the calls: files, a page's numbers, registers.
+pub mod Sizes
+pub mod Again
+pub mod Registers

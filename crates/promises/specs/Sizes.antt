@@ -1,0 +1,36 @@
+-- The calls that take a page's numbers alone agree. Assumes nothing.
+use Prim.Native.Nat.{ℕ}
+use mathlib.Core.Path.{_≡_, refl}
+use mathlib.Core.Bool.{Bool, true, false, _&&_, _||_}
+use mathlib.Core.List.{List}
+use borrow.Author.Tests.{eq-eqb}
+use lib.Dec.{eqb}
+use Rattle.refusal.specs.Number.{numberOf, doneOf}
+use Rattle.refusal.specs.Laws.{done-is}
+use Rattle.timing.specs.Check.{pageCheck, sizeOf}
+use Rattle.files.specs.Page.{pageAt}
+use Rattle.feldrime.specs.declared.Answer.{Answer}
+use Rattle.feldrime.specs.declared.SizeAnswer.{SizeAnswer}
+use Rattle.feldrime.specs.declared.BoardAnswer.{BoardAnswer}
+use Rattle.feldrime.specs.Numbers.{numbersRefused}
+use Rattle.feldrime.specs.Answers.{answerOf}
+use Rattle.feldrime.specs.Pages.{numbersCheck, sizeFor, boardFor}
+
+-- one number for all three, and beside a refusal no lines and no dots
+abbrev pub agreed : (refused size board lines dots : ℕ) → Bool
+agreed refused size board lines dots = (eqb size refused && eqb board refused) && (eqb refused 0 || (eqb lines 0 && eqb dots 0))
+
+agree : (numbers : List ℕ) → agreed (numberOf (numbersCheck numbers)) (sizeFor numbers .refusal) (boardFor numbers .refusal) (sizeFor numbers .lines) (sizeFor numbers .dots) ≡ true
+unfolding numbersCheck sizeFor boardFor sizeOf
+agree numbers = go (numbersRefused numbers) refl (doneOf (pageCheck (pageAt numbers 1))) refl
+  where
+    go : (t : Bool) → numbersRefused numbers ≡ t → (d : Bool) → doneOf (pageCheck (pageAt numbers 1)) ≡ d
+        → agreed (numberOf (numbersCheck numbers)) (sizeFor numbers .refusal) (boardFor numbers .refusal) (sizeFor numbers .lines) (sizeFor numbers .dots) ≡ true
+    go true t d e = rw t
+    go false t true e = rw (t, done-is (pageCheck (pageAt numbers 1)) e)
+    go false t false e = rw (t, e, eq-eqb (numberOf (pageCheck (pageAt numbers 1))) _ refl)
+
+pub calls-agree : (numbers : List ℕ) (c : Answer) (s : SizeAnswer) (m : BoardAnswer)
+    → c ≡ answerOf (numbersCheck numbers) → s ≡ sizeFor numbers → m ≡ boardFor numbers
+    → agreed (c .refusal) (s .refusal) (m .refusal) (s .lines) (s .dots) ≡ true
+calls-agree numbers c s m p q r = rw (p, q, r) (agree numbers)

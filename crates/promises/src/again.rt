@@ -1,0 +1,50 @@
+// A file that is read, and written again.
+use feldrime::Answer;
+ghost use mathlib.Core.Path.{_≡_};
+ghost use mathlib.Core.Bool.{false};
+ghost use lib.ListN.{length};
+ghost use Rattle.files.specs.File.{readCheck};
+ghost use Rattle.files.specs.FontFile.{fontCheck};
+ghost use Rattle.feldrime.specs.Answers.{answerOf};
+ghost use Rattle.promises.specs.Again.{againCheck, again};
+
+// A page file that is accepted is written as the same bytes.
+pub fn page_again(file: &[u8], out: &mut [u8]) -> Answer
+    ensures { λ r. ⌜ (r ≡ answerOf (againCheck (readCheck (now (file .entry)) false) 32797 (length (now (out .entry)))))
+        × (now (out .exit) ≡ again (readCheck (now (file .entry)) false) 32797 (now (file .entry)) (now (out .entry))) ⌝ }
+{
+    let mut numbers = [0u8; 32];
+    let mut chars = [0u8; 16384];
+    let mut attrs = [0u8; 16384];
+    let read = feldrime::feldrime_page_read(file, &mut numbers, &mut chars, &mut attrs);
+    if read.refusal != 0 {
+        return read;
+    }
+    feldrime::feldrime_page_write(&numbers, &chars, &attrs, out)
+}
+
+// A font file that is accepted is written as the same bytes. C has no call that writes a font.
+pub fn font_again(file: &[u8], out: &mut [u8]) -> Answer
+    ensures { λ r. ⌜ (r ≡ answerOf (againCheck (fontCheck (now (file .entry)) false) 2455 (length (now (out .entry)))))
+        × (now (out .exit) ≡ again (fontCheck (now (file .entry)) false) 2455 (now (file .entry)) (now (out .entry))) ⌝ }
+{
+    let mut words = [0u16; 1152];
+    let mut flags = [0u8; 128];
+    let mut unshifted = [0u8; 9];
+    let mut shifted = [0u8; 9];
+    let read = feldrime::feldrime_font_read(
+        file,
+        &mut words,
+        &mut flags,
+        &mut unshifted,
+        &mut shifted,
+    );
+    if read.refusal != 0 {
+        return read;
+    }
+    let refused = files::write_font(&words, &flags, &unshifted, &shifted, out);
+    Answer {
+        refusal: refusal::number(refused),
+        beside: 0,
+    }
+}

@@ -1,0 +1,222 @@
+-- What the calls that step answer, put together, is what the call that draws answers. Assumes nothing.
+use Prim.Native.Nat.{ℕ, _≤_, _<_}
+use mathlib.Core.Path.{_≡_, refl, sym, ap, _∙_}
+use mathlib.Core.Bool.{Bool, true, false, _||_, not, or-true}
+use mathlib.Core.List.{List, [], _∷_, _++_}
+use native.Mathlib.Omega.{arith}
+use borrow.Author.Tests.{eq-eqb, ne-eqb, le-leb, lt-leb, lt-ltb, le-ltb, leb-false, ltb-false}
+use lib.Dec.{eqb, ltb, leb}
+use lib.ListN.{length, drop}
+use Rattle.lists.specs.Choice.{pick, firstOf, neither}
+use Rattle.refusal.specs.declared.Refusal.{Refusal}
+use Rattle.refusal.specs.declared.Refusal.the-variants.{Done, Size, Reserved, Porch, Width, Range, Room, Address}
+use Rattle.refusal.specs.Number.{numberOf, doneOf}
+use Rattle.refusal.specs.Laws.{done-is, passed, not-refused}
+use Rattle.board.specs.declared.Page.{Page}
+use Rattle.board.specs.declared.Board.{Board}
+use Rattle.board.specs.Range.{addressRefused}
+use Rattle.timing.specs.Fields.{visibleOf}
+use Rattle.timing.specs.Check.{reservedRefused, porchRefused, widthRefused, pageCheck, sizeOf, stateRefused, callCheck}
+use Rattle.shape.specs.Font.{Font, fontOf}
+use Rattle.line.specs.Line.{lentRefused, lineLength, lineDots, drawCheck, drawnOf}
+use Rattle.clock.specs.Step.{steppedOf, stepCheck, stepOf}
+use Rattle.files.specs.Page.{pageAt}
+use Rattle.feldrime.specs.declared.Answer.{Answer}
+use Rattle.feldrime.specs.declared.SizeAnswer.{SizeAnswer}
+use Rattle.feldrime.specs.declared.BoardAnswer.{BoardAnswer}
+use Rattle.feldrime.specs.declared.StepBy.{StepBy}
+use Rattle.feldrime.specs.Numbers.{numbersRefused, boardOf}
+use Rattle.feldrime.specs.Answers.{answerOf}
+use Rattle.feldrime.specs.Pages.{numbersCheck, sizeFor, boardFor}
+use Rattle.feldrime.specs.LineDraw.{lineDrawCheck, lineDrawn}
+use Rattle.feldrime.specs.Step.{numbered, stepNumbers}
+use Rattle.agreement.specs.Steps.{range-ok, call-ok}
+use Rattle.promises_stepped.specs.Lines.{Steppable}
+
+-- ---- 3 is a size and nothing else
+
+page-not-three : (p : Page) → numberOf (pageCheck p) ≡ 3 → ⊥
+unfolding pageCheck
+page-not-three p = go (addressRefused p) (reservedRefused (p .irs)) (porchRefused (p .irs)) (widthRefused (p .video .dots))
+  where
+    go : (a r h w : Bool) → numberOf (firstOf ((a, Address) ∷ (r, Reserved) ∷ (h, Porch) ∷ (w, Width) ∷ []) Done) ≡ 3 → ⊥
+    go true r h w e = omega arith
+    go false true h w e = omega arith
+    go false false true w e = omega arith
+    go false false false true e = omega arith
+    go false false false false e = omega arith
+
+call-three : (b : Board) (size : Bool) → numberOf (callCheck b size false false) ≡ 3 → size ≡ true
+unfolding callCheck
+call-three b true e = refl
+call-three b false e = absurd (go (doneOf (pageCheck (b .page))) (stateRefused b || false) e)
+  where
+    go : (d s : Bool) → numberOf (pick (not d) (pageCheck (b .page)) (pick s Range Done)) ≡ 3 → ⊥
+    go false s e = page-not-three (b .page) e
+    go true true e = omega arith
+    go true false e = omega arith
+
+call-size : (b : Board) (size : Bool) → (numberOf (callCheck b size false false) ≡ 3 → ⊥) → size ≡ false
+unfolding callCheck
+call-size b true e = absurd (e refl)
+call-size b false e = refl
+
+-- a step's own answer
+step-answer : (b : Board) (chars attrs : List ℕ) (f : Font) → stepOf b chars attrs f .refusal ≡ stepCheck b chars attrs f
+unfolding stepOf steppedOf
+step-answer b chars attrs f = go (doneOf (stepCheck b chars attrs f)) refl
+  where
+    go : (t : Bool) → doneOf (stepCheck b chars attrs f) ≡ t → stepOf b chars attrs f .refusal ≡ stepCheck b chars attrs f
+    go true t = rw t (sym (done-is _ t))
+    go false t = rw t
+
+pub step-is : (b : Board) (chars attrs words flags unshifted shifted : List ℕ) {s : StepBy} → s ≡ stepNumbers b chars attrs words flags unshifted shifted
+    → s .answer .refusal ≡ numberOf (stepCheck b chars attrs (fontOf words flags unshifted shifted))
+unfolding numbered
+step-is b chars attrs words flags unshifted shifted e =
+    ap (λ (x : StepBy). x .answer .refusal) e ∙ ap numberOf (step-answer b chars attrs (fontOf words flags unshifted shifted))
+
+-- ---- the calls, one after the other
+
+module _ (numbers chars attrs words flags unshifted shifted : List ℕ) (line room : ℕ) {m : BoardAnswer} (made : m ≡ boardFor numbers) where
+  -- what the call that draws answers
+  abbrev answer : ℕ
+  answer = numberOf (lineDrawCheck numbers chars attrs (fontOf words flags unshifted shifted) line room)
+
+  made-is : m .refusal ≡ numberOf (numbersCheck numbers)
+  unfolding boardFor
+  made-is = ap (λ (x : BoardAnswer). x .refusal) made
+
+  abbrev lent : Bool
+  lent = lentRefused chars attrs (fontOf words flags unshifted shifted)
+
+  -- 3 for the numbers, which a page's own answer never is
+  pub numbers-three : m .refusal ≡ 3 → 3 ≡ answer
+  unfolding lineDrawCheck numbersCheck
+  numbers-three e = go (numbersRefused numbers) refl
+    where
+      go : (t : Bool) → numbersRefused numbers ≡ t → 3 ≡ answer
+      go true t = rw t
+      go false t = absurd (page-not-three (pageAt numbers 1) (rw t at (sym made-is ∙ e)))
+
+  numbers-fine : (m .refusal ≡ 3 → ⊥) → numbersRefused numbers ≡ false
+  unfolding numbersCheck
+  numbers-fine e = go (numbersRefused numbers) refl
+    where
+      go : (t : Bool) → numbersRefused numbers ≡ t → numbersRefused numbers ≡ false
+      go true t = absurd (e (made-is ∙ rw t))
+      go false t = t
+
+  module _ {s : StepBy} (tried : s ≡ stepNumbers (m .board) chars attrs words flags unshifted shifted) where
+    -- 3 for what is lent: a step answers it whatever the board is
+    pub lent-three : s .answer .refusal ≡ 3 → 3 ≡ answer
+    unfolding lineDrawCheck drawCheck callCheck
+    lent-three e = rw (call-three (m .board) lent (sym (step-is (m .board) chars attrs words flags unshifted shifted tried) ∙ e)) (go (numbersRefused numbers))
+      where
+        go : (t : Bool) → 3 ≡ numberOf (pick t Size Size)
+        go true = refl
+        go false = refl
+
+    module _ (no-three : m .refusal ≡ 3 → ⊥) (none-lent : s .answer .refusal ≡ 3 → ⊥) where
+      lent-fine : lent ≡ false
+      lent-fine = call-size (m .board) lent (λ e. none-lent (step-is (m .board) chars attrs words flags unshifted shifted tried ∙ e))
+
+      -- then the page's own
+      pub pages-own : (m .refusal ≡ 0 → ⊥) → m .refusal ≡ answer
+      unfolding lineDrawCheck drawCheck callCheck numbersCheck
+      pages-own e =
+          let own : m .refusal ≡ numberOf (pageCheck (pageAt numbers 1)) = made-is ∙ rw (numbers-fine no-three) in
+          let refused : doneOf (pageCheck (pageAt numbers 1)) ≡ false = ne-eqb _ _ (λ q. e (own ∙ q)) in
+          rw (numbers-fine no-three, lent-fine, refused) own
+
+      module _ (done : m .refusal ≡ 0) {z : SizeAnswer} (size : z ≡ sizeFor numbers) where
+        page-done : pageCheck (pageAt numbers 1) ≡ Done
+        unfolding numbersCheck
+        page-done = done-is _ (eq-eqb _ _ (rw (numbers-fine no-three) at (sym made-is ∙ done)))
+
+        lines-are : z .lines ≡ visibleOf (pageAt numbers 1 .irs) .0
+        unfolding sizeFor sizeOf
+        lines-are = ap (λ (x : SizeAnswer). x .lines) size ∙ rw (numbers-fine no-three, page-done)
+
+        dots-are : z .dots ≡ lineLength (boardOf numbers)
+        unfolding sizeFor sizeOf
+        dots-are = ap (λ (x : SizeAnswer). x .dots) size ∙ rw (numbers-fine no-three, page-done)
+
+        at-zero : stateRefused (boardOf numbers) ≡ false
+        at-zero = range-ok (boardOf numbers) (record { line-lt = omega arith; clock-lt = omega arith; beam-le = omega arith; row-le = omega arith; pointer-le = omega arith })
+
+        -- then 7 for a line that is not visible, 8 for a buffer that is too short
+        pub hidden : z .lines ≤ line → 7 ≡ answer
+        unfolding lineDrawCheck drawCheck callCheck
+        hidden h = rw (numbers-fine no-three, lent-fine, page-done, le-leb (visibleOf (pageAt numbers 1 .irs) .0) line (rw lines-are at h), or-true (stateRefused (boardOf numbers)))
+
+        pub no-room : line < z .lines → room < z .dots → 8 ≡ answer
+        unfolding lineDrawCheck drawCheck callCheck
+        no-room h k = rw (numbers-fine no-three, lent-fine, page-done, lt-leb (visibleOf (pageAt numbers 1 .irs) .0) line (rw lines-are at h), at-zero, lt-ltb room (lineLength (boardOf numbers)) (rw dots-are at k))
+
+        pub nothing : line < z .lines → z .dots ≤ room → 0 ≡ answer
+        unfolding lineDrawCheck drawCheck callCheck
+        nothing h k = rw (numbers-fine no-three, lent-fine, page-done, lt-leb (visibleOf (pageAt numbers 1 .irs) .0) line (rw lines-are at h), at-zero, le-ltb room (lineLength (boardOf numbers)) (rw dots-are at k))
+
+-- ---- a line that nothing refuses can be stepped, and what stepping leaves is the line drawn; on a refusal the buffer stays
+
+module _ (numbers chars attrs : List ℕ) (f : Font) (line : ℕ) (out : List ℕ) {r : ℕ} (e : r ≡ numberOf (lineDrawCheck numbers chars attrs f line (length out))) where
+  answered : record { refusal = r; beside = 0 } ≡ answerOf (lineDrawCheck numbers chars attrs f line (length out))
+  answered = ap (λ (n : ℕ). record { refusal = n; beside = 0 }) e
+
+  pub kept : (r ≡ 0 → ⊥) → (field : ℕ)
+      → (record { refusal = r; beside = 0 } ≡ answerOf (lineDrawCheck numbers chars attrs f line (length out))) × (out ≡ lineDrawn numbers chars attrs f line field out)
+  unfolding lineDrawCheck lineDrawn drawnOf
+  kept n field = (answered, go (numbersRefused numbers) refl)
+    where
+      refused : doneOf (lineDrawCheck numbers chars attrs f line (length out)) ≡ false
+      refused = ne-eqb _ _ (λ q. n (e ∙ q))
+
+      go : (t : Bool) → numbersRefused numbers ≡ t → out ≡ lineDrawn numbers chars attrs f line field out
+      go true t = rw t
+      go false t = rw (t, rw t at refused)
+
+  module _ (z : r ≡ 0) {m : BoardAnswer} (made : m ≡ boardFor numbers) where
+    accepted : (numbersRefused numbers ≡ false) × (drawCheck (boardOf numbers) (lentRefused chars attrs f) line (length out) ≡ Done)
+    unfolding lineDrawCheck
+    accepted = passed (numbersRefused numbers) Size _ refl (done-is _ (eq-eqb _ _ (sym e ∙ z)))
+
+    -- what the draw's checks passed
+    record Steps : Type 0 where
+      page-ok : pageCheck (boardOf numbers .page) ≡ Done
+      can-step : Steppable (boardOf numbers) chars attrs f line (length out)
+
+    steps : Steps
+    unfolding drawCheck callCheck
+    steps =
+        let b = boardOf numbers in
+        let s = passed (lentRefused chars attrs f) Size _ refl (accepted .1) in
+        let p = not-refused (pageCheck (b .page)) _ (s .1) in
+        let v = passed (stateRefused b || leb (visibleOf (b .page .irs) .0) line) Range _ refl (p .1) in
+        let n = neither (stateRefused b) (leb (visibleOf (b .page .irs) .0) line) (v .0) in
+        let o = passed (ltb (length out) (lineLength b)) Room _ refl (v .1) in
+        record {
+          page-ok = p .0;
+          can-step = record { accepted = call-ok b (lentRefused chars attrs f) (s .0) (p .0) (n .0); visible = leb-false _ _ (n .1); roomy = ltb-false _ _ (o .0) };
+        }
+
+    board-is : m .board ≡ boardOf numbers
+    unfolding boardFor numbersCheck
+    board-is = ap (λ (x : BoardAnswer). x .board) made ∙ rw (accepted .0, steps .page-ok)
+
+    pub steppable : Steppable (m .board) chars attrs f line (length out)
+    steppable = rw board-is (steps .can-step)
+
+    pub stepped : (field : ℕ) {out′ : List ℕ} → out′ ≡ lineDots (m .board) chars attrs f line field ++ drop (lineLength (m .board)) out
+        → (record { refusal = r; beside = 0 } ≡ answerOf (lineDrawCheck numbers chars attrs f line (length out))) × (out′ ≡ lineDrawn numbers chars attrs f line field out)
+    unfolding lineDrawn drawnOf
+    stepped field q = (answered, rw (accepted .0, accepted .1) (rw board-is at q))
+
+-- two calls with the contract of the call that draws
+pub same-drawn : (numbers chars attrs : List ℕ) (f : Font) (line field : ℕ) (out other : List ℕ) {a b : Answer} {out′ other′ : List ℕ}
+    → (a ≡ answerOf (lineDrawCheck numbers chars attrs f line (length out))) × (out′ ≡ lineDrawn numbers chars attrs f line field out)
+    → (b ≡ answerOf (lineDrawCheck numbers chars attrs f line (length other))) × (other′ ≡ lineDrawn numbers chars attrs f line field other)
+    → out ≡ other → (eqb (a .refusal) (b .refusal) ≡ true) × (out′ ≡ other′)
+same-drawn numbers chars attrs f line field out other {a} {b} p q e =
+    let same : a ≡ b = p .0 ∙ rw e (sym (q .0)) in
+    (eq-eqb _ _ (ap (λ (x : Answer). x .refusal) same), p .1 ∙ rw e (sym (q .1)))

@@ -1,0 +1,108 @@
+-- A line drawn by stepping is the line drawn whole. Assumes nothing.
+use Prim.Native.Nat.{ℕ, suc, _+_, _*_, _%_, _≤_, _<_}
+use mathlib.Core.Path.{_≡_, refl, sym, ap, _∙_}
+use mathlib.Core.List.{List, _++_}
+use native.Mathlib.Nat.{mul-le-mul, mod-eq-of-lt}
+use native.Mathlib.Omega.{arith}
+use lib.ListN.{length, take, drop, length-take}
+use lib.Seq.{take-at, take-length}
+use Rattle.refusal.specs.declared.Refusal.the-variants.{Done}
+use Rattle.board.specs.declared.Board.{Board}
+use Rattle.timing.specs.declared.Timing.{Timing}
+use Rattle.timing.specs.Fields.{htOf, vtOf, hactOf, visibleOf, countsOf, timingOf}
+use Rattle.timing.specs.Laws.{visible-bound, ht-bound, vt-bound}
+use Rattle.shape.specs.Font.{Font, fontOf}
+use Rattle.line.specs.Line.{columnDots, lineLength}
+use Rattle.line.specs.Length.{length-dots}
+use Rattle.clock.specs.Step.{stepCheck, stepOf, stateOf}
+use Rattle.feldrime.specs.declared.StepBy.{StepBy}
+use Rattle.feldrime.specs.declared.BoardAnswer.{BoardAnswer}
+use Rattle.feldrime.specs.Answers.{boardAnswer}
+use Rattle.feldrime.specs.Step.{numbered, stepNumbers}
+use Rattle.agreement.specs.Steps.{after, fits, at-once}
+use Rattle.agreement.specs.Lines.{clockOf, dots-are}
+
+-- a line that stepping can draw
+pub record Steppable (b : Board) (chars attrs : List ℕ) (f : Font) (line room : ℕ) : Type 0 where
+  pub accepted : stepCheck b chars attrs f ≡ Done
+  pub visible : line < visibleOf (b .page .irs) .0
+  pub roomy : lineLength b ≤ room
+
+-- ---- a line's first clock
+
+module _ (irs : List ℕ) {t : Timing} (e : t ≡ timingOf irs) where
+  pub vt-is : t .counts .vt .0 ≡ vtOf irs
+  unfolding timingOf countsOf
+  vt-is = ap (λ (x : Timing). x .counts .vt .0) e
+
+  pub ht-is : t .counts .ht .0 ≡ htOf irs
+  unfolding timingOf countsOf
+  ht-is = ap (λ (x : Timing). x .counts .ht .0) e
+
+  pub hact-is : t .counts .hact .0 ≡ hactOf irs
+  unfolding timingOf countsOf
+  hact-is = ap (λ (x : Timing). x .counts .hact .0) e
+
+  -- 256 frames of at most 2,153 lines of at most 384 clocks
+  module _ (field line : ℕ) (f : field < 256) (v : line < visibleOf irs .0) where
+    pub frames-fit : field * t .counts .vt .0 ≤ 549015
+    frames-fit = rw vt-is (let h : field ≤ 255 = omega arith in mul-le-mul h (vt-bound irs))
+
+    pub clocks-fit : (field * t .counts .vt .0 + line) * t .counts .ht .0 ≤ 211648512
+    clocks-fit = rw ht-is (let h : field * t .counts .vt .0 + line ≤ 551168 = omega (arith, frames-fit, visible-bound irs) in mul-le-mul h (ht-bound irs))
+
+pub clock-is : (b : Board) {t : Timing} → t ≡ timingOf (b .page .irs) → (field line : ℕ) → (field * t .counts .vt .0 + line) * t .counts .ht .0 ≡ clockOf b field line 0
+unfolding clockOf
+clock-is b e field line = rw (vt-is (b .page .irs) e, ht-is (b .page .irs) e) (omega arith)
+
+-- ---- the loop: the board stands at column c of the line, and steps
+
+module _ {b : Board} {chars attrs words flags unshifted shifted : List ℕ} {line room : ℕ}
+    (s : Steppable b chars attrs (fontOf words flags unshifted shifted) line room) where
+  pub width : b .page .video .dots .0 ≤ 12
+  width = fits b chars attrs (fontOf words flags unshifted shifted) (s .accepted) .page .most
+
+  -- n turns have room
+  pub turns-fit : {n : ℕ} → n ≡ hactOf (b .page .irs) → n * b .page .video .dots .0 ≤ room
+  turns-fit e = rw e (s .roomy)
+
+  module _ (field : ℕ) (small : field < 256) where
+    abbrev pub atColumn : ℕ → Board
+    atColumn c = after b chars attrs (fontOf words flags unshifted shifted) (clockOf b field line c)
+
+    abbrev pub dotsOf : ℕ → List ℕ
+    dotsOf c = columnDots b chars attrs (fontOf words flags unshifted shifted) line field c
+
+    pub each : (c : ℕ) → length (dotsOf c) ≡ b .page .video .dots .0
+    each = length-dots b chars attrs (fontOf words flags unshifted shifted) line field (fits b chars attrs (fontOf words flags unshifted shifted) (s .accepted) .page)
+
+    pub begins : {n : ℕ} {a : BoardAnswer} → n ≡ clockOf b field line 0 → a ≡ boardAnswer (stateOf b chars attrs n .refusal) (stateOf b chars attrs n .board) → a .board ≡ atColumn 0
+    begins e q = ap (λ (x : BoardAnswer). x .board) q ∙ rw e (at-once b chars attrs (fontOf words flags unshifted shifted) (s .accepted) (clockOf b field line 0) .1)
+
+    next-clock : (c : ℕ) → clockOf b field line (c + 1) ≡ suc (clockOf b field line c)
+    unfolding clockOf
+    next-clock c = omega arith
+
+    module _ (c : ℕ) {at : Board} (here : at ≡ atColumn c) {x : StepBy} (step : x ≡ stepNumbers at chars attrs words flags unshifted shifted) where
+      pub goes-on : x .board ≡ atColumn (c + 1)
+      unfolding after
+      goes-on = rw (step, here, next-clock c)
+
+      module _ (h : c < hactOf (b .page .irs)) where
+        shows : take (b .page .video .dots .0) (x .answer .dots) ≡ dotsOf c
+        unfolding numbered
+        shows =
+            rw (step, here, dots-are b chars attrs (fontOf words flags unshifted shifted) (s .accepted) field line c (s .visible) h, mod-eq-of-lt small)
+            (take-at _ _ (b .page .video .dots .0) (each c))
+
+        pub wide : b .page .video .dots .0 ≡ length (take (b .page .video .dots .0) (x .answer .dots))
+        wide = sym (ap length shows ∙ each c)
+
+        pub enough : b .page .video .dots .0 ≤ length (x .answer .dots)
+        enough = omega (arith, wide, length-take (b .page .video .dots .0) (x .answer .dots))
+
+        -- what the copy of a step's dots leaves in the part that was lent
+        pub copied : (part : List ℕ) {ys : List ℕ}
+            → ys ≡ take (length (take (b .page .video .dots .0) (x .answer .dots))) (take (b .page .video .dots .0) (x .answer .dots)) ++ drop (length (take (b .page .video .dots .0) (x .answer .dots))) part
+            → ys ≡ dotsOf c ++ drop (b .page .video .dots .0) part
+        copied part q = q ∙ rw (shows, take-length (dotsOf c), each c)

@@ -1,0 +1,191 @@
+// A line drawn by stepping, dot by dot, beside the line drawn whole.
+use feldrime::Answer;
+ghost use mathlib.Core.Path.{_≡_};
+ghost use mathlib.Core.Bool.{true};
+ghost use mathlib.Core.List.{_++_};
+ghost use Prim.Native.Nat.{_<_};
+ghost use lib.ListN.{length, drop};
+ghost use Rattle.timing.specs.Fields.{visibleOf};
+ghost use Rattle.agreement.specs.Lines.{clockOf};
+ghost use Rattle.refusal.specs.Number.{numberOf};
+ghost use Rattle.shape.specs.Font.{fontOf};
+ghost use Rattle.line.specs.Line.{lineDots, lineLength};
+ghost use Rattle.feldrime.specs.Answers.{answerOf};
+ghost use Rattle.feldrime.specs.LineDraw.{lineDrawCheck, lineDrawn};
+ghost use Rattle.promises_stepped.specs.Lines.{Steppable};
+
+// The board's clock at the first dot of a line, in the frame whose number is the field's.
+fn clock_of(b: board::Board, line: u32, field: u8) -> u32
+    requires { ⌜ line < visibleOf (b .page .irs) .0 ⌝ }
+    ensures { λ r. ⌜ r ≡ clockOf b field line 0 ⌝ }
+{
+    let irs = b.page.irs;
+    let t = timing::timing_of(irs);
+    (field as u32 * t.counts.vt.0 + line) * t.counts.ht.0
+}
+
+// The dots of a line's active clocks, each clock's into its own stretch of out.
+fn step_line(
+    out: &mut [u8],
+    b: board::Board,
+    chars: &[u8],
+    attrs: &[u8],
+    words: &[u16],
+    flags: &[u8],
+    unshifted: &[u8],
+    shifted: &[u8],
+    line: u32,
+    field: u8,
+)
+    requires { ⌜ Steppable b (now chars) (now attrs) (fontOf (now words) (now flags) (now unshifted) (now shifted)) line (length (now out)) ⌝ }
+    ensures { λ _. ⌜ now (out .exit) ≡ lineDots b (now (chars .entry)) (now (attrs .entry)) (fontOf (now (words .entry)) (now (flags .entry)) (now (unshifted .entry)) (now (shifted .entry))) line field
+        ++ drop (lineLength b) (now (out .entry)) ⌝ }
+{
+    let irs = b.page.irs;
+    let t = timing::timing_of(irs);
+    let n = t.counts.hact.0 as usize;
+    let asked = feldrime::feldrime_state_at(b, chars, attrs, clock_of(b, line, field));
+    let mut at = asked.board;
+    let mut c = 0;
+    while c < n {
+        let d = b.page.video.dots.0 as usize;
+        let a = c * d;
+        let s = feldrime::step_numbers(at, chars, attrs, words, flags, unshifted, shifted);
+        let dots = s.answer.dots;
+        bytes::copy(&dots[..d], &mut out[a..]);
+        at = s.board;
+        c += 1;
+    }
+}
+
+// What the call that draws answers, from the calls that step. A step answers 3 for what is lent whatever the board is.
+fn line_answer(
+    numbers: &[u8],
+    chars: &[u8],
+    attrs: &[u8],
+    words: &[u16],
+    flags: &[u8],
+    unshifted: &[u8],
+    shifted: &[u8],
+    line: u32,
+    room: usize,
+) -> u32
+    ensures { λ r. ⌜ r ≡ numberOf (lineDrawCheck (now (numbers .entry)) (now (chars .entry)) (now (attrs .entry))
+        (fontOf (now (words .entry)) (now (flags .entry)) (now (unshifted .entry)) (now (shifted .entry))) line room) ⌝ }
+{
+    let made = feldrime::feldrime_board_of(numbers);
+    if made.refusal == 3 {
+        return 3;
+    }
+    let board = made.board;
+    let tried = feldrime::step_numbers(board, chars, attrs, words, flags, unshifted, shifted);
+    if tried.answer.refusal == 3 {
+        return 3;
+    }
+    if made.refusal != 0 {
+        return made.refusal;
+    }
+    let size = feldrime::feldrime_page_size(numbers);
+    if size.lines <= line {
+        return 7;
+    }
+    if room < size.dots as usize {
+        return 8;
+    }
+    0
+}
+
+// Draws a visible line as it looks in a field by stepping, dot by dot: the contract is that of `feldrime_line_draw`.
+pub fn line_by_steps(
+    numbers: &[u8],
+    chars: &[u8],
+    attrs: &[u8],
+    words: &[u16],
+    flags: &[u8],
+    unshifted: &[u8],
+    shifted: &[u8],
+    line: u32,
+    field: u8,
+    out: &mut [u8],
+) -> Answer
+    ensures { λ r. ⌜ (r ≡ answerOf (lineDrawCheck (now (numbers .entry)) (now (chars .entry)) (now (attrs .entry))
+        (fontOf (now (words .entry)) (now (flags .entry)) (now (unshifted .entry)) (now (shifted .entry))) line (length (now (out .entry)))))
+        × (now (out .exit) ≡ lineDrawn (now (numbers .entry)) (now (chars .entry)) (now (attrs .entry))
+        (fontOf (now (words .entry)) (now (flags .entry)) (now (unshifted .entry)) (now (shifted .entry))) line field (now (out .entry))) ⌝ }
+{
+    let room = out.len();
+    let refused = line_answer(
+        numbers,
+        chars,
+        attrs,
+        words,
+        flags,
+        unshifted,
+        shifted,
+        line,
+        room,
+    );
+    if refused == 0 {
+        let made = feldrime::feldrime_board_of(numbers);
+        let board = made.board;
+        step_line(
+            out,
+            board,
+            chars,
+            attrs,
+            words,
+            flags,
+            unshifted,
+            shifted,
+            line,
+            field,
+        );
+    }
+    Answer {
+        refusal: refused,
+        beside: 0,
+    }
+}
+
+// The two ways to draw from C, over the same numbers: the same answer, and what was the same in both buffers is the same again.
+pub fn drawn_both_ways(
+    numbers: &[u8],
+    chars: &[u8],
+    attrs: &[u8],
+    words: &[u16],
+    flags: &[u8],
+    unshifted: &[u8],
+    shifted: &[u8],
+    line: u32,
+    field: u8,
+    out: &mut [u8],
+    other: &mut [u8],
+) -> bool
+    ensures { λ r. ⌜ (now (out .entry) ≡ now (other .entry) → (r ≡ true) × (now (out .exit) ≡ now (other .exit))) ⌝ }
+{
+    let whole = feldrime::feldrime_line_draw(
+        numbers,
+        chars,
+        attrs,
+        words,
+        flags,
+        unshifted,
+        shifted,
+        line,
+        field,
+        out,
+    );
+    let stepped = line_by_steps(
+        numbers,
+        chars,
+        attrs,
+        words,
+        flags,
+        unshifted,
+        shifted,
+        line,
+        field,
+        other,
+    );
+    whole.refusal == stepped.refusal
+}

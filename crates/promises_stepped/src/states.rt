@@ -1,0 +1,51 @@
+// A state asked for, and stepped to.
+use feldrime::BoardAnswer;
+ghost use mathlib.Core.Path.{_≡_};
+ghost use Rattle.board.specs.State.{clockZero};
+ghost use Rattle.clock.specs.Step.{withPlace};
+ghost use Rattle.shape.specs.Font.{fontOf};
+ghost use Rattle.promises_stepped.specs.States.{steppedTo};
+
+fn at_zero(b: board::Board) -> board::Board
+    ensures { λ r. ⌜ r ≡ withPlace b clockZero ⌝ }
+{
+    let mut n = b;
+    n.place = board::clock_zero();
+    n
+}
+
+// The board after n single steps from clock 0 is what `feldrime_state_at` answers, wherever a step answers 0; else a step's own answer and the old board.
+pub fn stepped_to(
+    b: board::Board,
+    chars: &[u8],
+    attrs: &[u8],
+    words: &[u16],
+    flags: &[u8],
+    unshifted: &[u8],
+    shifted: &[u8],
+    n: u32,
+) -> BoardAnswer
+    ensures { λ r. ⌜ r ≡ steppedTo b (now (chars .entry)) (now (attrs .entry)) (fontOf (now (words .entry)) (now (flags .entry)) (now (unshifted .entry)) (now (shifted .entry))) n ⌝ }
+{
+    let tried = feldrime::step_numbers(b, chars, attrs, words, flags, unshifted, shifted);
+    let refused = tried.answer.refusal;
+    if refused != 0 {
+        return BoardAnswer {
+            refusal: refused,
+            beside: 0,
+            board: b,
+        };
+    }
+    let mut at = at_zero(b);
+    let mut i = 0;
+    while i < n {
+        let s = feldrime::step_numbers(at, chars, attrs, words, flags, unshifted, shifted);
+        at = s.board;
+        i += 1;
+    }
+    BoardAnswer {
+        refusal: 0,
+        beside: 0,
+        board: at,
+    }
+}
