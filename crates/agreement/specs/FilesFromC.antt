@@ -8,8 +8,8 @@ use lib.ListN.{length, drop}
 use Rattle.refusal.specs.declared.Refusal.the-variants.{Done}
 use Rattle.refusal.specs.Number.{numberOf}
 use Rattle.shape.specs.Font.{Font, fontOf, fontRefused}
-use Rattle.line.specs.Line.{lentRefused}
-use Rattle.clock.specs.Step.{stepCheck}
+use Rattle.video.specs.At.{lentRefused}
+use Rattle.step.specs.Step.{stepCheck}
 use Rattle.files.specs.File.{readCheck, charsRead, attrsRead}
 use Rattle.files.specs.FontFile.{fontCheck, fontRead}
 use Rattle.files.specs.Round.{Bytes}

@@ -17,8 +17,8 @@ use Rattle.timing.specs.Fields.{htOf, vtOf, hactOf, linesOf, visibleOf, tableOf
 use Rattle.timing.specs.Laws.{accepted-good, buffer-bounded, frame-bound}
 use Rattle.fetch.specs.Rows.{feedIn, tallyIn, cellAt}
 use Rattle.shape.specs.Font.{Font}
-use Rattle.clock.specs.Place.{countsIn, rowsIn, placeAt}
-use Rattle.clock.specs.Step.{stepCheck}
+use Rattle.place.specs.Place.{countsIn, rowsIn, placeAt}
+use Rattle.step.specs.Step.{stepCheck}
 use Rattle.agreement.specs.Steps.{after, fits, steps-are}
 use Rattle.agreement.specs.Lines.{addressAt, DrawnFrom, address-is, drawn-from}
 

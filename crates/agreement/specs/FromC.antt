@@ -22,8 +22,10 @@ use Rattle.fetch.specs.Rows.{entryOf}
 use Rattle.fetch.specs.Run.{spanOf}
 use Rattle.fetch.specs.Laws.{span-number}
 use Rattle.shape.specs.Font.{Font, fontOf}
-use Rattle.line.specs.Line.{scanOf, dotsAt, lineLength, lentRefused, drawCheck, drawnOf}
-use Rattle.clock.specs.Step.{steppedOf, stepCheck, stepOf, stateOf}
+use Rattle.line.specs.Line.{lineLength, drawCheck, drawnOf}
+use Rattle.video.specs.At.{scanOf, dotsAt, lentRefused}
+use Rattle.step.specs.Step.{steppedOf, stepCheck, stepOf}
+use Rattle.place.specs.State.{stateOf}
 use Rattle.files.specs.Page.{pageAt}
 use Rattle.feldrime.specs.declared.StepAnswer.{StepAnswer}
 use Rattle.feldrime.specs.declared.BoardAnswer.{BoardAnswer}

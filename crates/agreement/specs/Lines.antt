@@ -25,11 +25,12 @@ use Rattle.fetch.specs.Laws.{fed, tallied}
 use Rattle.shape.specs.Font.{Font}
 use Rattle.video.specs.Scene.{sceneOf}
 use Rattle.line.specs.Length.{length-dots}
-use Rattle.line.specs.Line.{scanOf, dotsAt, columnDots, lineDots, lineLength, lentRefused, drawCheck, drawnOf}
-use Rattle.clock.specs.declared.Carried.{Carried}
-use Rattle.clock.specs.Place.{countsIn, carrierIn, rowsIn, carriedOf, loadedIn, placeAt}
-use Rattle.clock.specs.Signals.{activeIn, padded, clockDots}
-use Rattle.clock.specs.Step.{steppedOf, stepCheck, stepOf, addressOf}
+use Rattle.line.specs.Line.{columnDots, lineDots, lineLength, drawCheck, drawnOf}
+use Rattle.video.specs.At.{scanOf, dotsAt, lentRefused}
+use Rattle.place.specs.declared.Carried.{Carried}
+use Rattle.place.specs.Place.{countsIn, carrierIn, rowsIn, carriedOf, activeAt, loadedIn, placeAt}
+use Rattle.step.specs.Signals.{padded, clockDots}
+use Rattle.step.specs.Step.{steppedOf, stepCheck, stepOf, addressOf}
 use Rattle.agreement.specs.Steps.{after, fits, atClock, step-is, steps-are}
 
 -- line l of frame k, and clock c of it, counted from clock 0
@@ -99,7 +100,7 @@ module _ (b : Board) (chars attrs : List ℕ) (f : Font) (ok : stepCheck b chars
         (fetched-at (clockOf b k l c) (rw line-is hl)
         ∙ rw (line-is, clock-is))
 
-    active : activeIn (atClock b chars attrs f ok (clockOf b k l c)) ≡ true
+    active : activeAt (b .page) (atClock b chars attrs f ok (clockOf b k l c) .place) ≡ true
     unfolding placeAt scanAt countsOf
     active = rw (line-is, clock-is, lt-ltb l (visibleOf (b .page .irs) .0) hl, lt-ltb c (hactOf (b .page .irs)) hc)
 

@@ -12,7 +12,7 @@ use Rattle.registers.specs.Write.{writeOf}
 use Rattle.registers.specs.Read.{readOf}
 use Rattle.registers.specs.Video.{setVideoOf}
 use Rattle.shape.specs.Font.{Font, fontRefused}
-use Rattle.clock.specs.Step.{stateOf}
+use Rattle.place.specs.State.{stateOf}
 use Rattle.files.specs.File.{readCheck, charsRead, attrsRead}
 use Rattle.files.specs.FontFile.{fontCheck, fontRead}
 use Rattle.feldrime.specs.declared.Answer.{Answer}

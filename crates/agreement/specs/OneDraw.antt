@@ -19,8 +19,10 @@ use Rattle.video.specs.Levels.{blankLevel, symbolLevel, surroundLevel}
 use Rattle.video.specs.Scene.{sceneOf, cursorAt}
 use Rattle.video.specs.Look.{effective, lookOf}
 use Rattle.video.specs.Cell.{cellDots}
-use Rattle.line.specs.Line.{lentRefused, drawCheck, drawnOf}
-use Rattle.clock.specs.Step.{stepOf, stateOf}
+use Rattle.line.specs.Line.{drawCheck, drawnOf}
+use Rattle.video.specs.At.{lentRefused}
+use Rattle.step.specs.Step.{stepOf}
+use Rattle.place.specs.State.{stateOf}
 
 -- ---- `fetch`
 

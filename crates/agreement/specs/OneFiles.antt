@@ -10,7 +10,7 @@ use Rattle.board.specs.declared.Page.{Page}
 use Rattle.board.specs.declared.Board.{Board}
 use Rattle.board.specs.Range.{memoriesRefused}
 use Rattle.shape.specs.Font.{Font, fontRefused}
-use Rattle.line.specs.Line.{lentRefused}
+use Rattle.video.specs.At.{lentRefused}
 use Rattle.copies.specs.Put.{putAt}
 use Rattle.files.specs.declared.PageRead.{PageRead}
 use Rattle.files.specs.File.{readCheck, readPageOf, charsRead, attrsRead, writeCheck, written}

@@ -18,7 +18,7 @@ use Rattle.fetch.specs.Rows.{entryOf, rowStart, cellAt}
 use Rattle.fetch.specs.Run.{runCheck, runCount, spanOf}
 use Rattle.fetch.specs.Laws.{cell-moved, start-table, start-sheet}
 use Rattle.shape.specs.Font.{Font}
-use Rattle.clock.specs.Step.{stepCheck}
+use Rattle.step.specs.Step.{stepCheck}
 use Rattle.agreement.specs.Steps.{range-ok, call-ok, fits, page-ok}
 use Rattle.agreement.specs.Lines.{addressAt, DrawnFrom, address-is, drawn-from}
 

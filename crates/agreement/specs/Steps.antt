@@ -24,11 +24,13 @@ use Rattle.timing.specs.Laws.{Accepted, InRange, accepted-good, call-passed}
 use Rattle.fetch.specs.Rows.{feedIn, tallyIn}
 use Rattle.fetch.specs.Laws.{fed, tallied, cell-at-lt, row-start-lt}
 use Rattle.shape.specs.Font.{Font}
-use Rattle.line.specs.Line.{lentRefused}
+use Rattle.video.specs.At.{lentRefused}
 use Rattle.place.specs.declared.Carried.{Carried}
 use Rattle.place.specs.Place.{countsIn, carrierIn, rowsIn, placeOf, nextPlace, rowAt, lineAt, carriedBefore, placeAt}
-use Rattle.step.specs.Step.{withPlace, steppedOf, stepCheck, stepOf, stateCheck, stateOf, Fit}
-use Rattle.clock.specs.Laws.{fit, line-shown, line-idle, carried-on, carried-line, carried-frame, carried-zero}
+use Rattle.step.specs.Step.{steppedOf, stepCheck, stepOf, Fit}
+use Rattle.place.specs.State.{withPlace, stateCheck, stateOf}
+use Rattle.step.specs.Laws.{fit}
+use Rattle.place.specs.Laws.{line-shown, line-idle, carried-on, carried-line, carried-frame, carried-zero}
 
 -- ---- a place in range is not refused
 

@@ -12,7 +12,7 @@ use Rattle.board.specs.Range.{addressRefused}
 use Rattle.timing.specs.Fields.{bufferOf, countsOf}
 use Rattle.timing.specs.Check.{pageCheck, stateRefused, callCheck}
 use Rattle.shape.specs.Font.{Font, fontOf, fontRefused}
-use Rattle.clock.specs.Step.{stepCheck}
+use Rattle.step.specs.Step.{stepCheck}
 use Rattle.files.specs.File.{readCheck, fileCheck, lengthRefused, longAt, headOf, fileOf}
 use Rattle.files.specs.Page.{wordAt, pageAt}
 use Rattle.files.specs.FontFile.{fontCheck, fontHead}

@@ -5,7 +5,8 @@ use Rattle.lists.specs.Choice.{pick}
 use Rattle.refusal.specs.declared.Refusal.{Refusal}
 use Rattle.refusal.specs.declared.Refusal.the-variants.{Size}
 use Rattle.shape.specs.Font.{Font}
-use Rattle.line.specs.Line.{lentRefused, drawCheck, drawnOf}
+use Rattle.video.specs.At.{lentRefused}
+use Rattle.line.specs.Line.{drawCheck, drawnOf}
 use Rattle.feldrime.specs.Numbers.{numbersRefused, numbersBoard}
 
 -- 3 for the numbers, then the line's own refusals

@@ -11,7 +11,7 @@ ghost use Rattle.registers.specs.Write.{writeOf};
 ghost use Rattle.registers.specs.Read.{readOf};
 ghost use Rattle.registers.specs.Video.{setVideoOf};
 ghost use Rattle.shape.specs.Font.{lentFont, leftFont, fontRefused};
-ghost use Rattle.step.specs.Step.{stateOf};
+ghost use Rattle.place.specs.State.{stateOf};
 ghost use Rattle.files.specs.File.{readCheck, charsRead, attrsRead};
 ghost use Rattle.files.specs.FontFile.{fontCheck, fontRead};
 ghost use Rattle.feldrime.specs.Numbers.{numbersRefused, numberAt};
@@ -212,7 +212,7 @@ pub extern "C" fn feldrime_line_draw(
         flags,
         unshifted,
         shifted,
-        line,
+        units::Lines(line),
         field,
         out,
     );
@@ -350,7 +350,7 @@ pub extern "C" fn feldrime_state_at(
 ) -> BoardAnswer
     ensures { λ r. let s = stateOf b (now (chars .entry)) (now (attrs .entry)) n in ⌜ r ≡ boardAnswer (s .refusal) (s .board) ⌝ }
 {
-    let s = clock::state_at(b, chars, attrs, n);
+    let s = place::state_at(b, chars, attrs, units::Clocks(n));
     let refused = s.refusal;
     let board = s.board;
     with_board(refused, board)
@@ -382,7 +382,7 @@ fn bit(on: bool) -> u32
     if on { 1 } else { 0 }
 }
 
-fn number_of(s: clock::Stepped) -> StepAnswer
+fn number_of(s: step::Stepped) -> StepAnswer
     ensures { λ r. ⌜ r ≡ numbered s ⌝ }
 {
     let refused = s.refusal;
@@ -413,7 +413,7 @@ pub fn step_numbers(
     ensures { λ r. ⌜ r ≡ stepNumbers b (now (chars .entry)) (now (attrs .entry))
         (now (words .entry)) (now (flags .entry)) (now (unshifted .entry)) (now (shifted .entry)) ⌝ }
 {
-    let s = clock::step(b, chars, attrs, words, flags, unshifted, shifted);
+    let s = step::step(b, chars, attrs, words, flags, unshifted, shifted);
     let next = s.board;
     StepBy {
         answer: number_of(s),

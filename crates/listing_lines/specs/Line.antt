@@ -20,7 +20,8 @@ use Rattle.timing.specs.Check.{pageCheck, sizeOf, callCheck}
 use Rattle.timing.specs.Laws.{Accepted, accepted, call-passed}
 use Rattle.shape.specs.Font.{Font}
 use Rattle.line.specs.Length.{length-line}
-use Rattle.line.specs.Line.{lineDots, lineLength, lentRefused, drawCheck, drawnOf}
+use Rattle.video.specs.At.{lentRefused}
+use Rattle.line.specs.Line.{lineDots, lineLength, drawCheck, drawnOf}
 use Rattle.listing_lines.specs.declared.Listed.{Listed}
 use Rattle.listing_lines.specs.Listing.{lineFeed, markOf, listingLine, lineCheck, listedOf, listedIn}
 use Rattle.listing_lines.specs.Answers.{listed, refused-so, done-so, listed-within}

@@ -7,7 +7,7 @@ ghost use mathlib.Core.List.{[], _∷_, _++_, map};
 ghost use Prim.Native.Nat.{_+_, _-_, _≤_, _<_};
 ghost use lib.ListN.{length, take, drop};
 ghost use Rattle.shape.specs.Font.{lentFont};
-ghost use Rattle.line.specs.Line.{lentRefused};
+ghost use Rattle.video.specs.At.{lentRefused};
 ghost use Rattle.listing_lines.specs.Decimal.{Spelled};
 ghost use Rattle.listing_lines.specs.Answers.{listed};
 ghost use Rattle.listing_lines.specs.Listing.{lineFeed, markOf, listingHead, listingLine, headCheck, lineCheck, listedOf, listedIn};
@@ -127,12 +127,19 @@ pub fn listing_line(
     flags: &[u8],
     unshifted: &[u8],
     shifted: &[u8],
-    line: u32,
+    line: units::Lines,
     field: u8,
     out: &mut [u8],
 ) -> Listed
-    ensures { λ r. ⌜ (r ≡ listedOf (lineCheck b (lentRefused (now (chars .entry)) (now (attrs .entry)) (lentFont words flags unshifted shifted)) line (length (now (out .entry)))) (listingLine b (now (chars .entry)) (now (attrs .entry)) (lentFont words flags unshifted shifted) line field))
-        × (now (out .exit) ≡ listedIn (lineCheck b (lentRefused (now (chars .entry)) (now (attrs .entry)) (lentFont words flags unshifted shifted)) line (length (now (out .entry)))) (listingLine b (now (chars .entry)) (now (attrs .entry)) (lentFont words flags unshifted shifted) line field) (now (out .entry))) ⌝ }
+    ensures { λ r. ⌜ (r ≡ listedOf (lineCheck b
+        (lentRefused (now (chars .entry)) (now (attrs .entry)) (lentFont words flags unshifted shifted))
+        (line .0) (length (now (out .entry))))
+        (listingLine b (now (chars .entry)) (now (attrs .entry)) (lentFont words flags unshifted shifted) (line .0) field))
+        × (now (out .exit) ≡ listedIn (lineCheck b
+        (lentRefused (now (chars .entry)) (now (attrs .entry)) (lentFont words flags unshifted shifted))
+        (line .0) (length (now (out .entry))))
+        (listingLine b (now (chars .entry)) (now (attrs .entry)) (lentFont words flags unshifted shifted) (line .0) field)
+        (now (out .entry))) ⌝ }
 {
     let room = room_for_dots(out.len());
     let refused = line::draw_line(

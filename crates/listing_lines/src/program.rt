@@ -46,7 +46,7 @@ fn print_listing(
             flags,
             unshifted,
             shifted,
-            line,
+            units::Lines(line),
             0,
             &mut out,
         );

@@ -19,10 +19,11 @@ use Rattle.files.specs.File.{readCheck, charsRead, attrsRead, writeCheck, writt
 use Rattle.files.specs.FontFile.{fontCheck, fontRead, fontWriteCheck, fontWritten}
 use Rattle.files.specs.Round.{Bytes}
 use Rattle.feldrime.specs.declared.Answer.{Answer}
-use Rattle.feldrime.specs.Numbers.{numbersRefused, boardOf}
+use Rattle.feldrime.specs.Numbers.{numbersRefused, numbersBoard}
 use Rattle.feldrime.specs.Answers.{answerOf}
 use Rattle.feldrime.specs.Pages.{numbersRead, pageWriteCheck, pageWritten}
-use Rattle.agreement.specs.Files.{page-same-from-c, font-same}
+use Rattle.agreement.specs.Files.{font-same}
+use Rattle.agreement.specs.FilesFromC.{page-same-from-c}
 
 -- the read's own answer, then 3 where there is room for less than the file's n bytes
 unfoldable pub againCheck : (read : Refusal) (n room : ℕ) → Refusal
@@ -63,7 +64,7 @@ write-short b c a n t = rw (t, or-true (memoriesRefused c a))
 page-short : (numbers chars attrs out : List ℕ) → ltb (length out) 32797 ≡ true
     → (pageWriteCheck numbers (length chars) (length attrs) (length out) ≡ Size) × (pageWritten numbers chars attrs out ≡ out)
 unfolding pageWriteCheck pageWritten written
-page-short numbers chars attrs out t = rw (write-short (boardOf numbers) (length chars) (length attrs) (length out) t) (both (numbersRefused numbers))
+page-short numbers chars attrs out t = rw (write-short (numbersBoard numbers) (length chars) (length attrs) (length out) t) (both (numbersRefused numbers))
   where
     both : (x : Bool) → (pick x Size Size ≡ Size) × (pick x out out ≡ out)
     both true = (refl, refl)

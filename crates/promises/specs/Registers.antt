@@ -18,7 +18,7 @@ use Rattle.refusal.specs.Laws.{done-is, passed}
 use Rattle.board.specs.declared.Board.{Board}
 use Rattle.board.specs.State.{clockZero, powerOf}
 use Rattle.board.specs.Range.{startsRefused, addressRefused, pointerRefused}
-use Rattle.clock.specs.Step.{stateCheck, stateOf}
+use Rattle.place.specs.State.{stateCheck, stateOf}
 use Rattle.registers.specs.declared.Written.{Written}
 use Rattle.registers.specs.Parts.{withStarts, withPage, answer}
 use Rattle.registers.specs.Write.{registerCheck, commandOf, activeOf, inactiveOf, startsAfter, writeOf}

@@ -18,14 +18,15 @@ use Rattle.board.specs.Range.{addressRefused}
 use Rattle.timing.specs.Fields.{visibleOf}
 use Rattle.timing.specs.Check.{reservedRefused, porchRefused, widthRefused, pageCheck, sizeOf, stateRefused, callCheck}
 use Rattle.shape.specs.Font.{Font, fontOf}
-use Rattle.line.specs.Line.{lentRefused, lineLength, lineDots, drawCheck, drawnOf}
-use Rattle.clock.specs.Step.{steppedOf, stepCheck, stepOf}
+use Rattle.line.specs.Line.{lineLength, lineDots, drawCheck, drawnOf}
+use Rattle.video.specs.At.{lentRefused}
+use Rattle.step.specs.Step.{steppedOf, stepCheck, stepOf}
 use Rattle.files.specs.Page.{pageAt}
 use Rattle.feldrime.specs.declared.Answer.{Answer}
 use Rattle.feldrime.specs.declared.SizeAnswer.{SizeAnswer}
 use Rattle.feldrime.specs.declared.BoardAnswer.{BoardAnswer}
 use Rattle.feldrime.specs.declared.StepBy.{StepBy}
-use Rattle.feldrime.specs.Numbers.{numbersRefused, boardOf}
+use Rattle.feldrime.specs.Numbers.{numbersRefused, numbersBoard}
 use Rattle.feldrime.specs.Answers.{answerOf}
 use Rattle.feldrime.specs.Pages.{numbersCheck, sizeFor, boardFor}
 use Rattle.feldrime.specs.LineDraw.{lineDrawCheck, lineDrawn}
@@ -138,25 +139,25 @@ module _ (numbers chars attrs words flags unshifted shifted : List ℕ) (line ro
         unfolding sizeFor sizeOf
         lines-are = ap (λ (x : SizeAnswer). x .lines) size ∙ rw (numbers-fine no-three, page-done)
 
-        dots-are : z .dots ≡ lineLength (boardOf numbers)
+        dots-are : z .dots ≡ lineLength (numbersBoard numbers)
         unfolding sizeFor sizeOf
         dots-are = ap (λ (x : SizeAnswer). x .dots) size ∙ rw (numbers-fine no-three, page-done)
 
-        at-zero : stateRefused (boardOf numbers) ≡ false
-        at-zero = range-ok (boardOf numbers) (record { line-lt = omega arith; clock-lt = omega arith; beam-le = omega arith; row-le = omega arith; pointer-le = omega arith })
+        at-zero : stateRefused (numbersBoard numbers) ≡ false
+        at-zero = range-ok (numbersBoard numbers) (record { line-lt = omega arith; clock-lt = omega arith; beam-le = omega arith; row-le = omega arith; pointer-le = omega arith })
 
         -- then 7 for a line that is not visible, 8 for a buffer that is too short
         pub hidden : z .lines ≤ line → 7 ≡ answer
         unfolding lineDrawCheck drawCheck callCheck
-        hidden h = rw (numbers-fine no-three, lent-fine, page-done, le-leb (visibleOf (pageAt numbers 1 .irs) .0) line (rw lines-are at h), or-true (stateRefused (boardOf numbers)))
+        hidden h = rw (numbers-fine no-three, lent-fine, page-done, le-leb (visibleOf (pageAt numbers 1 .irs) .0) line (rw lines-are at h), or-true (stateRefused (numbersBoard numbers)))
 
         pub no-room : line < z .lines → room < z .dots → 8 ≡ answer
         unfolding lineDrawCheck drawCheck callCheck
-        no-room h k = rw (numbers-fine no-three, lent-fine, page-done, lt-leb (visibleOf (pageAt numbers 1 .irs) .0) line (rw lines-are at h), at-zero, lt-ltb room (lineLength (boardOf numbers)) (rw dots-are at k))
+        no-room h k = rw (numbers-fine no-three, lent-fine, page-done, lt-leb (visibleOf (pageAt numbers 1 .irs) .0) line (rw lines-are at h), at-zero, lt-ltb room (lineLength (numbersBoard numbers)) (rw dots-are at k))
 
         pub nothing : line < z .lines → z .dots ≤ room → 0 ≡ answer
         unfolding lineDrawCheck drawCheck callCheck
-        nothing h k = rw (numbers-fine no-three, lent-fine, page-done, lt-leb (visibleOf (pageAt numbers 1 .irs) .0) line (rw lines-are at h), at-zero, le-ltb room (lineLength (boardOf numbers)) (rw dots-are at k))
+        nothing h k = rw (numbers-fine no-three, lent-fine, page-done, lt-leb (visibleOf (pageAt numbers 1 .irs) .0) line (rw lines-are at h), at-zero, le-ltb room (lineLength (numbersBoard numbers)) (rw dots-are at k))
 
 -- ---- a line that nothing refuses can be stepped, and what stepping leaves is the line drawn; on a refusal the buffer stays
 
@@ -177,19 +178,19 @@ module _ (numbers chars attrs : List ℕ) (f : Font) (line : ℕ) (out : List �
       go false t = rw (t, rw t at refused)
 
   module _ (z : r ≡ 0) {m : BoardAnswer} (made : m ≡ boardFor numbers) where
-    accepted : (numbersRefused numbers ≡ false) × (drawCheck (boardOf numbers) (lentRefused chars attrs f) line (length out) ≡ Done)
+    accepted : (numbersRefused numbers ≡ false) × (drawCheck (numbersBoard numbers) (lentRefused chars attrs f) line (length out) ≡ Done)
     unfolding lineDrawCheck
     accepted = passed (numbersRefused numbers) Size _ refl (done-is _ (eq-eqb _ _ (sym e ∙ z)))
 
     -- what the draw's checks passed
     record Steps : Type 0 where
-      page-ok : pageCheck (boardOf numbers .page) ≡ Done
-      can-step : Steppable (boardOf numbers) chars attrs f line (length out)
+      page-ok : pageCheck (numbersBoard numbers .page) ≡ Done
+      can-step : Steppable (numbersBoard numbers) chars attrs f line (length out)
 
     steps : Steps
     unfolding drawCheck callCheck
     steps =
-        let b = boardOf numbers in
+        let b = numbersBoard numbers in
         let s = passed (lentRefused chars attrs f) Size _ refl (accepted .1) in
         let p = not-refused (pageCheck (b .page)) _ (s .1) in
         let v = passed (stateRefused b || leb (visibleOf (b .page .irs) .0) line) Range _ refl (p .1) in
@@ -200,7 +201,7 @@ module _ (numbers chars attrs : List ℕ) (f : Font) (line : ℕ) (out : List �
           can-step = record { accepted = call-ok b (lentRefused chars attrs f) (s .0) (p .0) (n .0); visible = leb-false _ _ (n .1); roomy = ltb-false _ _ (o .0) };
         }
 
-    board-is : m .board ≡ boardOf numbers
+    board-is : m .board ≡ numbersBoard numbers
     unfolding boardFor numbersCheck
     board-is = ap (λ (x : BoardAnswer). x .board) made ∙ rw (accepted .0, steps .page-ok)
 

@@ -14,7 +14,8 @@ use Rattle.timing.specs.Laws.{visible-bound, ht-bound, vt-bound}
 use Rattle.shape.specs.Font.{Font, fontOf}
 use Rattle.line.specs.Line.{columnDots, lineLength}
 use Rattle.line.specs.Length.{length-dots}
-use Rattle.clock.specs.Step.{stepCheck, stepOf, stateOf}
+use Rattle.step.specs.Step.{stepCheck, stepOf}
+use Rattle.place.specs.State.{stateOf}
 use Rattle.feldrime.specs.declared.StepBy.{StepBy}
 use Rattle.feldrime.specs.declared.BoardAnswer.{BoardAnswer}
 use Rattle.feldrime.specs.Answers.{boardAnswer}

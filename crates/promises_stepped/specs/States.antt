@@ -12,7 +12,8 @@ use Rattle.refusal.specs.Laws.{done-is}
 use Rattle.board.specs.declared.Board.{Board}
 use Rattle.board.specs.State.{clockZero}
 use Rattle.shape.specs.Font.{Font, fontOf}
-use Rattle.clock.specs.Step.{withPlace, stepCheck, stepOf, stateOf}
+use Rattle.place.specs.State.{withPlace, stateOf}
+use Rattle.step.specs.Step.{stepCheck, stepOf}
 use Rattle.feldrime.specs.declared.BoardAnswer.{BoardAnswer}
 use Rattle.feldrime.specs.declared.StepBy.{StepBy}
 use Rattle.feldrime.specs.Answers.{boardAnswer}

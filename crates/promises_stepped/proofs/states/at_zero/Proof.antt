@@ -1,6 +1,6 @@
 use mathlib.Core.Path.{ap}
 use borrow.Author.Needs.{needs}
-use Rattle.clock.specs.Step.{withPlace}
+use Rattle.place.specs.State.{withPlace}
 use Rattle.promises_stepped.proofs.states.at_zero.Statement.{statement}
 use Rattle.promises_stepped.proofs.states.at_zero.Tie as tie
 
