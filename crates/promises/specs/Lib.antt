@@ -2,3 +2,4 @@
 pub mod Sizes
 pub mod Again
 pub mod Registers
+pub mod Runs

@@ -2,4 +2,5 @@
 // Here those about files, a page's numbers and registers; `promises_stepped` has those about stepping.
 pub mod again;
 pub mod kept;
+pub mod runs;
 pub mod sizes;

@@ -1,0 +1,24 @@
+use native.Mathlib.Omega.{arith}
+use borrow.Author.Needs.{needs}
+use Rattle.promises.specs.Runs.{run-inside, run-is}
+use Rattle.promises.proofs.runs.run_taken.Statement.{statement}
+use Rattle.promises.proofs.runs.run_taken.Tie as tie
+
+part-result-end : tie.Need-part-result-end
+part-result-end c = omega (arith, run-inside _ _ _ (c .before .before .feldrime-row-run .ensures) .1)
+
+returns : tie.Need-returns
+returns c = run-is _ _ _ (c .before .before .before .feldrime-row-run .ensures)
+
+pub run-taken-spec : {M : Type 1} → statement M
+run-taken-spec =
+    tie.close
+    (tie.spec
+    (λ c κs. search needs)
+    (λ c. search needs)
+    (λ c. search needs)
+    (λ c. search needs)
+    (λ c. search needs)
+    (λ c. search needs)
+    part-result-end
+    returns)

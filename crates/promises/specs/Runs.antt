@@ -1,0 +1,62 @@
+-- A row's first run as C is answered it. Assumes nothing.
+use Prim.Native.Nat.{ℕ, _+_, _-_, _≤_}
+use mathlib.Core.Path.{_≡_, refl, sym, ap, _∙_}
+use mathlib.Core.Bool.{Bool, true, false, _&&_}
+use mathlib.Core.List.{List, []}
+use native.Mathlib.Omega.{arith}
+use borrow.Author.Tests.{eq-eqb}
+use lib.Dec.{eqb}
+use lib.ListN.{length, take, drop}
+use Rattle.lists.specs.Choice.{pick}
+use Rattle.refusal.specs.declared.Refusal.the-variants.{Done}
+use Rattle.refusal.specs.Number.{numberOf}
+use Rattle.refusal.specs.Laws.{done-is}
+use Rattle.board.specs.declared.Board.{Board}
+use Rattle.fetch.specs.Run.{runCheck, spanOf, runOf}
+use Rattle.fetch.specs.Laws.{span-small, run-part, span-number}
+use Rattle.files.specs.Laws.{length-part}
+use Rattle.feldrime.specs.declared.RunAnswer.{RunAnswer}
+use Rattle.feldrime.specs.declared.BoardAnswer.{BoardAnswer}
+use Rattle.feldrime.specs.Numbers.{numbersRefused, boardOf}
+use Rattle.feldrime.specs.Pages.{numbersCheck, runFor, boardFor}
+use Rattle.feldrime.specs.Laws.{numbers-passed}
+
+-- the run of the numbers' board; nothing where the numbers are refused
+unfoldable pub runPart : (numbers chars : List ℕ) → ℕ → List ℕ
+runPart numbers chars row = pick (numbersRefused numbers) [] (runOf (boardOf numbers) chars row)
+
+module _ (numbers chars : List ℕ) (row : ℕ) {a : RunAnswer} (e : a ≡ runFor numbers chars row) where
+  pub run-inside : (a .first + a .count ≤ 16384) × (a .first + a .count ≤ length chars)
+  unfolding runFor
+  run-inside = go (numbersRefused numbers) refl
+    where
+      go : (t : Bool) → numbersRefused numbers ≡ t → (a .first + a .count ≤ 16384) × (a .first + a .count ≤ length chars)
+      go true t = rw (e, t) (omega arith, omega arith)
+      go false t = rw (e, t) (span-small (boardOf numbers) chars row)
+
+  pub run-is : take (a .first + a .count - a .first) (drop (a .first) chars) ≡ runPart numbers chars row
+  unfolding runFor runPart
+  run-is = go (numbersRefused numbers) refl
+    where
+      go : (t : Bool) → numbersRefused numbers ≡ t → take (a .first + a .count - a .first) (drop (a .first) chars) ≡ runPart numbers chars row
+      go true t = rw (e, t)
+      go false t = rw (e, t) (run-part (boardOf numbers) chars row (spanOf (boardOf numbers) chars row) refl)
+
+  module _ {m : BoardAnswer} (made : m ≡ boardFor numbers) (done : m .refusal ≡ 0) where
+    checked : numbersCheck numbers ≡ Done
+    unfolding boardFor
+    checked = done-is _ (eq-eqb _ _ (ap (λ (x : BoardAnswer). x .refusal) (sym made) ∙ done))
+
+    board-is : m .board ≡ boardOf numbers
+    unfolding boardFor
+    board-is = ap (λ (x : BoardAnswer). x .board) made ∙ rw checked
+
+    count-is : length (runOf (boardOf numbers) chars row) ≡ spanOf (boardOf numbers) chars row .count
+    unfolding runOf
+    count-is = length-part chars (spanOf (boardOf numbers) chars row .start) (spanOf (boardOf numbers) chars row .count) (span-small (boardOf numbers) chars row .1)
+
+    pub runs-same : {part : List ℕ} {n : ℕ} → part ≡ runOf (m .board) chars row → n ≡ numberOf (runCheck (m .board) (length chars) row) → (eqb (a .refusal) n && eqb (a .count) (length part)) ≡ true
+    unfolding runFor
+    runs-same p q =
+        rw (e, q, p, board-is, numbers-passed numbers checked, count-is, eq-eqb (spanOf (boardOf numbers) chars row .count) _ refl)
+        (rw (eq-eqb _ _ (ap numberOf (span-number (boardOf numbers) chars row (spanOf (boardOf numbers) chars row) refl))))
