@@ -3,3 +3,4 @@ pub mod Sizes
 pub mod Again
 pub mod Registers
 pub mod Runs
+pub mod Numbers

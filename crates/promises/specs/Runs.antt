@@ -1,6 +1,6 @@
 -- A row's first run as C is answered it. Assumes nothing.
 use Prim.Native.Nat.{ℕ, _+_, _-_, _≤_}
-use mathlib.Core.Path.{_≡_, refl, sym, ap, _∙_}
+use mathlib.Core.Path.{_≡_, refl, ap}
 use mathlib.Core.Bool.{Bool, true, false, _&&_}
 use mathlib.Core.List.{List, []}
 use native.Mathlib.Omega.{arith}
@@ -8,18 +8,16 @@ use borrow.Author.Tests.{eq-eqb}
 use lib.Dec.{eqb}
 use lib.ListN.{length, take, drop}
 use Rattle.lists.specs.Choice.{pick}
-use Rattle.refusal.specs.declared.Refusal.the-variants.{Done}
 use Rattle.refusal.specs.Number.{numberOf}
-use Rattle.refusal.specs.Laws.{done-is}
-use Rattle.board.specs.declared.Board.{Board}
 use Rattle.fetch.specs.Run.{runCheck, spanOf, runOf}
 use Rattle.fetch.specs.Laws.{span-small, run-part, span-number}
 use Rattle.files.specs.Laws.{length-part}
 use Rattle.feldrime.specs.declared.RunAnswer.{RunAnswer}
 use Rattle.feldrime.specs.declared.BoardAnswer.{BoardAnswer}
 use Rattle.feldrime.specs.Numbers.{numbersRefused, boardOf}
-use Rattle.feldrime.specs.Pages.{numbersCheck, runFor, boardFor}
+use Rattle.feldrime.specs.Pages.{runFor, boardFor}
 use Rattle.feldrime.specs.Laws.{numbers-passed}
+use Rattle.promises.specs.Sizes.{made-done}
 
 -- the run of the numbers' board; nothing where the numbers are refused
 unfoldable pub runPart : (numbers chars : List ℕ) → ℕ → List ℕ
@@ -43,14 +41,6 @@ module _ (numbers chars : List ℕ) (row : ℕ) {a : RunAnswer} (e : a ≡ runFo
       go false t = rw (e, t) (run-part (boardOf numbers) chars row (spanOf (boardOf numbers) chars row) refl)
 
   module _ {m : BoardAnswer} (made : m ≡ boardFor numbers) (done : m .refusal ≡ 0) where
-    checked : numbersCheck numbers ≡ Done
-    unfolding boardFor
-    checked = done-is _ (eq-eqb _ _ (ap (λ (x : BoardAnswer). x .refusal) (sym made) ∙ done))
-
-    board-is : m .board ≡ boardOf numbers
-    unfolding boardFor
-    board-is = ap (λ (x : BoardAnswer). x .board) made ∙ rw checked
-
     count-is : length (runOf (boardOf numbers) chars row) ≡ spanOf (boardOf numbers) chars row .count
     unfolding runOf
     count-is = length-part chars (spanOf (boardOf numbers) chars row .start) (spanOf (boardOf numbers) chars row .count) (span-small (boardOf numbers) chars row .1)
@@ -58,5 +48,5 @@ module _ (numbers chars : List ℕ) (row : ℕ) {a : RunAnswer} (e : a ≡ runFo
     pub runs-same : {part : List ℕ} {n : ℕ} → part ≡ runOf (m .board) chars row → n ≡ numberOf (runCheck (m .board) (length chars) row) → (eqb (a .refusal) n && eqb (a .count) (length part)) ≡ true
     unfolding runFor
     runs-same p q =
-        rw (e, q, p, board-is, numbers-passed numbers checked, count-is, eq-eqb (spanOf (boardOf numbers) chars row .count) _ refl)
+        rw (e, q, p, made-done numbers made done .1, numbers-passed numbers (made-done numbers made done .0), count-is, eq-eqb (spanOf (boardOf numbers) chars row .count) _ refl)
         (rw (eq-eqb _ _ (ap numberOf (span-number (boardOf numbers) chars row (spanOf (boardOf numbers) chars row) refl))))

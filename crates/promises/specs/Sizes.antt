@@ -1,10 +1,11 @@
 -- The calls that take a page's numbers alone agree. Assumes nothing.
 use Prim.Native.Nat.{ℕ}
-use mathlib.Core.Path.{_≡_, refl}
+use mathlib.Core.Path.{_≡_, refl, sym, ap, _∙_}
 use mathlib.Core.Bool.{Bool, true, false, _&&_, _||_}
 use mathlib.Core.List.{List}
 use borrow.Author.Tests.{eq-eqb}
 use lib.Dec.{eqb}
+use Rattle.refusal.specs.declared.Refusal.the-variants.{Done}
 use Rattle.refusal.specs.Number.{numberOf, doneOf}
 use Rattle.refusal.specs.Laws.{done-is}
 use Rattle.timing.specs.Check.{pageCheck, sizeOf}
@@ -12,7 +13,7 @@ use Rattle.files.specs.Page.{pageAt}
 use Rattle.feldrime.specs.declared.Answer.{Answer}
 use Rattle.feldrime.specs.declared.SizeAnswer.{SizeAnswer}
 use Rattle.feldrime.specs.declared.BoardAnswer.{BoardAnswer}
-use Rattle.feldrime.specs.Numbers.{numbersRefused}
+use Rattle.feldrime.specs.Numbers.{numbersRefused, boardOf}
 use Rattle.feldrime.specs.Answers.{answerOf}
 use Rattle.feldrime.specs.Pages.{numbersCheck, sizeFor, boardFor}
 
@@ -34,3 +35,10 @@ pub calls-agree : (numbers : List ℕ) (c : Answer) (s : SizeAnswer) (m : BoardA
     → c ≡ answerOf (numbersCheck numbers) → s ≡ sizeFor numbers → m ≡ boardFor numbers
     → agreed (c .refusal) (s .refusal) (m .refusal) (s .lines) (s .dots) ≡ true
 calls-agree numbers c s m p q r = rw (p, q, r) (agree numbers)
+
+-- numbers that nothing refuses are made their board
+pub made-done : (numbers : List ℕ) {m : BoardAnswer} → m ≡ boardFor numbers → m .refusal ≡ 0 → (numbersCheck numbers ≡ Done) × (m .board ≡ boardOf numbers)
+unfolding boardFor
+made-done numbers made z =
+    let done : numbersCheck numbers ≡ Done = done-is _ (eq-eqb _ _ (ap (λ (x : BoardAnswer). x .refusal) (sym made) ∙ z)) in
+    (done, ap (λ (x : BoardAnswer). x .board) made ∙ rw done)

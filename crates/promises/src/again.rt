@@ -7,6 +7,7 @@ ghost use Rattle.files.specs.File.{readCheck};
 ghost use Rattle.files.specs.FontFile.{fontCheck};
 ghost use Rattle.feldrime.specs.Answers.{answerOf};
 ghost use Rattle.promises.specs.Again.{againCheck, again};
+ghost use Rattle.promises.specs.Numbers.{numbersAgainCheck, numbersAgain};
 
 // A page file that is accepted is written as the same bytes.
 pub fn page_again(file: &[u8], out: &mut [u8]) -> Answer
@@ -47,4 +48,30 @@ pub fn font_again(file: &[u8], out: &mut [u8]) -> Answer
         refusal: refusal::number(refused),
         beside: 0,
     }
+}
+
+// A page's numbers made a board, the board written and read again: the same numbers, and zeros where numbers are ignored.
+pub fn numbers_again(numbers: &[u8], chars: &[u8], attrs: &[u8], out: &mut [u8]) -> Answer
+    ensures { λ r. ⌜ (r ≡ answerOf (numbersAgainCheck (now (numbers .entry)) (length (now (chars .entry))) (length (now (attrs .entry))) (length (now (out .entry)))))
+        × (now (out .exit) ≡ numbersAgain (now (numbers .entry)) (length (now (chars .entry))) (length (now (attrs .entry))) (now (out .entry))) ⌝ }
+{
+    let made = feldrime::feldrime_board_of(numbers);
+    if made.refusal != 0 {
+        return Answer {
+            refusal: made.refusal,
+            beside: 0,
+        };
+    }
+    let board = made.board;
+    let mut file = [0u8; 32797];
+    let refused = refusal::number(files::write_page(board, chars, attrs, &mut file));
+    if refused != 0 {
+        return Answer {
+            refusal: refused,
+            beside: 0,
+        };
+    }
+    let mut chars_read = [0u8; 16384];
+    let mut attrs_read = [0u8; 16384];
+    feldrime::feldrime_page_read(&file, out, &mut chars_read, &mut attrs_read)
 }

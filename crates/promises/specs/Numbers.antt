@@ -1,0 +1,168 @@
+-- A page's numbers made a board, written and read again. Assumes nothing.
+use Prim.Native.Nat.{ℕ, _+_, _/_, _%_, _≤_, _<_}
+use mathlib.Core.Path.{_≡_, refl, sym, ap, _∙_}
+use mathlib.Core.Bool.{Bool, true, false, _||_, not}
+use mathlib.Core.List.{List, [], _∷_, _++_, append-nil}
+use native.Mathlib.Omega.{arith}
+use borrow.Author.Tests.{eq-eqb, ne-eqb, eqb-true, le-ltb, not-false}
+use lib.Dec.{eqb, ltb}
+use lib.ListN.{length, getD, take, drop, replicate, length-append, drop-of-length-le}
+use lib.Seq.{take-all, take-at, drop-at, drop-cons, take-append-le}
+use Rattle.lists.specs.Choice.{pick, neither}
+use Rattle.lists.specs.Tab.{tab, tab-part}
+use Rattle.refusal.specs.declared.Refusal.{Refusal}
+use Rattle.refusal.specs.declared.Refusal.the-variants.{Done, Size}
+use Rattle.refusal.specs.Number.{numberOf, doneOf}
+use Rattle.refusal.specs.Laws.{done-is, passed}
+use Rattle.board.specs.declared.Page.{Page}
+use Rattle.board.specs.declared.Board.{Board}
+use Rattle.board.specs.Range.{memoriesRefused}
+use Rattle.board.specs.Laws.{memories-all}
+use Rattle.timing.specs.Check.{pageCheck, stateRefused, callCheck}
+use Rattle.files.specs.declared.PageRead.{PageRead}
+use Rattle.files.specs.Page.{pageAt, numbersIn}
+use Rattle.files.specs.File.{fileCheck, readCheck, readPageOf, headOf, fileOf, writeCheck, written}
+use Rattle.files.specs.Laws.{length-part, file-passed, head-all}
+use Rattle.files.specs.Round.{Bytes, word-high, word-low}
+use Rattle.feldrime.specs.declared.Answer.{Answer}
+use Rattle.feldrime.specs.declared.BoardAnswer.{BoardAnswer}
+use Rattle.feldrime.specs.Numbers.{numbersRefused, boardOf}
+use Rattle.feldrime.specs.Answers.{answerOf}
+use Rattle.feldrime.specs.Pages.{numbersCheck, pageReadSize, numbersRead, boardFor}
+use Rattle.feldrime.specs.Laws.{numbers-all, numbers-passed}
+use Rattle.agreement.specs.Steps.{range-ok, call-ok}
+use Rattle.agreement.specs.Files.{board-same}
+use Rattle.promises.specs.Sizes.{made-done}
+
+-- the numbers' own answer, then 3 where a memory or the room for the numbers has another size
+unfoldable pub numbersAgainCheck : (numbers : List ℕ) (chars attrs room : ℕ) → Refusal
+numbersAgainCheck numbers chars attrs room =
+    pick (doneOf (numbersCheck numbers)) (pick (memoriesRefused chars attrs) Size (pick (not (eqb room 32)) Size Done)) (numbersCheck numbers)
+
+-- version and page as they were, then zeros; on a refusal what stood there
+unfoldable pub numbersAgain : (numbers : List ℕ) (chars attrs : ℕ) (out : List ℕ) → List ℕ
+numbersAgain numbers chars attrs out = pick (doneOf (numbersAgainCheck numbers chars attrs (length out))) (take 25 numbers ++ replicate 7 0) out
+
+-- ---- the numbers of a page's file are the page's numbers
+
+head-is : (xs : List ℕ) → Bytes xs → 25 ≤ length xs → headOf (pageAt xs 1) ≡ (1 ∷ 0 ∷ 0 ∷ 128 ∷ 24 ∷ []) ++ take 24 (drop 1 xs)
+unfolding headOf pageAt tab
+head-is xs fits l =
+    let irs = tab-part xs 1 15 (omega (arith, l)) in
+    let all : take 24 (drop 1 xs) ≡ tab 24 (λ i. getD xs (1 + i) 0) = sym (tab-part xs 1 24 (omega (arith, l))) in
+    rw (all, sym irs, word-high xs fits 16, word-low xs fits 16, word-high xs fits 18, word-low xs fits 18, word-high xs fits 20, word-low xs fits 20)
+
+numbers-of : (xs chars attrs : List ℕ) → Bytes xs → length xs ≡ 32 → getD xs 0 0 ≡ 1 → numbersIn (fileOf (pageAt xs 1) chars attrs) ≡ take 25 xs ++ replicate 7 0
+unfolding fileOf
+numbers-of xs chars attrs fits n v = ap (λ (l : List ℕ). (1 ∷ l) ++ replicate 7 0) part ∙ ap (λ (l : List ℕ). l ++ replicate 7 0) (sym front)
+  where
+    rest : List ℕ
+    rest = take 24 (drop 1 xs)
+
+    part : take 24 (drop 5 (headOf (pageAt xs 1) ++ (chars ++ attrs))) ≡ rest
+    part = rw (head-is xs fits (omega (arith, n))) (take-at rest (chars ++ attrs) 24 (length-part xs 1 24 (omega (arith, n))))
+
+    front : take 25 xs ≡ 1 ∷ rest
+    front = ap (take 25) (drop-cons xs 0 0 (omega (arith, n))) ∙ rw v
+
+-- ---- the write, and the read of what was written
+
+file-long : (p : Page) (chars attrs : List ℕ) → length (p .irs) ≡ 15 → length chars ≡ 16384 → length attrs ≡ 16384 → length (fileOf p chars attrs) ≡ 32797
+unfolding fileOf
+file-long p chars attrs n c a = length-append (headOf p) (chars ++ attrs) ∙ rw (head-all p n, length-append chars attrs, c, a)
+
+-- as many zeros as a file has bytes
+abbrev zeros : List ℕ
+zeros = replicate 32797 0
+
+module _ (numbers : List ℕ) (fits : Bytes numbers) (chars attrs out : List ℕ) {m : BoardAnswer} (made : m ≡ boardFor numbers) where
+  abbrev Again : Answer → List ℕ → Type 0
+  Again a x = (a ≡ answerOf (numbersAgainCheck numbers (length chars) (length attrs) (length out))) × (x ≡ numbersAgain numbers (length chars) (length attrs) out)
+
+  pub not-made : (m .refusal ≡ 0 → ⊥) → Again (record { refusal = m .refusal; beside = 0 }) out
+  unfolding numbersAgainCheck numbersAgain boardFor
+  not-made e =
+      let r : m .refusal ≡ numberOf (numbersCheck numbers) = ap (λ (x : BoardAnswer). x .refusal) made in
+      let refused : doneOf (numbersCheck numbers) ≡ false = ne-eqb _ _ (λ q. e (r ∙ q)) in
+      (rw (refused, r), rw (refused, refused))
+
+  module _ (z : m .refusal ≡ 0) {w : Refusal} {file : List ℕ}
+      (wrote : (w ≡ writeCheck (m .board) (length chars) (length attrs) 32797) × (file ≡ written (m .board) chars attrs zeros)) where
+    done : numbersCheck numbers ≡ Done
+    done = made-done numbers made z .0
+
+    page-ok : pageCheck (boardOf numbers .page) ≡ Done
+    unfolding numbersCheck
+    page-ok = passed (numbersRefused numbers) Size _ refl done .1
+
+    at-zero : stateRefused (boardOf numbers) ≡ false
+    at-zero = range-ok (boardOf numbers) (record { line-lt = omega arith; clock-lt = omega arith; beam-le = omega arith; row-le = omega arith; pointer-le = omega arith })
+
+    write-is : writeCheck (boardOf numbers) (length chars) (length attrs) 32797 ≡ pick (memoriesRefused (length chars) (length attrs)) Size Done
+    unfolding writeCheck callCheck
+    write-is = go (memoriesRefused (length chars) (length attrs)) refl
+      where
+        go : (t : Bool) → memoriesRefused (length chars) (length attrs) ≡ t → writeCheck (boardOf numbers) (length chars) (length attrs) 32797 ≡ pick t Size Done
+        go true t = rw t
+        go false t = rw (t, page-ok, at-zero)
+
+    wrote-is : w ≡ pick (memoriesRefused (length chars) (length attrs)) Size Done
+    wrote-is = wrote .0 ∙ rw (made-done numbers made z .1) write-is
+
+    pub not-written : {n : ℕ} → n ≡ numberOf w → (n ≡ 0 → ⊥) → Again (record { refusal = n; beside = 0 }) out
+    unfolding numbersAgainCheck numbersAgain
+    not-written {n} e f = go (memoriesRefused (length chars) (length attrs)) refl
+      where
+        go : (t : Bool) → memoriesRefused (length chars) (length attrs) ≡ t → Again (record { refusal = n; beside = 0 }) out
+        go true t = (rw (done, t, e, wrote-is, t), rw (done, t))
+        go false t = absurd (f (e ∙ rw (wrote-is, t)))
+
+    module _ {n : ℕ} (e : n ≡ numberOf w) (y : n ≡ 0) where
+      fine : memoriesRefused (length chars) (length attrs) ≡ false
+      fine = passed (memoriesRefused (length chars) (length attrs)) Size Done refl (sym wrote-is ∙ done-is w (eq-eqb _ _ (sym e ∙ y))) .0
+
+      irs-all : length (boardOf numbers .page .irs) ≡ 15
+      unfolding pageAt
+      irs-all = length-part numbers 1 15 (omega (arith, numbers-all numbers (numbers-passed numbers done)))
+
+      ok : writeCheck (boardOf numbers) (length chars) (length attrs) 32797 ≡ Done
+      ok = write-is ∙ rw fine
+
+      abbrev laid : List ℕ
+      laid = fileOf (boardOf numbers .page) chars attrs
+
+      laid-is : written (boardOf numbers) chars attrs zeros ≡ laid
+      unfolding written
+      laid-is = rw ok (append-nil laid)
+
+      file-is : file ≡ laid
+      file-is = wrote .1 ∙ rw (made-done numbers made z .1) laid-is
+
+      front : file ≡ take 32797 (written (boardOf numbers) chars attrs zeros)
+      front =
+          let c = memories-all (length chars) (length attrs) fine in
+          file-is ∙ rw laid-is (sym (take-all 32797 laid (omega (arith, file-long (boardOf numbers .page) chars attrs irs-all (c .0) (c .1)))))
+
+      read-done : readCheck file false ≡ Done
+      unfolding readPageOf
+      read-done = ap (λ (r : PageRead). r .refusal) (board-same (boardOf numbers) irs-all chars attrs zeros ok [] [] file front .0)
+
+      read-is : (size : Bool) → readCheck file size ≡ pick size Size Done
+      unfolding readCheck fileCheck
+      read-is size =
+          let p = file-passed file 32792 false (pageCheck (pageAt file 5)) read-done in
+          rw (p .version-ok, p .length-ok, p .rest-ok)
+
+      version : getD numbers 0 0 ≡ 1
+      unfolding numbersRefused
+      version = eqb-true _ _ (not-false _ (neither (not (eqb (length numbers) 32)) (not (eqb (getD numbers 0 0) 1)) (numbers-passed numbers done) .1))
+
+      numbers-are : numbersIn file ≡ take 25 numbers ++ replicate 7 0
+      numbers-are = rw file-is (numbers-of numbers chars attrs fits (numbers-all numbers (numbers-passed numbers done)) version)
+
+      pub numbers-read : {a : Answer} {x : List ℕ}
+          → (a ≡ answerOf (readCheck file (pageReadSize (length out) 16384 16384))) × (x ≡ numbersRead file (pageReadSize (length out) 16384 16384) out) → Again a x
+      unfolding numbersRead numbersAgainCheck numbersAgain
+      numbers-read r =
+          let is = read-is (not (eqb (length out) 32)) in
+          (rw (done, fine) (r .0 ∙ ap answerOf is), rw (done, fine) (r .1 ∙ rw (is, numbers-are)))
