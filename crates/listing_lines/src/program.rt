@@ -35,9 +35,9 @@ fn print_listing(
     let mut out = [0u8; 3073];
     let head = listing_head(page, &mut out);
     print(head, &out);
-    let shown = timing::page_size(page).lines.0;
-    let mut line = 0;
-    while line < shown {
+    let shown = timing::page_size(page).lines;
+    let mut line = units::Lines(0);
+    while line.below(shown) {
         let listed = listing_line(
             b,
             chars,
@@ -46,12 +46,12 @@ fn print_listing(
             flags,
             unshifted,
             shifted,
-            units::Lines(line),
+            line,
             0,
             &mut out,
         );
         print(listed, &out);
-        line += 1;
+        line = line.plus(units::Lines(1));
     }
 }
 
