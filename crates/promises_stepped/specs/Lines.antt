@@ -21,7 +21,7 @@ use Rattle.feldrime.specs.declared.BoardAnswer.{BoardAnswer}
 use Rattle.feldrime.specs.Answers.{boardAnswer}
 use Rattle.feldrime.specs.Step.{numbered, stepNumbers}
 use Rattle.agreement.specs.Steps.{after, fits, at-once}
-use Rattle.agreement.specs.Lines.{clockOf, dots-are}
+use Rattle.agreement.specs.Lines.{lineCount, clockOf, dots-are}
 
 -- a line that stepping can draw
 pub record Steppable (b : Board) (chars attrs : List ℕ) (f : Font) (line room : ℕ) : Type 0 where
@@ -53,7 +53,7 @@ module _ (irs : List ℕ) {t : Timing} (e : t ≡ timingOf irs) where
     clocks-fit = rw ht-is (let h : field * t .counts .vt .0 + line ≤ 551168 = omega (arith, frames-fit, visible-bound irs) in mul-le-mul h (ht-bound irs))
 
 pub clock-is : (b : Board) {t : Timing} → t ≡ timingOf (b .page .irs) → (field line : ℕ) → (field * t .counts .vt .0 + line) * t .counts .ht .0 ≡ clockOf b field line 0
-unfolding clockOf
+unfolding clockOf lineCount
 clock-is b e field line = rw (vt-is (b .page .irs) e, ht-is (b .page .irs) e) (omega arith)
 
 -- ---- the loop: the board stands at column c of the line, and steps

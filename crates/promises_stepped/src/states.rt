@@ -2,7 +2,7 @@
 use feldrime::BoardAnswer;
 ghost use mathlib.Core.Path.{_≡_};
 ghost use Rattle.board.specs.State.{clockZero};
-ghost use Rattle.clock.specs.Step.{withPlace};
+ghost use Rattle.place.specs.State.{withPlace};
 ghost use Rattle.shape.specs.Font.{fontOf};
 ghost use Rattle.promises_stepped.specs.States.{steppedTo};
 
