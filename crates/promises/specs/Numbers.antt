@@ -1,13 +1,13 @@
 -- A page's numbers made a board, written and read again. Assumes nothing.
-use Prim.Native.Nat.{ℕ, _+_, _/_, _%_, _≤_, _<_}
+use Prim.Native.Nat.{ℕ, _+_, _≤_}
 use mathlib.Core.Path.{_≡_, refl, sym, ap, _∙_}
-use mathlib.Core.Bool.{Bool, true, false, _||_, not}
+use mathlib.Core.Bool.{Bool, true, false, not}
 use mathlib.Core.List.{List, [], _∷_, _++_, append-nil}
 use native.Mathlib.Omega.{arith}
-use borrow.Author.Tests.{eq-eqb, ne-eqb, eqb-true, le-ltb, not-false}
-use lib.Dec.{eqb, ltb}
-use lib.ListN.{length, getD, take, drop, replicate, length-append, drop-of-length-le}
-use lib.Seq.{take-all, take-at, drop-at, drop-cons, take-append-le}
+use borrow.Author.Tests.{eq-eqb, ne-eqb, eqb-true, not-false}
+use lib.Dec.{eqb}
+use lib.ListN.{length, getD, take, drop, replicate, length-append}
+use lib.Seq.{take-all, take-at, drop-cons}
 use Rattle.lists.specs.Choice.{pick, neither}
 use Rattle.lists.specs.Tab.{tab, tab-part}
 use Rattle.refusal.specs.declared.Refusal.{Refusal}
@@ -15,7 +15,6 @@ use Rattle.refusal.specs.declared.Refusal.the-variants.{Done, Size}
 use Rattle.refusal.specs.Number.{numberOf, doneOf}
 use Rattle.refusal.specs.Laws.{done-is, passed}
 use Rattle.board.specs.declared.Page.{Page}
-use Rattle.board.specs.declared.Board.{Board}
 use Rattle.board.specs.Range.{memoriesRefused}
 use Rattle.board.specs.Laws.{memories-all}
 use Rattle.timing.specs.Check.{pageCheck, stateRefused, callCheck}
@@ -31,7 +30,7 @@ use Rattle.feldrime.specs.Numbers.{numbersRefused, numbersBoard, numbersIn}
 use Rattle.feldrime.specs.Answers.{answerOf}
 use Rattle.feldrime.specs.Pages.{numbersCheck, pageReadSize, numbersRead, boardFor}
 use Rattle.feldrime.specs.NumbersLaws.{numbers-all, numbers-passed}
-use Rattle.agreement.specs.Steps.{range-ok, call-ok}
+use Rattle.agreement.specs.Steps.{range-ok}
 use Rattle.agreement.specs.Files.{board-same}
 use Rattle.promises.specs.Sizes.{made-done}
 

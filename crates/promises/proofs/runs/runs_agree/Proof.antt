@@ -1,4 +1,3 @@
-use native.Mathlib.Omega.{arith}
 use borrow.Author.Needs.{needs}
 use Rattle.promises.specs.Runs.{runs-same}
 use Rattle.promises.proofs.runs.runs_agree.Statement.{statement}
