@@ -1,7 +1,7 @@
 -- A file read and written again. Assumes nothing.
 use Prim.Native.Nat.{ℕ, _≤_}
 use mathlib.Core.Path.{_≡_, refl, sym, ap, _∙_}
-use mathlib.Core.Bool.{Bool, true, false, _||_, or-true}
+use mathlib.Core.Bool.{Bool, true, false, or-true}
 use mathlib.Core.List.{List, _++_}
 use borrow.Author.Tests.{eq-eqb, ne-eqb, ltb-false}
 use lib.ListN.{length, drop, replicate}
@@ -85,7 +85,9 @@ module _ (file : List ℕ) (bytes : Bytes file) (out : List ℕ) {a : Answer} {n
   page-wrote e {w} {out′} write =
       let ok : readCheck file false ≡ Done = answer-done _ (read .0) e in
       wrote 32797 file out ok (write .0)
-      (λ l. let s = page-same-from-c file bytes 32 16384 16384 ok (zeros 32) (zeros 16384) (zeros 16384) out l in (rw (read .1, read .2, read .3) (s .0), write .1 ∙ rw (read .1, read .2, read .3) (s .1)))
+      (λ l. let s = page-same-from-c file (zeros 32) (zeros 16384) (zeros 16384) (ap numberOf ok) bytes out l in
+      let zero : numberOf (pageWriteCheck numbers (length chars) (length attrs) (length out)) ≡ 0 = rw (read .1, read .2, read .3) (s .0) in
+      (done-is (pageWriteCheck numbers (length chars) (length attrs) (length out)) (eq-eqb _ _ zero), write .1 ∙ rw (read .1, read .2, read .3) (s .1)))
       (λ t. let s = page-short numbers chars attrs out t in (s .0, write .1 ∙ s .1))
 
 -- ---- a font
@@ -108,5 +110,5 @@ module _ (file : List ℕ) (bytes : Bytes file) (out : List ℕ) {a : Answer} {f
   font-wrote e {w} {out′} write number =
       let ok : fontCheck file false ≡ Done = answer-done _ (read .0) e in
       wrote 2455 file out ok (ap (λ (k : ℕ). record { refusal = k; beside = 0 }) number)
-      (λ l. let s = font-same file bytes noFont ok out l in (write .0 ∙ rw (read .1) (s .0), write .1 ∙ rw (read .1) (s .1)))
+      (λ l. let s = font-same file noFont ok bytes out l in (write .0 ∙ rw (read .1) (s .0), write .1 ∙ rw (read .1) (s .1)))
       (λ t. let s = font-short f out t in (write .0 ∙ s .0, write .1 ∙ s .1))

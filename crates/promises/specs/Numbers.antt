@@ -1,13 +1,13 @@
 -- A page's numbers made a board, written and read again. Assumes nothing.
-use Prim.Native.Nat.{ℕ, _+_, _/_, _%_, _≤_, _<_}
+use Prim.Native.Nat.{ℕ, _+_, _≤_}
 use mathlib.Core.Path.{_≡_, refl, sym, ap, _∙_}
-use mathlib.Core.Bool.{Bool, true, false, _||_, not}
+use mathlib.Core.Bool.{Bool, true, false, not}
 use mathlib.Core.List.{List, [], _∷_, _++_, append-nil}
 use native.Mathlib.Omega.{arith}
-use borrow.Author.Tests.{eq-eqb, ne-eqb, eqb-true, le-ltb, not-false}
-use lib.Dec.{eqb, ltb}
-use lib.ListN.{length, getD, take, drop, replicate, length-append, drop-of-length-le}
-use lib.Seq.{take-all, take-at, drop-at, drop-cons, take-append-le}
+use borrow.Author.Tests.{eq-eqb, ne-eqb, eqb-true, not-false}
+use lib.Dec.{eqb}
+use lib.ListN.{length, getD, take, drop, replicate, length-append}
+use lib.Seq.{take-all, take-at, drop-cons}
 use Rattle.lists.specs.Choice.{pick, neither}
 use Rattle.lists.specs.Tab.{tab, tab-part}
 use Rattle.refusal.specs.declared.Refusal.{Refusal}
@@ -15,22 +15,22 @@ use Rattle.refusal.specs.declared.Refusal.the-variants.{Done, Size}
 use Rattle.refusal.specs.Number.{numberOf, doneOf}
 use Rattle.refusal.specs.Laws.{done-is, passed}
 use Rattle.board.specs.declared.Page.{Page}
-use Rattle.board.specs.declared.Board.{Board}
 use Rattle.board.specs.Range.{memoriesRefused}
 use Rattle.board.specs.Laws.{memories-all}
 use Rattle.timing.specs.Check.{pageCheck, stateRefused, callCheck}
+use Rattle.copies.specs.Put.{length-part}
 use Rattle.files.specs.declared.PageRead.{PageRead}
-use Rattle.files.specs.Page.{pageAt, numbersIn}
+use Rattle.files.specs.Page.{pageAt}
 use Rattle.files.specs.File.{fileCheck, readCheck, readPageOf, headOf, fileOf, writeCheck, written}
-use Rattle.files.specs.Laws.{length-part, file-passed, head-all}
+use Rattle.files.specs.Laws.{file-passed, head-all}
 use Rattle.files.specs.Round.{Bytes, word-high, word-low}
 use Rattle.feldrime.specs.declared.Answer.{Answer}
 use Rattle.feldrime.specs.declared.BoardAnswer.{BoardAnswer}
-use Rattle.feldrime.specs.Numbers.{numbersRefused, boardOf}
+use Rattle.feldrime.specs.Numbers.{numbersRefused, numbersBoard, numbersIn}
 use Rattle.feldrime.specs.Answers.{answerOf}
 use Rattle.feldrime.specs.Pages.{numbersCheck, pageReadSize, numbersRead, boardFor}
-use Rattle.feldrime.specs.Laws.{numbers-all, numbers-passed}
-use Rattle.agreement.specs.Steps.{range-ok, call-ok}
+use Rattle.feldrime.specs.NumbersLaws.{numbers-all, numbers-passed}
+use Rattle.agreement.specs.Steps.{range-ok}
 use Rattle.agreement.specs.Files.{board-same}
 use Rattle.promises.specs.Sizes.{made-done}
 
@@ -91,18 +91,18 @@ module _ (numbers : List ℕ) (fits : Bytes numbers) (chars attrs out : List ℕ
     done : numbersCheck numbers ≡ Done
     done = made-done numbers made z .0
 
-    page-ok : pageCheck (boardOf numbers .page) ≡ Done
+    page-ok : pageCheck (numbersBoard numbers .page) ≡ Done
     unfolding numbersCheck
     page-ok = passed (numbersRefused numbers) Size _ refl done .1
 
-    at-zero : stateRefused (boardOf numbers) ≡ false
-    at-zero = range-ok (boardOf numbers) (record { line-lt = omega arith; clock-lt = omega arith; beam-le = omega arith; row-le = omega arith; pointer-le = omega arith })
+    at-zero : stateRefused (numbersBoard numbers) ≡ false
+    at-zero = range-ok (numbersBoard numbers) (record { line-lt = omega arith; clock-lt = omega arith; beam-le = omega arith; row-le = omega arith; pointer-le = omega arith })
 
-    write-is : writeCheck (boardOf numbers) (length chars) (length attrs) 32797 ≡ pick (memoriesRefused (length chars) (length attrs)) Size Done
+    write-is : writeCheck (numbersBoard numbers) (length chars) (length attrs) 32797 ≡ pick (memoriesRefused (length chars) (length attrs)) Size Done
     unfolding writeCheck callCheck
     write-is = go (memoriesRefused (length chars) (length attrs)) refl
       where
-        go : (t : Bool) → memoriesRefused (length chars) (length attrs) ≡ t → writeCheck (boardOf numbers) (length chars) (length attrs) 32797 ≡ pick t Size Done
+        go : (t : Bool) → memoriesRefused (length chars) (length attrs) ≡ t → writeCheck (numbersBoard numbers) (length chars) (length attrs) 32797 ≡ pick t Size Done
         go true t = rw t
         go false t = rw (t, page-ok, at-zero)
 
@@ -121,31 +121,31 @@ module _ (numbers : List ℕ) (fits : Bytes numbers) (chars attrs out : List ℕ
       fine : memoriesRefused (length chars) (length attrs) ≡ false
       fine = passed (memoriesRefused (length chars) (length attrs)) Size Done refl (sym wrote-is ∙ done-is w (eq-eqb _ _ (sym e ∙ y))) .0
 
-      irs-all : length (boardOf numbers .page .irs) ≡ 15
+      irs-all : length (numbersBoard numbers .page .irs) ≡ 15
       unfolding pageAt
       irs-all = length-part numbers 1 15 (omega (arith, numbers-all numbers (numbers-passed numbers done)))
 
-      ok : writeCheck (boardOf numbers) (length chars) (length attrs) 32797 ≡ Done
+      ok : writeCheck (numbersBoard numbers) (length chars) (length attrs) 32797 ≡ Done
       ok = write-is ∙ rw fine
 
       abbrev laid : List ℕ
-      laid = fileOf (boardOf numbers .page) chars attrs
+      laid = fileOf (numbersBoard numbers .page) chars attrs
 
-      laid-is : written (boardOf numbers) chars attrs zeros ≡ laid
+      laid-is : written (numbersBoard numbers) chars attrs zeros ≡ laid
       unfolding written
       laid-is = rw ok (append-nil laid)
 
       file-is : file ≡ laid
       file-is = wrote .1 ∙ rw (made-done numbers made z .1) laid-is
 
-      front : file ≡ take 32797 (written (boardOf numbers) chars attrs zeros)
+      front : file ≡ take 32797 (written (numbersBoard numbers) chars attrs zeros)
       front =
           let c = memories-all (length chars) (length attrs) fine in
-          file-is ∙ rw laid-is (sym (take-all 32797 laid (omega (arith, file-long (boardOf numbers .page) chars attrs irs-all (c .0) (c .1)))))
+          file-is ∙ rw laid-is (sym (take-all 32797 laid (omega (arith, file-long (numbersBoard numbers .page) chars attrs irs-all (c .0) (c .1)))))
 
       read-done : readCheck file false ≡ Done
       unfolding readPageOf
-      read-done = ap (λ (r : PageRead). r .refusal) (board-same (boardOf numbers) irs-all chars attrs zeros ok [] [] file front .0)
+      read-done = ap (λ (r : PageRead). r .refusal) (board-same (numbersBoard numbers) irs-all chars attrs zeros ok [] [] file front .0)
 
       read-is : (size : Bool) → readCheck file size ≡ pick size Size Done
       unfolding readCheck fileCheck

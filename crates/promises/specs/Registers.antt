@@ -22,7 +22,7 @@ use Rattle.place.specs.State.{stateCheck, stateOf}
 use Rattle.registers.specs.declared.Written.{Written}
 use Rattle.registers.specs.Parts.{withStarts, withPage, answer}
 use Rattle.registers.specs.Write.{registerCheck, commandOf, activeOf, inactiveOf, startsAfter, writeOf}
-use Rattle.registers.specs.Read.{shownAt, readOf}
+use Rattle.registers.specs.Read.{shownAt, readAt, readOf}
 use Rattle.registers.specs.Video.{videoCheck, setVideoOf}
 use Rattle.feldrime.specs.declared.BoardAnswer.{BoardAnswer}
 use Rattle.feldrime.specs.declared.ByteAnswer.{ByteAnswer}
@@ -211,7 +211,7 @@ module _ (b : Board) (lower upper : ℕ) (l : lower < 256) (active : 2 ≤ b .re
   reads : {one two : BoardAnswer} {x y : ByteAnswer} → one ≡ written b 2 lower → two ≡ written (one .board) 3 upper
       → x ≡ byteAnswer (readOf (two .board) 2 .refusal) (readOf (two .board) 2 .byte) → y ≡ byteAnswer (readOf (two .board) 3 .refusal) (readOf (two .board) 3 .byte)
       → (eqb (x .byte) lower && eqb (y .byte) (upper % 64)) ≡ true
-  unfolding readOf shownAt
+  unfolding readOf readAt shownAt
   reads e₁ e₂ e₃ e₄ = rw (e₃, e₄, e₂, e₁, lower-set, upper-set, whole-ok, eq-eqb (whole % 256) lower (omega arith), eq-eqb (whole / 256 % 64) (upper % 64) (omega arith))
 
 pub start-again : (b : Board) (lower upper : ℕ) → lower < 256 → {one two : BoardAnswer} {x y : ByteAnswer} → one ≡ written b 2 lower

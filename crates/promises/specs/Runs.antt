@@ -11,17 +11,17 @@ use Rattle.lists.specs.Choice.{pick}
 use Rattle.refusal.specs.Number.{numberOf}
 use Rattle.fetch.specs.Run.{runCheck, spanOf, runOf}
 use Rattle.fetch.specs.Laws.{span-small, run-part, span-number}
-use Rattle.files.specs.Laws.{length-part}
+use Rattle.copies.specs.Put.{length-part}
 use Rattle.feldrime.specs.declared.RunAnswer.{RunAnswer}
 use Rattle.feldrime.specs.declared.BoardAnswer.{BoardAnswer}
-use Rattle.feldrime.specs.Numbers.{numbersRefused, boardOf}
+use Rattle.feldrime.specs.Numbers.{numbersRefused, numbersBoard}
 use Rattle.feldrime.specs.Pages.{runFor, boardFor}
-use Rattle.feldrime.specs.Laws.{numbers-passed}
+use Rattle.feldrime.specs.NumbersLaws.{numbers-passed}
 use Rattle.promises.specs.Sizes.{made-done}
 
 -- the run of the numbers' board; nothing where the numbers are refused
 unfoldable pub runPart : (numbers chars : List ℕ) → ℕ → List ℕ
-runPart numbers chars row = pick (numbersRefused numbers) [] (runOf (boardOf numbers) chars row)
+runPart numbers chars row = pick (numbersRefused numbers) [] (runOf (numbersBoard numbers) chars row)
 
 module _ (numbers chars : List ℕ) (row : ℕ) {a : RunAnswer} (e : a ≡ runFor numbers chars row) where
   pub run-inside : (a .first + a .count ≤ 16384) × (a .first + a .count ≤ length chars)
@@ -30,7 +30,7 @@ module _ (numbers chars : List ℕ) (row : ℕ) {a : RunAnswer} (e : a ≡ runFo
     where
       go : (t : Bool) → numbersRefused numbers ≡ t → (a .first + a .count ≤ 16384) × (a .first + a .count ≤ length chars)
       go true t = rw (e, t) (omega arith, omega arith)
-      go false t = rw (e, t) (span-small (boardOf numbers) chars row)
+      go false t = rw (e, t) (span-small (numbersBoard numbers) chars row)
 
   pub run-is : take (a .first + a .count - a .first) (drop (a .first) chars) ≡ runPart numbers chars row
   unfolding runFor runPart
@@ -38,15 +38,15 @@ module _ (numbers chars : List ℕ) (row : ℕ) {a : RunAnswer} (e : a ≡ runFo
     where
       go : (t : Bool) → numbersRefused numbers ≡ t → take (a .first + a .count - a .first) (drop (a .first) chars) ≡ runPart numbers chars row
       go true t = rw (e, t)
-      go false t = rw (e, t) (run-part (boardOf numbers) chars row (spanOf (boardOf numbers) chars row) refl)
+      go false t = rw (e, t) (run-part (numbersBoard numbers) chars row (spanOf (numbersBoard numbers) chars row) refl)
 
   module _ {m : BoardAnswer} (made : m ≡ boardFor numbers) (done : m .refusal ≡ 0) where
-    count-is : length (runOf (boardOf numbers) chars row) ≡ spanOf (boardOf numbers) chars row .count
+    count-is : length (runOf (numbersBoard numbers) chars row) ≡ spanOf (numbersBoard numbers) chars row .count
     unfolding runOf
-    count-is = length-part chars (spanOf (boardOf numbers) chars row .start) (spanOf (boardOf numbers) chars row .count) (span-small (boardOf numbers) chars row .1)
+    count-is = length-part chars (spanOf (numbersBoard numbers) chars row .start) (spanOf (numbersBoard numbers) chars row .count) (span-small (numbersBoard numbers) chars row .1)
 
     pub runs-same : {part : List ℕ} {n : ℕ} → part ≡ runOf (m .board) chars row → n ≡ numberOf (runCheck (m .board) (length chars) row) → (eqb (a .refusal) n && eqb (a .count) (length part)) ≡ true
     unfolding runFor
     runs-same p q =
-        rw (e, q, p, made-done numbers made done .1, numbers-passed numbers (made-done numbers made done .0), count-is, eq-eqb (spanOf (boardOf numbers) chars row .count) _ refl)
-        (rw (eq-eqb _ _ (ap numberOf (span-number (boardOf numbers) chars row (spanOf (boardOf numbers) chars row) refl))))
+        rw (e, q, p, made-done numbers made done .1, numbers-passed numbers (made-done numbers made done .0), count-is, eq-eqb (spanOf (numbersBoard numbers) chars row .count) _ refl)
+        (rw (eq-eqb _ _ (ap numberOf (span-number (numbersBoard numbers) chars row (spanOf (numbersBoard numbers) chars row) refl))))

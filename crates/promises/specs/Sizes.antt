@@ -13,7 +13,7 @@ use Rattle.files.specs.Page.{pageAt}
 use Rattle.feldrime.specs.declared.Answer.{Answer}
 use Rattle.feldrime.specs.declared.SizeAnswer.{SizeAnswer}
 use Rattle.feldrime.specs.declared.BoardAnswer.{BoardAnswer}
-use Rattle.feldrime.specs.Numbers.{numbersRefused, boardOf}
+use Rattle.feldrime.specs.Numbers.{numbersRefused, numbersBoard}
 use Rattle.feldrime.specs.Answers.{answerOf}
 use Rattle.feldrime.specs.Pages.{numbersCheck, sizeFor, boardFor}
 
@@ -37,7 +37,7 @@ pub calls-agree : (numbers : List ℕ) (c : Answer) (s : SizeAnswer) (m : BoardA
 calls-agree numbers c s m p q r = rw (p, q, r) (agree numbers)
 
 -- numbers that nothing refuses are made their board
-pub made-done : (numbers : List ℕ) {m : BoardAnswer} → m ≡ boardFor numbers → m .refusal ≡ 0 → (numbersCheck numbers ≡ Done) × (m .board ≡ boardOf numbers)
+pub made-done : (numbers : List ℕ) {m : BoardAnswer} → m ≡ boardFor numbers → m .refusal ≡ 0 → (numbersCheck numbers ≡ Done) × (m .board ≡ numbersBoard numbers)
 unfolding boardFor
 made-done numbers made z =
     let done : numbersCheck numbers ≡ Done = done-is _ (eq-eqb _ _ (ap (λ (x : BoardAnswer). x .refusal) (sym made) ∙ z)) in

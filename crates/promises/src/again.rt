@@ -52,8 +52,9 @@ pub fn font_again(file: &[u8], out: &mut [u8]) -> Answer
 
 // A page's numbers made a board, the board written and read again: the same numbers, and zeros where numbers are ignored.
 pub fn numbers_again(numbers: &[u8], chars: &[u8], attrs: &[u8], out: &mut [u8]) -> Answer
-    ensures { λ r. ⌜ (r ≡ answerOf (numbersAgainCheck (now (numbers .entry)) (length (now (chars .entry))) (length (now (attrs .entry))) (length (now (out .entry)))))
-        × (now (out .exit) ≡ numbersAgain (now (numbers .entry)) (length (now (chars .entry))) (length (now (attrs .entry))) (now (out .entry))) ⌝ }
+    ensures { λ r. let c = length (now (chars .entry)) in let a = length (now (attrs .entry)) in
+        ⌜ (r ≡ answerOf (numbersAgainCheck (now (numbers .entry)) c a (length (now (out .entry)))))
+        × (now (out .exit) ≡ numbersAgain (now (numbers .entry)) c a (now (out .entry))) ⌝ }
 {
     let made = feldrime::feldrime_board_of(numbers);
     if made.refusal != 0 {

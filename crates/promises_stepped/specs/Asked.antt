@@ -8,7 +8,6 @@ use borrow.Author.Tests.{eq-eqb, ne-eqb, le-leb, lt-leb, lt-ltb, le-ltb, leb-fal
 use lib.Dec.{eqb, ltb, leb}
 use lib.ListN.{length, drop}
 use Rattle.lists.specs.Choice.{pick, firstOf, neither}
-use Rattle.refusal.specs.declared.Refusal.{Refusal}
 use Rattle.refusal.specs.declared.Refusal.the-variants.{Done, Size, Reserved, Porch, Width, Range, Room, Address}
 use Rattle.refusal.specs.Number.{numberOf, doneOf}
 use Rattle.refusal.specs.Laws.{done-is, passed, not-refused}

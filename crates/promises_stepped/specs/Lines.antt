@@ -1,12 +1,15 @@
 -- A line drawn by stepping is the line drawn whole. Assumes nothing.
-use Prim.Native.Nat.{ℕ, suc, _+_, _*_, _%_, _≤_, _<_}
-use mathlib.Core.Path.{_≡_, refl, sym, ap, _∙_}
+use Prim.Native.Nat.{ℕ, suc, _+_, _*_, _≤_, _<_}
+use mathlib.Core.Path.{_≡_, sym, ap, _∙_}
 use mathlib.Core.List.{List, _++_}
-use native.Mathlib.Nat.{mul-le-mul, mod-eq-of-lt}
+use native.Mathlib.Nat.{mul-le-mul, mod-eq-of-lt, add-zero}
 use native.Mathlib.Omega.{arith}
 use lib.ListN.{length, take, drop, length-take}
 use lib.Seq.{take-at, take-length}
 use Rattle.refusal.specs.declared.Refusal.the-variants.{Done}
+use Rattle.units.specs.declared.Clocks.{Clocks}
+use Rattle.units.specs.declared.Lines.{Lines}
+use Rattle.units.specs.Units.{clocks, lines, clocksOf}
 use Rattle.board.specs.declared.Board.{Board}
 use Rattle.timing.specs.declared.Timing.{Timing}
 use Rattle.timing.specs.Fields.{htOf, vtOf, hactOf, visibleOf, countsOf, timingOf}
@@ -14,14 +17,14 @@ use Rattle.timing.specs.Laws.{visible-bound, ht-bound, vt-bound}
 use Rattle.shape.specs.Font.{Font, fontOf}
 use Rattle.line.specs.Line.{columnDots, lineLength}
 use Rattle.line.specs.Length.{length-dots}
-use Rattle.step.specs.Step.{stepCheck, stepOf}
+use Rattle.step.specs.Step.{stepCheck}
 use Rattle.place.specs.State.{stateOf}
 use Rattle.feldrime.specs.declared.StepBy.{StepBy}
 use Rattle.feldrime.specs.declared.BoardAnswer.{BoardAnswer}
 use Rattle.feldrime.specs.Answers.{boardAnswer}
 use Rattle.feldrime.specs.Step.{numbered, stepNumbers}
 use Rattle.agreement.specs.Steps.{after, fits, at-once}
-use Rattle.agreement.specs.Lines.{clockOf, dots-are}
+use Rattle.agreement.specs.Lines.{lineCount, clockOf, dots-are}
 
 -- a line that stepping can draw
 pub record Steppable (b : Board) (chars attrs : List ℕ) (f : Font) (line room : ℕ) : Type 0 where
@@ -49,12 +52,20 @@ module _ (irs : List ℕ) {t : Timing} (e : t ≡ timingOf irs) where
     pub frames-fit : field * t .counts .vt .0 ≤ 549015
     frames-fit = rw vt-is (let h : field ≤ 255 = omega arith in mul-le-mul h (vt-bound irs))
 
-    pub clocks-fit : (field * t .counts .vt .0 + line) * t .counts .ht .0 ≤ 211648512
-    clocks-fit = rw ht-is (let h : field * t .counts .vt .0 + line ≤ 551168 = omega (arith, frames-fit, visible-bound irs) in mul-le-mul h (ht-bound irs))
+    lines-fit : field * t .counts .vt .0 + line ≤ 551168
+    lines-fit = omega (arith, frames-fit, visible-bound irs)
 
-pub clock-is : (b : Board) {t : Timing} → t ≡ timingOf (b .page .irs) → (field line : ℕ) → (field * t .counts .vt .0 + line) * t .counts .ht .0 ≡ clockOf b field line 0
-unfolding clockOf
-clock-is b e field line = rw (vt-is (b .page .irs) e, ht-is (b .page .irs) e) (omega arith)
+    pub frames-line : {n : Lines} → n ≡ lines (field * t .counts .vt .0) → n .0 + line ≤ 551168
+    frames-line e = rw e lines-fit
+
+    pub clocks-fit : {n m : Lines} → n ≡ lines (field * t .counts .vt .0) → m ≡ lines (n .0 + line) → m .0 * t .counts .ht .0 ≤ 211648512
+    clocks-fit e q = rw (q, e, ht-is) (mul-le-mul lines-fit (ht-bound irs))
+
+pub clock-is : (b : Board) {t : Timing} → t ≡ timingOf (b .page .irs) → (field line : ℕ) {n m : Lines} → n ≡ lines (field * t .counts .vt .0) → m ≡ lines (n .0 + line)
+    → {k : Clocks} → k ≡ clocksOf m (t .counts .ht) → k ≡ clocks (clockOf b field line 0)
+unfolding clockOf lineCount
+clock-is b e field line p q r =
+    r ∙ rw (q, p, vt-is (b .page .irs) e, ht-is (b .page .irs) e) (ap clocks (sym (add-zero ((field * vtOf (b .page .irs) + line) * htOf (b .page .irs)))))
 
 -- ---- the loop: the board stands at column c of the line, and steps
 
@@ -77,7 +88,8 @@ module _ {b : Board} {chars attrs words flags unshifted shifted : List ℕ} {lin
     pub each : (c : ℕ) → length (dotsOf c) ≡ b .page .video .dots .0
     each = length-dots b chars attrs (fontOf words flags unshifted shifted) line field (fits b chars attrs (fontOf words flags unshifted shifted) (s .accepted) .page)
 
-    pub begins : {n : ℕ} {a : BoardAnswer} → n ≡ clockOf b field line 0 → a ≡ boardAnswer (stateOf b chars attrs n .refusal) (stateOf b chars attrs n .board) → a .board ≡ atColumn 0
+    pub begins : {n : Clocks} {a : BoardAnswer} → n ≡ clocks (clockOf b field line 0)
+        → a ≡ boardAnswer (stateOf b chars attrs (n .0) .refusal) (stateOf b chars attrs (n .0) .board) → a .board ≡ atColumn 0
     begins e q = ap (λ (x : BoardAnswer). x .board) q ∙ rw e (at-once b chars attrs (fontOf words flags unshifted shifted) (s .accepted) (clockOf b field line 0) .1)
 
     next-clock : (c : ℕ) → clockOf b field line (c + 1) ≡ suc (clockOf b field line c)

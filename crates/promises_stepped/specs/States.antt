@@ -17,7 +17,7 @@ use Rattle.step.specs.Step.{stepCheck, stepOf}
 use Rattle.feldrime.specs.declared.BoardAnswer.{BoardAnswer}
 use Rattle.feldrime.specs.declared.StepBy.{StepBy}
 use Rattle.feldrime.specs.Answers.{boardAnswer}
-use Rattle.feldrime.specs.Step.{numbered, stepNumbers}
+use Rattle.feldrime.specs.Step.{stepNumbers}
 use Rattle.agreement.specs.Steps.{after, at-once}
 use Rattle.promises_stepped.specs.Asked.{step-is}
 

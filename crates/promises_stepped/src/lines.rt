@@ -8,23 +8,26 @@ ghost use lib.ListN.{length, drop};
 ghost use Rattle.timing.specs.Fields.{visibleOf};
 ghost use Rattle.agreement.specs.Lines.{clockOf};
 ghost use Rattle.refusal.specs.Number.{numberOf};
-ghost use Rattle.shape.specs.Font.{fontOf};
+ghost use Rattle.shape.specs.Font.{fontNow, lentFont};
+ghost use Rattle.units.specs.Units.{clocks};
 ghost use Rattle.line.specs.Line.{lineDots, lineLength};
 ghost use Rattle.feldrime.specs.Answers.{answerOf};
 ghost use Rattle.feldrime.specs.LineDraw.{lineDrawCheck, lineDrawn};
 ghost use Rattle.promises_stepped.specs.Lines.{Steppable};
 
 // The board's clock at the first dot of a line, in the frame whose number is the field's.
-fn clock_of(b: board::Board, line: u32, field: u8) -> u32
-    requires { ⌜ line < visibleOf (b .page .irs) .0 ⌝ }
-    ensures { λ r. ⌜ r ≡ clockOf b field line 0 ⌝ }
+fn clock_of(b: board::Board, line: units::Lines, field: u8) -> units::Clocks
+    requires { ⌜ line .0 < visibleOf (b .page .irs) .0 ⌝ }
+    ensures { λ r. ⌜ r ≡ clocks (clockOf b field (line .0) 0) ⌝ }
 {
     let irs = b.page.irs;
     let t = timing::timing_of(irs);
-    (field as u32 * t.counts.vt.0 + line) * t.counts.ht.0
+    let frame = t.counts.vt;
+    let before = frame.times(field as u32);
+    units::clocks_of(before.plus(line), t.counts.ht)
 }
 
-// The dots of a line's active clocks, each clock's into its own stretch of out.
+// The dots of the active clocks of a line, a number as C gives it, each clock's into its own stretch of out.
 fn step_line(
     out: &mut [u8],
     b: board::Board,
@@ -37,14 +40,15 @@ fn step_line(
     line: u32,
     field: u8,
 )
-    requires { ⌜ Steppable b (now chars) (now attrs) (fontOf (now words) (now flags) (now unshifted) (now shifted)) line (length (now out)) ⌝ }
-    ensures { λ _. ⌜ now (out .exit) ≡ lineDots b (now (chars .entry)) (now (attrs .entry)) (fontOf (now (words .entry)) (now (flags .entry)) (now (unshifted .entry)) (now (shifted .entry))) line field
-        ++ drop (lineLength b) (now (out .entry)) ⌝ }
+    requires { ⌜ Steppable b (now chars) (now attrs) (fontNow words flags unshifted shifted) line (length (now out)) ⌝ }
+    ensures { λ _. let f = lentFont words flags unshifted shifted in
+        ⌜ now (out .exit) ≡ lineDots b (now (chars .entry)) (now (attrs .entry)) f line field ++ drop (lineLength b) (now (out .entry)) ⌝ }
 {
     let irs = b.page.irs;
     let t = timing::timing_of(irs);
     let n = t.counts.hact.0 as usize;
-    let asked = feldrime::feldrime_state_at(b, chars, attrs, clock_of(b, line, field));
+    let first = clock_of(b, units::Lines(line), field);
+    let asked = feldrime::feldrime_state_at(b, chars, attrs, first.0);
     let mut at = asked.board;
     let mut c = 0;
     while c < n {
@@ -70,8 +74,8 @@ fn line_answer(
     line: u32,
     room: usize,
 ) -> u32
-    ensures { λ r. ⌜ r ≡ numberOf (lineDrawCheck (now (numbers .entry)) (now (chars .entry)) (now (attrs .entry))
-        (fontOf (now (words .entry)) (now (flags .entry)) (now (unshifted .entry)) (now (shifted .entry))) line room) ⌝ }
+    ensures { λ r. let f = lentFont words flags unshifted shifted in
+        ⌜ r ≡ numberOf (lineDrawCheck (now (numbers .entry)) (now (chars .entry)) (now (attrs .entry)) f line room) ⌝ }
 {
     let made = feldrime::feldrime_board_of(numbers);
     if made.refusal == 3 {
@@ -108,10 +112,9 @@ pub fn line_by_steps(
     field: u8,
     out: &mut [u8],
 ) -> Answer
-    ensures { λ r. ⌜ (r ≡ answerOf (lineDrawCheck (now (numbers .entry)) (now (chars .entry)) (now (attrs .entry))
-        (fontOf (now (words .entry)) (now (flags .entry)) (now (unshifted .entry)) (now (shifted .entry))) line (length (now (out .entry)))))
-        × (now (out .exit) ≡ lineDrawn (now (numbers .entry)) (now (chars .entry)) (now (attrs .entry))
-        (fontOf (now (words .entry)) (now (flags .entry)) (now (unshifted .entry)) (now (shifted .entry))) line field (now (out .entry))) ⌝ }
+    ensures { λ r. let f = lentFont words flags unshifted shifted in
+        ⌜ (r ≡ answerOf (lineDrawCheck (now (numbers .entry)) (now (chars .entry)) (now (attrs .entry)) f line (length (now (out .entry)))))
+        × (now (out .exit) ≡ lineDrawn (now (numbers .entry)) (now (chars .entry)) (now (attrs .entry)) f line field (now (out .entry))) ⌝ }
 {
     let room = out.len();
     let refused = line_answer(

@@ -2,8 +2,8 @@
 use feldrime::BoardAnswer;
 ghost use mathlib.Core.Path.{_≡_};
 ghost use Rattle.board.specs.State.{clockZero};
-ghost use Rattle.clock.specs.Step.{withPlace};
-ghost use Rattle.shape.specs.Font.{fontOf};
+ghost use Rattle.place.specs.State.{withPlace};
+ghost use Rattle.shape.specs.Font.{lentFont};
 ghost use Rattle.promises_stepped.specs.States.{steppedTo};
 
 fn at_zero(b: board::Board) -> board::Board
@@ -25,7 +25,7 @@ pub fn stepped_to(
     shifted: &[u8],
     n: u32,
 ) -> BoardAnswer
-    ensures { λ r. ⌜ r ≡ steppedTo b (now (chars .entry)) (now (attrs .entry)) (fontOf (now (words .entry)) (now (flags .entry)) (now (unshifted .entry)) (now (shifted .entry))) n ⌝ }
+    ensures { λ r. ⌜ r ≡ steppedTo b (now (chars .entry)) (now (attrs .entry)) (lentFont words flags unshifted shifted) n ⌝ }
 {
     let tried = feldrime::step_numbers(b, chars, attrs, words, flags, unshifted, shifted);
     let refused = tried.answer.refusal;

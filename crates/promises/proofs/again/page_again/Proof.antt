@@ -1,4 +1,3 @@
-use mathlib.Core.Path.{refl}
 use borrow.Author.Needs.{needs}
 use Rattle.promises.specs.Again.{page-refused, page-wrote}
 use Rattle.promises.proofs.again.page_again.Statement.{statement}

@@ -1,4 +1,3 @@
-use native.Mathlib.Omega.{arith}
 use borrow.Author.Needs.{needs}
 use Rattle.promises.specs.Runs.{runs-same}
 use Rattle.promises.proofs.runs.runs_agree.Statement.{statement}
@@ -9,7 +8,7 @@ returns-2 c =
     let run = c .before .before in
     let asked = run .before .before .before in
     let made = asked .before .before .before in
-    runs-same _ _ _ (asked .feldrime-row-run .ensures) (made .feldrime-board-of .ensures) (asked .before .if1 .left) (run .row-run .ensures .0) (run .row-run .ensures .1)
+    runs-same _ _ _ (asked .feldrime-row-run .ensures) (made .feldrime-board-of .ensures) (asked .before .if1 .left) (run .row-run .ensures .0) (run .row-run .ensures .3)
 
 pub runs-agree-spec : {M : Type 1} → statement M
 runs-agree-spec =
