@@ -1,6 +1,7 @@
 -- No second answer meets the contract of a public function of `units`, `refusal`, `raster`, `board`, `timing` or `registers`: it names its answer, so each of
 -- these is `only`.
-use Prim.Native.Nat.{ℕ}
+use Prim.Native.Nat.{ℕ, min, _+_, _-_, _*_, _/_, _%_}
+use lib.Dec.{eqb, ltb, leb}
 use mathlib.Core.Path.{_≡_}
 use mathlib.Core.Bool.{Bool}
 use mathlib.Core.List.{List}
@@ -8,7 +9,7 @@ use Rattle.lists.specs.Answer.{OneAnswer, only}
 use Rattle.units.specs.declared.Dots.{Dots}
 use Rattle.units.specs.declared.Clocks.{Clocks}
 use Rattle.units.specs.declared.Lines.{Lines}
-use Rattle.units.specs.Units.{clocksOf, dotsOf}
+use Rattle.units.specs.Units.{clocks, lines, during, clocksOf, wholeLines, dotsOf}
 use Rattle.refusal.specs.declared.Refusal.{Refusal}
 use Rattle.refusal.specs.Number.{numberOf, doneOf}
 use Rattle.raster.specs.declared.Buffer.{Buffer}
@@ -19,17 +20,77 @@ use Rattle.board.specs.declared.Page.{Page}
 use Rattle.board.specs.declared.Place.{Place}
 use Rattle.board.specs.declared.Board.{Board}
 use Rattle.board.specs.State.{clockZero, powerOf}
-use Rattle.board.specs.Range.{startsRefused, addressRefused, cellsRefused, pointerRefused}
-use Rattle.timing.specs.Fields.{timingOf, visibleOf, bufferOf, tableOf, cursorOf, underlineOf, blinkOf}
-use Rattle.timing.specs.Check.{reservedRefused, porchRefused, widthRefused, pageCheck, sizeOf, stateRefused, callCheck}
+use Rattle.board.specs.Range.{memoriesRefused, startsRefused, addressRefused, cellsRefused, pointerRefused}
+use Rattle.timing.specs.Fields.{linesOf, timingOf, visibleOf, bufferOf, tableOf, cursorOf, underlineOf, blinkOf}
+use Rattle.timing.specs.Check.{widthRefused, pageCheck, sizeOf, callCheck}
 use Rattle.registers.specs.Write.{writeOf}
 use Rattle.registers.specs.Read.{readOf}
 use Rattle.registers.specs.Video.{setVideoOf}
 
 -- ---- `units`
 
+pub clocks-below-one : (a b : Clocks) → OneAnswer (λ r. r ≡ ltb (a .0) (b .0))
+clocks-below-one a b = only (ltb (a .0) (b .0))
+
+pub clocks-at-most-one : (a b : Clocks) → OneAnswer (λ r. r ≡ leb (a .0) (b .0))
+clocks-at-most-one a b = only (leb (a .0) (b .0))
+
+pub clocks-same-one : (a b : Clocks) → OneAnswer (λ r. r ≡ eqb (a .0) (b .0))
+clocks-same-one a b = only (eqb (a .0) (b .0))
+
+pub clocks-plus-one : (a b : Clocks) → OneAnswer (λ r. r ≡ clocks (a .0 + b .0))
+clocks-plus-one a b = only (clocks (a .0 + b .0))
+
+pub clocks-minus-one : (a b : Clocks) → OneAnswer (λ r. r ≡ clocks (a .0 - b .0))
+clocks-minus-one a b = only (clocks (a .0 - b .0))
+
+pub clocks-times-one : (a : Clocks) (k : ℕ) → OneAnswer (λ r. r ≡ clocks (k * a .0))
+clocks-times-one a k = only (clocks (k * a .0))
+
+pub clocks-least-one : (a b : Clocks) → OneAnswer (λ r. r ≡ clocks (min (a .0) (b .0)))
+clocks-least-one a b = only (clocks (min (a .0) (b .0)))
+
+pub clocks-during-one : (a from n : Clocks) → OneAnswer (λ r. r ≡ during (from .0) (n .0) (a .0))
+clocks-during-one a from n = only (during (from .0) (n .0) (a .0))
+
+pub clocks-remainder-one : (a n : Clocks) → OneAnswer (λ r. r ≡ clocks (a .0 % n .0))
+clocks-remainder-one a n = only (clocks (a .0 % n .0))
+
+pub lines-below-one : (a b : Lines) → OneAnswer (λ r. r ≡ ltb (a .0) (b .0))
+lines-below-one a b = only (ltb (a .0) (b .0))
+
+pub lines-at-most-one : (a b : Lines) → OneAnswer (λ r. r ≡ leb (a .0) (b .0))
+lines-at-most-one a b = only (leb (a .0) (b .0))
+
+pub lines-same-one : (a b : Lines) → OneAnswer (λ r. r ≡ eqb (a .0) (b .0))
+lines-same-one a b = only (eqb (a .0) (b .0))
+
+pub lines-plus-one : (a b : Lines) → OneAnswer (λ r. r ≡ lines (a .0 + b .0))
+lines-plus-one a b = only (lines (a .0 + b .0))
+
+pub lines-minus-one : (a b : Lines) → OneAnswer (λ r. r ≡ lines (a .0 - b .0))
+lines-minus-one a b = only (lines (a .0 - b .0))
+
+pub lines-times-one : (a : Lines) (k : ℕ) → OneAnswer (λ r. r ≡ lines (k * a .0))
+lines-times-one a k = only (lines (k * a .0))
+
+pub lines-during-one : (a from n : Lines) → OneAnswer (λ r. r ≡ during (from .0) (n .0) (a .0))
+lines-during-one a from n = only (during (from .0) (n .0) (a .0))
+
+pub lines-quotient-one : (a n : Lines) → OneAnswer (λ r. r ≡ a .0 / n .0)
+lines-quotient-one a n = only (a .0 / n .0)
+
+pub lines-remainder-one : (a n : Lines) → OneAnswer (λ r. r ≡ lines (a .0 % n .0))
+lines-remainder-one a n = only (lines (a .0 % n .0))
+
+pub dots-below-one : (a b : Dots) → OneAnswer (λ r. r ≡ ltb (a .0) (b .0))
+dots-below-one a b = only (ltb (a .0) (b .0))
+
 pub clocks-of-one : (n : Lines) (line : Clocks) → OneAnswer (λ r. r ≡ clocksOf n line)
 clocks-of-one n line = only (clocksOf n line)
+
+pub whole-lines-one : (n line : Clocks) → OneAnswer (λ r. r ≡ wholeLines n line)
+whole-lines-one n line = only (wholeLines n line)
 
 pub dots-of-one : (n : Clocks) (clock : Dots) → OneAnswer (λ r. r ≡ dotsOf n clock)
 dots-of-one n clock = only (dotsOf n clock)
@@ -47,8 +108,8 @@ is-done-one x = only (doneOf x)
 pub advance-one-one : (b : Buffer) (c : Cell) → OneAnswer (λ r. r ≡ cell (advance b (c .address)))
 advance-one-one b c = only (cell (advance b (c .address)))
 
-pub advance-by-one : (b : Buffer) (k : ℕ) (c : Cell) → OneAnswer (λ r. r ≡ cell (advanceBy b k (c .address)))
-advance-by-one b k c = only (cell (advanceBy b k (c .address)))
+pub advance-by-one : (b : Buffer) (k : Clocks) (c : Cell) → OneAnswer (λ r. r ≡ cell (advanceBy b (k .0) (c .address)))
+advance-by-one b k c = only (cell (advanceBy b (k .0) (c .address)))
 
 -- ---- `board`
 
@@ -57,6 +118,9 @@ power-one = only powerOf
 
 pub clock-zero-one : OneAnswer (λ r. r ≡ clockZero)
 clock-zero-one = only clockZero
+
+pub memories-refused-one : (chars attrs : ℕ) → OneAnswer (λ r. r ≡ memoriesRefused chars attrs)
+memories-refused-one chars attrs = only (memoriesRefused chars attrs)
 
 pub starts-refused-one : (s : Starts) → OneAnswer (λ r. r ≡ startsRefused s)
 starts-refused-one s = only (startsRefused s)
@@ -81,6 +145,12 @@ page-size-one p = only (sizeOf p)
 pub timing-of-one : (irs : List ℕ) → OneAnswer (λ r. r ≡ timingOf irs)
 timing-of-one irs = only (timingOf irs)
 
+pub row-of-one : (irs : List ℕ) (line : Lines) → OneAnswer (λ r. r ≡ line .0 / linesOf irs)
+row-of-one irs line = only (line .0 / linesOf irs)
+
+pub line-of-row-one : (irs : List ℕ) (line : Lines) → OneAnswer (λ r. r ≡ lines (line .0 % linesOf irs))
+line-of-row-one irs line = only (lines (line .0 % linesOf irs))
+
 pub buffer-of-one : (irs : List ℕ) → OneAnswer (λ r. r ≡ bufferOf irs)
 buffer-of-one irs = only (bufferOf irs)
 
@@ -96,20 +166,11 @@ underline-of-one irs = only (underlineOf irs)
 pub blink-of-one : (irs : List ℕ) → OneAnswer (λ r. r ≡ blinkOf irs)
 blink-of-one irs = only (blinkOf irs)
 
-pub reserved-refused-one : (irs : List ℕ) → OneAnswer (λ r. r ≡ reservedRefused irs)
-reserved-refused-one irs = only (reservedRefused irs)
-
-pub porch-refused-one : (irs : List ℕ) → OneAnswer (λ r. r ≡ porchRefused irs)
-porch-refused-one irs = only (porchRefused irs)
-
 pub width-refused-one : (d : Dots) → OneAnswer (λ r. r ≡ widthRefused d)
 width-refused-one d = only (widthRefused d)
 
 pub visible-of-one : (irs : List ℕ) → OneAnswer (λ r. r ≡ visibleOf irs)
 visible-of-one irs = only (visibleOf irs)
-
-pub state-refused-one : (b : Board) → OneAnswer (λ r. r ≡ stateRefused b)
-state-refused-one b = only (stateRefused b)
 
 pub call-check-one : (b : Board) (size asked room : Bool) → OneAnswer (λ r. r ≡ callCheck b size asked room)
 call-check-one b size asked room = only (callCheck b size asked room)

@@ -1,35 +1,49 @@
--- No second answer meets the contract of a public function of `fetch`, `shape`, `video`, `line` or `clock`: it names its answer, so each of these is `only`.
-use Prim.Native.Nat.{ℕ}
+-- No second answer meets the contract of a public function of `fetch`, `shape`, `video`, `line`, `place` or `step`: it names its answer, so each of these is `only`.
+use Prim.Native.Nat.{ℕ, _+_}
 use mathlib.Core.Path.{_≡_}
 use mathlib.Core.Bool.{Bool}
 use mathlib.Core.List.{List, _++_}
-use lib.ListN.{length, drop}
-use Rattle.lists.specs.Answer.{OneAnswer, only, only-both}
+use native.Mathlib.Omega.{arith}
+use lib.ListN.{length, drop, length-drop}
+use lib.Seq.{length-take-le}
+use Rattle.lists.specs.Answer.{OneAnswer, only, only-both, only-four}
 use Rattle.refusal.specs.declared.Refusal.{Refusal}
 use Rattle.refusal.specs.Number.{numberOf}
 use Rattle.raster.specs.Moves.{cell}
 use Rattle.board.specs.declared.Page.{Page}
+use Rattle.board.specs.declared.Place.{Place}
 use Rattle.board.specs.declared.Board.{Board}
 use Rattle.fetch.specs.Run.{runCheck, spanOf, runOf}
+use Rattle.fetch.specs.Laws.{span-fits}
 use Rattle.fetch.specs.Rows.{entryOf, rowStart, cellAt}
 use Rattle.shape.specs.Font.{Font, fontRefused, positionOf, wordBy, wordOf}
 use Rattle.video.specs.declared.Scene.{Scene}
 use Rattle.video.specs.declared.Look.{Look}
-use Rattle.video.specs.Levels.{blankLevel, symbolLevel, surroundLevel}
 use Rattle.video.specs.Scene.{sceneOf, cursorAt}
 use Rattle.video.specs.Look.{effective, lookOf}
 use Rattle.video.specs.Cell.{cellDots}
 use Rattle.line.specs.Line.{drawCheck, drawnOf}
 use Rattle.video.specs.At.{lentRefused}
 use Rattle.step.specs.Step.{stepOf}
-use Rattle.place.specs.State.{stateOf}
+use Rattle.place.specs.declared.Carried.{Carried}
+use Rattle.place.specs.Place.{activeAt, loadedIn, movedIn, turnedIn}
+use Rattle.place.specs.State.{withPlace, stateOf}
 
 -- ---- `fetch`
 
--- the number and the part
-pub row-run-one : (b : Board) (chars : List ℕ) (row : ℕ)
-    → OneAnswer (λ (r : List ℕ × ℕ). (r .0 ≡ runOf b chars row) × (r .1 ≡ numberOf (runCheck b (length chars) row)))
-row-run-one b chars row = only-both (runOf b chars row) (numberOf (runCheck b (length chars) row))
+-- the part's cells, the block and the offset where it stands, and the number; the memory was lent at an offset of a block
+pub row-run-one : {Block : Type 0} (b : Board) (chars : List ℕ) (row : ℕ) (block : Block) (offset : ℕ)
+    → OneAnswer (λ (r : List ℕ × Block × ℕ × ℕ). (r .0 ≡ runOf b chars row)
+    × (r .1 ≡ block)
+    × (r .2 ≡ offset + spanOf b chars row .start)
+    × (r .3 ≡ numberOf (runCheck b (length chars) row)))
+row-run-one b chars row block offset =
+    only-four (runOf b chars row) block (offset + spanOf b chars row .start) (numberOf (runCheck b (length chars) row))
+
+-- so it has one length
+pub run-length : (b : Board) (chars : List ℕ) (row : ℕ) → length (runOf b chars row) ≡ spanOf b chars row .count
+unfolding runOf
+run-length b chars row = length-take-le _ _ (rw length-drop (omega (arith, span-fits b chars row)))
 
 pub span-of-one : (b : Board) (chars : List ℕ) (row : ℕ) → OneAnswer (λ r. r ≡ spanOf b chars row)
 span-of-one b chars row = only (spanOf b chars row)
@@ -59,15 +73,6 @@ word-of-one f code scan = only (wordOf f code scan)
 
 -- ---- `video`
 
-pub blank-level-one : (rblank bkgnd : Bool) → OneAnswer (λ r. r ≡ blankLevel rblank bkgnd)
-blank-level-one rblank bkgnd = only (blankLevel rblank bkgnd)
-
-pub surround-level-one : (e highlight : Bool) → OneAnswer (λ r. r ≡ surroundLevel e highlight)
-surround-level-one e highlight = only (surroundLevel e highlight)
-
-pub symbol-level-one : (e highlight hidden : Bool) → OneAnswer (λ r. r ≡ symbolLevel e highlight hidden)
-symbol-level-one e highlight hidden = only (symbolLevel e highlight hidden)
-
 pub scene-of-one : (b : Board) (scan field : ℕ) → OneAnswer (λ r. r ≡ sceneOf b scan field)
 scene-of-one b scan field = only (sceneOf b scan field)
 
@@ -96,10 +101,24 @@ pub draw-line-one : (b : Board) (chars attrs : List ℕ) (f : Font) (line field 
 draw-line-one b chars attrs f line field out =
     only-both (drawCheck b (lentRefused chars attrs f) line (length out)) (drawnOf b chars attrs f line field out)
 
--- ---- `clock`
+-- ---- `place`
 
-pub step-one : (b : Board) (chars attrs : List ℕ) (f : Font) → OneAnswer (λ r. r ≡ stepOf b chars attrs f)
-step-one b chars attrs f = only (stepOf b chars attrs f)
+pub active-at-one : (p : Page) (q : Place) → OneAnswer (λ r. r ≡ activeAt p q)
+active-at-one p q = only (activeAt p q)
+
+pub loaded-at-one : (p : Page) (chars : List ℕ) (q : Place) → OneAnswer (λ r. r ≡ loadedIn p chars q)
+loaded-at-one p chars q = only (loadedIn p chars q)
+
+pub place-after-one : (p : Page) (q : Place) (c : Carried) → OneAnswer (λ r. r ≡ turnedIn p q (movedIn p q c))
+place-after-one p q c = only (turnedIn p q (movedIn p q c))
+
+pub with-place-one : (b : Board) (q : Place) → OneAnswer (λ r. r ≡ withPlace b q)
+with-place-one b q = only (withPlace b q)
 
 pub state-at-one : (b : Board) (chars attrs : List ℕ) (n : ℕ) → OneAnswer (λ r. r ≡ stateOf b chars attrs n)
 state-at-one b chars attrs n = only (stateOf b chars attrs n)
+
+-- ---- `step`
+
+pub step-one : (b : Board) (chars attrs : List ℕ) (f : Font) → OneAnswer (λ r. r ≡ stepOf b chars attrs f)
+step-one b chars attrs f = only (stepOf b chars attrs f)
