@@ -15,7 +15,7 @@ use Rattle.refusal.specs.declared.Refusal.the-variants.{Done}
 use Rattle.refusal.specs.Number.{doneOf}
 use Rattle.refusal.specs.Laws.{done-is}
 use Rattle.raster.specs.Moves.{advanceBy, advanceBy-lt}
-use Rattle.raster.specs.Cells.{Fed, Tallied, begins, startOf, cellOf, start-lt, cell-zero}
+use Rattle.raster.specs.Cells.{Fed, Tallied, begins, startOf, cellOf, start-lt}
 use Rattle.board.specs.declared.Page.{Page}
 use Rattle.board.specs.declared.Board.{Board}
 use Rattle.board.specs.Range.{memoryRefused}
@@ -41,11 +41,6 @@ module _ (p : Page) (chars : List ℕ) (a : Accepted p) where
   pub row-start-lt : (r : ℕ) → rowStart p chars r < 16384
   unfolding rowStart
   row-start-lt r = start-lt (countsOf (p .irs)) (feedIn p chars) (tallyIn p) fed tallied r
-
-  -- the first column fetches the row's start
-  pub first-column : (r : ℕ) → cellAt p chars r 0 ≡ rowStart p chars r
-  unfolding cellAt rowStart
-  first-column r = cell-zero (countsOf (p .irs)) (feedIn p chars) (tallyIn p) fed tallied r
 
 pub cell-at-lt : (p : Page) (chars : List ℕ) (r c : ℕ) → cellAt p chars r c < 16384
 unfolding cellAt cellOf

@@ -48,14 +48,6 @@ pub advance-on : (b : Buffer) (a : ℕ) → (a ≡ b .last → ⊥) → advance 
 unfolding advance
 advance-on b a f = rw (ne-eqb a (b .last) f)
 
-pub advance-lt : (b : Buffer) (a : ℕ) → b .first < 16384 → advance b a < 16384
-unfolding advance
-advance-lt b a h = go (eqb a (b .last))
-  where
-    go : (t : Bool) → pick t (b .first) ((a + 1) % 16384) < 16384
-    go true = h
-    go false = omega arith
-
 pub by-near : (b : Buffer) (k a : ℕ) → k ≤ toLast b a → advanceBy b k a ≡ (a + k) % 16384
 unfolding advanceBy
 by-near b k a h = rw (le-leb k (toLast b a) h)

@@ -1,16 +1,12 @@
 -- What callers read off the decoded counts. Assumes nothing.
-use Prim.Native.Nat.{ℕ, _≤_, _<_}
+use Prim.Native.Nat.{ℕ, _<_}
 use mathlib.Core.Path.{_≡_}
 use mathlib.Core.List.{List}
 use native.Mathlib.Omega.{arith}
 use Rattle.timing.specs.declared.Timing.{Timing}
-use Rattle.timing.specs.Fields.{linesOf, hactOf, htOf, vtOf, countsOf, timingOf}
+use Rattle.timing.specs.Fields.{hactOf, htOf, vtOf, countsOf, timingOf}
 
 module _ (t : Timing) (irs : List ℕ) (e : t ≡ timingOf irs) where
-  pub lines-is : t .counts .lines .0 ≡ linesOf irs
-  unfolding timingOf countsOf
-  lines-is = rw e
-
   pub hact-is : t .counts .hact .0 ≡ hactOf irs
   unfolding timingOf countsOf
   hact-is = rw e
@@ -22,12 +18,6 @@ module _ (t : Timing) (irs : List ℕ) (e : t ≡ timingOf irs) where
   pub vt-is : t .counts .vt .0 ≡ vtOf irs
   unfolding timingOf countsOf
   vt-is = rw e
-
-  pub lines-pos : 0 < t .counts .lines .0
-  lines-pos = rw lines-is (omega arith)
-
-  pub hact-le : t .counts .hact .0 ≤ 256
-  hact-le = rw hact-is (omega arith)
 
   pub ht-pos : 0 < t .counts .ht .0
   ht-pos = rw ht-is (omega arith)
