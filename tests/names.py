@@ -3,8 +3,8 @@
 A cited name stands in backquotes: a definition or theorem, a function, a type, a wrong program, a crate, a file, a script of tests/compare.
 Words like Fields or pageCheck behind a crate's name are spec files and definitions of that crate; one like pageCheck is a definition wherever it stands.
 
-Every public function is there too. One with a `requires` is listed as internal. Any other has a law that it has one answer, in the row of the
-table of calls or, where it is only listed, by its own name (draw_line: draw-line-one); or a paragraph that begins with its name says why not."""
+Every public function and method is there too, and has a law that it has one answer: in the row of the table of calls or, where it is only listed, by its
+own name (draw_line: draw-line-one); or a paragraph that begins with its name says why not. One with a `requires` is listed as internal."""
 import re
 import sys
 from pathlib import Path
@@ -46,8 +46,9 @@ def script(name):  # a script's name, or several by a star; a number in it is ma
 
 
 def there(name):
-    if '::' in name:
-        return tuple(name.removesuffix('()').split('::')) in functions
+    if '::' in name:  # of a method the type is not looked at: its row is found by its full name
+        words = name.removesuffix('()').split('::')
+        return (words[0], words[-1]) in functions
     path = name.split(' ')[0].replace('NAME', '*')
     return name in WORDS | anywhere or script(name) or any(Path('.').glob(path)) or any(Path('tests').glob('**/' + path))
 
@@ -73,23 +74,36 @@ for number, line in enumerate(lines, 1):
 paragraphs = re.split(r'\n\s*\n', text)
 internal = ' '.join(p for p in paragraphs if p.startswith('Internal'))
 
+def public_in(source):  # the public functions and methods, each with its contract
+    functions = re.findall(r'^pub (?:extern "C" )?fn (\w+)(.*?)^\{', source, re.M | re.S)
+    for owner, body in re.findall(r'^impl (\w+) \{(.*?)^\}', source, re.M | re.S):
+        functions += [(f'{owner}::{name}', contract) for name, contract in re.findall(r'^    pub fn (\w+)(.*?)^    \{', body, re.M | re.S)]
+    return functions
+
+
+def law_of(name):  # draw_line: draw-line-one; Clocks::below: clocks-below-one
+    return name.lower().replace('::', '-').replace('_', '-') + '-one'
+
+
 for path in sorted(Path('.').glob('crates/*/src/*.rt')):
     crate = path.parts[1]
     if crate.startswith('promises'):  # these functions are the promises themselves
         continue
-    for name, contract in re.findall(r'^pub (?:extern "C" )?fn (\w+)(.*?)^\{', path.read_text(), re.M | re.S):
+    for name, contract in public_in(path.read_text()):
         full = f'{crate}::{name}'
         row = rows.get(full) or rows.get(name)
-        if re.search(r'^    requires', contract, re.M):
+        if re.search(r'^ +requires', contract, re.M):
             if f'`{full}`' not in internal:
                 missing.append((0, f'{full} has a requires and is not listed as internal'))
+            elif law_of(name) not in laws:
+                missing.append((0, f'the law that {full} has one answer: {law_of(name)}'))
         elif row:
             if not any(law in laws for law in re.findall('`([^`]+-one)`', lines[row - 1])):
                 missing.append((row, f'the law that {full} has one answer'))
         elif f'`{full}`' not in text:
             missing.append((0, f'{full} is public and not spoken of'))
-        elif name.replace('_', '-') + '-one' not in laws and not any(p.startswith(f'`{full}`') for p in paragraphs):
-            missing.append((0, f'the law that {full} has one answer: {name.replace("_", "-")}-one'))
+        elif law_of(name) not in laws and not any(p.startswith(f'`{full}`') for p in paragraphs):
+            missing.append((0, f'the law that {full} has one answer: {law_of(name)}'))
 
 for number, what in sorted(missing):
     print(f'names: {PAGE}:{number}: {what}' if number else f'names: {PAGE}: {what}')

@@ -135,7 +135,7 @@ pub extern "C" fn feldrime_page_read(
         × (now (chars .exit) ≡ charsRead (now (file .entry)) size (now (chars .entry)))
         × (now (attrs .exit) ≡ attrsRead (now (file .entry)) size (now (attrs .entry))) ⌝ }
 {
-    let size = (chars.len() != 16384) | (attrs.len() != 16384) | (numbers.len() != 32);
+    let size = board::memories_refused(chars.len(), attrs.len()) | (numbers.len() != 32);
     let judged = files::read_check(file, size);
     let answer = answered(judged);
     if refusal::is_done(judged) {

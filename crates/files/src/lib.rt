@@ -166,7 +166,7 @@ pub fn read_page(file: &[u8], chars: &mut [u8], attrs: &mut [u8]) -> PageRead
         × (now (chars .exit) ≡ charsRead (now (file .entry)) size (now (chars .entry)))
         × (now (attrs .exit) ≡ attrsRead (now (file .entry)) size (now (attrs .entry))) ⌝ }
 {
-    let size = (chars.len() != 16384) | (attrs.len() != 16384);
+    let size = board::memories_refused(chars.len(), attrs.len());
     let answer = read_check(file, size);
     if refusal::is_done(answer) {
         copies::take_from(file, 29, chars);
@@ -252,7 +252,7 @@ fn write_check(b: board::Board, chars: usize, attrs: usize, out: usize) -> refus
 {
     timing::call_check(
         b,
-        (chars != 16384) | (attrs != 16384) | (out < 32797),
+        board::memories_refused(chars, attrs) | (out < 32797),
         false,
         false,
     )

@@ -1,16 +1,26 @@
+use mathlib.Core.Path.{_≡_, ap, _∙_}
 use native.Mathlib.Omega.{arith}
 use borrow.Author.Needs.{needs}
 use lib.ListN.{length}
 use Rattle.refusal.specs.Laws.{done-is, checked}
+use Rattle.board.specs.Range.{memoriesRefused}
+use Rattle.files.specs.File.{readCheck}
 use Rattle.files.specs.Laws.{Taken, read-passed, read-done, read-refused}
 use Rattle.files.proofs.read_page.Statement.{statement}
 use Rattle.files.proofs.read_page.Tie as tie
 
 abbrev begin : tie.Then1 → tie.Start
-begin c = c .before .before .before .before .before .before
+begin c = c .before .before .before .before .before .before .before
+
+-- the check as the contract has it, and where the function begins from there
+abbrev start : tie.After-read-check → tie.Start
+start c = c .before .before .before .before .before
+
+check : (c : tie.After-read-check) → c .read-check .result ≡ readCheck (start c .args .file .now) (memoriesRefused (length (start c .args .chars .now)) (length (start c .args .attrs .now)))
+check c = c .read-check .ensures ∙ ap (readCheck (start c .args .file .now)) (c .before .memories-refused .ensures)
 
 taken : (c : tie.Then1) → Taken (begin c .args .file .now) (length (begin c .args .chars .now)) (length (begin c .args .attrs .now))
-taken c = read-passed _ _ _ (done-is _ (checked (c .before .before .read-check .ensures) (c .before .is-done .ensures) (c .if1 .taken)))
+taken c = read-passed _ _ _ (done-is _ (checked (check (c .before .before)) (c .before .is-done .ensures) (c .if1 .taken)))
 
 take-from-requires : tie.Need-take-from-requires
 take-from-requires c κs = omega (arith, taken (c .before) .file-all, taken (c .before) .chars-all)
@@ -24,21 +34,22 @@ board-at-requires c κs = omega (arith, taken (c .before .before .before .before
 returns : tie.Need-returns
 returns c =
     let then = c .before .before .before .before .before .before .before .before .before in
-    let check = then .before .before .read-check .ensures in
+    let same = check (then .before .before) in
     let k = taken then in
-    read-done _ _ _ _ _ check (checked check (then .before .is-done .ensures) (then .if1 .taken)) _ (c .board-at .ensures) _ _
+    read-done _ _ _ _ _ same (checked same (then .before .is-done .ensures) (then .if1 .taken)) _ (c .board-at .ensures) _ _
     (rw (k .chars-all) at (c .before .before .before .before .before .before .before .take-from .ensures)) (rw (k .attrs-all) at (c .before .before .before .take-from2 .ensures))
 
 returns-2 : tie.Need-returns-2
 returns-2 c =
     let left = c .before in
-    let check = left .before .before .read-check .ensures in
-    read-refused _ _ _ _ _ check (checked check (left .before .is-done .ensures) (left .if1 .left)) _ (c .power .ensures)
+    let same = check (left .before .before) in
+    read-refused _ _ _ _ _ same (checked same (left .before .is-done .ensures) (left .if1 .left)) _ (c .power .ensures)
 
 pub read-page-spec : {M : Type 1} → statement M
 read-page-spec =
     tie.close
     (tie.spec
+    (λ c κs. search needs)
     (λ c κs. search needs)
     (λ c κs. search needs)
     take-from-requires
