@@ -23,6 +23,10 @@ use Rattle.promises.specs.Sizes.{made-done}
 unfoldable pub runPart : (numbers chars : List ℕ) → ℕ → List ℕ
 runPart numbers chars row = pick (numbersRefused numbers) [] (runOf (numbersBoard numbers) chars row)
 
+-- where it begins
+unfoldable pub runStart : (numbers chars : List ℕ) → ℕ → ℕ
+runStart numbers chars row = pick (numbersRefused numbers) 0 (spanOf (numbersBoard numbers) chars row .start)
+
 module _ (numbers chars : List ℕ) (row : ℕ) {a : RunAnswer} (e : a ≡ runFor numbers chars row) where
   pub run-inside : (a .first + a .count ≤ 16384) × (a .first + a .count ≤ length chars)
   unfolding runFor
@@ -39,6 +43,14 @@ module _ (numbers chars : List ℕ) (row : ℕ) {a : RunAnswer} (e : a ≡ runFo
       go : (t : Bool) → numbersRefused numbers ≡ t → take (a .first + a .count - a .first) (drop (a .first) chars) ≡ runPart numbers chars row
       go true t = rw (e, t)
       go false t = rw (e, t) (run-part (numbersBoard numbers) chars row (spanOf (numbersBoard numbers) chars row) refl)
+
+  pub start-is : a .first ≡ runStart numbers chars row
+  unfolding runFor runStart
+  start-is = go (numbersRefused numbers) refl
+    where
+      go : (t : Bool) → numbersRefused numbers ≡ t → a .first ≡ runStart numbers chars row
+      go true t = rw (e, t)
+      go false t = rw (e, t)
 
   module _ {m : BoardAnswer} (made : m ≡ boardFor numbers) (done : m .refusal ≡ 0) where
     count-is : length (runOf (numbersBoard numbers) chars row) ≡ spanOf (numbersBoard numbers) chars row .count

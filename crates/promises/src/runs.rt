@@ -1,11 +1,15 @@
 // A row's first run, by C and by Rattle.
 ghost use mathlib.Core.Path.{_≡_};
 ghost use mathlib.Core.Bool.{true};
-ghost use Rattle.promises.specs.Runs.{runPart};
+ghost use Prim.Native.Nat.{_+_};
+ghost use denote.Ref.{ptr};
+ghost use Rattle.promises.specs.Runs.{runPart, runStart};
 
-// What C takes from character memory, by the first address and the count that it is answered, is the row's run; nothing on a refusal.
+// What C takes from character memory, by the first address and the count that it is answered, is the row's run: the same cells at the same place; none on a refusal.
 pub fn run_taken<'a>(numbers: &[u8], chars: &'a [u8], row: u32) -> &'a [u8]
-    ensures { λ r. ⌜ now r ≡ runPart (now (numbers .entry)) (now (chars .entry)) row ⌝ }
+    ensures { λ r. ⌜ (now r ≡ runPart (now (numbers .entry)) (now (chars .entry)) row)
+        × (ptr r .0 ≡ ptr (chars .entry) .0)
+        × (ptr r .1 ≡ ptr (chars .entry) .1 + runStart (now (numbers .entry)) (now (chars .entry)) row) ⌝ }
 {
     let asked = feldrime::feldrime_row_run(numbers, chars, row);
     let from = asked.first as usize;

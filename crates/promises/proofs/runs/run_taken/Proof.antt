@@ -1,6 +1,8 @@
+use mathlib.Core.Path.{refl}
+use native.Mathlib.Nat.{add-comm}
 use native.Mathlib.Omega.{arith}
 use borrow.Author.Needs.{needs}
-use Rattle.promises.specs.Runs.{run-inside, run-is}
+use Rattle.promises.specs.Runs.{run-inside, run-is, start-is}
 use Rattle.promises.proofs.runs.run_taken.Statement.{statement}
 use Rattle.promises.proofs.runs.run_taken.Tie as tie
 
@@ -8,7 +10,9 @@ part-result-end : tie.Need-part-result-end
 part-result-end c = omega (arith, run-inside _ _ _ (c .before .before .feldrime-row-run .ensures) .1)
 
 returns : tie.Need-returns
-returns c = run-is _ _ _ (c .before .before .before .feldrime-row-run .ensures)
+returns c =
+    let asked = c .before .before .before .feldrime-row-run .ensures in
+    (run-is _ _ _ asked, refl, rw (start-is _ _ _ asked) (add-comm _ _))
 
 pub run-taken-spec : {M : Type 1} → statement M
 run-taken-spec =
