@@ -13,6 +13,7 @@ use Rattle.units.specs.Units.{clocks, lines, clocksOf}
 use Rattle.board.specs.declared.Board.{Board}
 use Rattle.timing.specs.declared.Timing.{Timing}
 use Rattle.timing.specs.Fields.{htOf, vtOf, hactOf, visibleOf, countsOf, timingOf}
+use Rattle.timing.specs.Decoded.{hact-is, ht-is, vt-is}
 use Rattle.timing.specs.Laws.{visible-bound, ht-bound, vt-bound}
 use Rattle.shape.specs.Font.{Font, fontOf}
 use Rattle.line.specs.Line.{columnDots, lineLength}
@@ -35,37 +36,25 @@ pub record Steppable (b : Board) (chars attrs : List ℕ) (f : Font) (line room 
 -- ---- a line's first clock
 
 module _ (irs : List ℕ) {t : Timing} (e : t ≡ timingOf irs) where
-  pub vt-is : t .counts .vt .0 ≡ vtOf irs
-  unfolding timingOf countsOf
-  vt-is = ap (λ (x : Timing). x .counts .vt .0) e
-
-  pub ht-is : t .counts .ht .0 ≡ htOf irs
-  unfolding timingOf countsOf
-  ht-is = ap (λ (x : Timing). x .counts .ht .0) e
-
-  pub hact-is : t .counts .hact .0 ≡ hactOf irs
-  unfolding timingOf countsOf
-  hact-is = ap (λ (x : Timing). x .counts .hact .0) e
-
   -- 256 frames of at most 2,153 lines of at most 384 clocks
   module _ (field line : ℕ) (f : field < 256) (v : line < visibleOf irs .0) where
     pub frames-fit : field * t .counts .vt .0 ≤ 549015
-    frames-fit = rw vt-is (let h : field ≤ 255 = omega arith in mul-le-mul h (vt-bound irs))
+    frames-fit = rw (vt-is _ _ e) (let h : field ≤ 255 = omega arith in mul-le-mul h (vt-bound irs))
 
     lines-fit : field * t .counts .vt .0 + line ≤ 551168
     lines-fit = omega (arith, frames-fit, visible-bound irs)
 
     pub frames-line : {n : Lines} → n ≡ lines (field * t .counts .vt .0) → n .0 + line ≤ 551168
-    frames-line e = rw e lines-fit
+    frames-line p = rw p lines-fit
 
     pub clocks-fit : {n m : Lines} → n ≡ lines (field * t .counts .vt .0) → m ≡ lines (n .0 + line) → m .0 * t .counts .ht .0 ≤ 211648512
-    clocks-fit e q = rw (q, e, ht-is) (mul-le-mul lines-fit (ht-bound irs))
+    clocks-fit p q = rw (q, p, ht-is _ _ e) (mul-le-mul lines-fit (ht-bound irs))
 
 pub clock-is : (b : Board) {t : Timing} → t ≡ timingOf (b .page .irs) → (field line : ℕ) {n m : Lines} → n ≡ lines (field * t .counts .vt .0) → m ≡ lines (n .0 + line)
     → {k : Clocks} → k ≡ clocksOf m (t .counts .ht) → k ≡ clocks (clockOf b field line 0)
 unfolding clockOf lineCount
 clock-is b e field line p q r =
-    r ∙ rw (q, p, vt-is (b .page .irs) e, ht-is (b .page .irs) e) (ap clocks (sym (add-zero ((field * vtOf (b .page .irs) + line) * htOf (b .page .irs)))))
+    r ∙ rw (q, p, vt-is _ _ e, ht-is _ _ e) (ap clocks (sym (add-zero ((field * vtOf (b .page .irs) + line) * htOf (b .page .irs)))))
 
 -- ---- the loop: the board stands at column c of the line, and steps
 

@@ -1,18 +1,8 @@
 // A state asked for, and stepped to.
 use feldrime::BoardAnswer;
 ghost use mathlib.Core.Path.{_≡_};
-ghost use Rattle.board.specs.State.{clockZero};
-ghost use Rattle.place.specs.State.{withPlace};
 ghost use Rattle.shape.specs.Font.{lentFont};
 ghost use Rattle.promises_stepped.specs.States.{steppedTo};
-
-fn at_zero(b: board::Board) -> board::Board
-    ensures { λ r. ⌜ r ≡ withPlace b clockZero ⌝ }
-{
-    let mut n = b;
-    n.place = board::clock_zero();
-    n
-}
 
 // The board after n single steps from clock 0 is what `feldrime_state_at` answers, wherever a step answers 0; else a step's own answer and the old board.
 pub fn stepped_to(
@@ -36,7 +26,7 @@ pub fn stepped_to(
             board: b,
         };
     }
-    let mut at = at_zero(b);
+    let mut at = place::with_place(b, board::clock_zero());
     let mut i = 0;
     while i < n {
         let s = feldrime::step_numbers(at, chars, attrs, words, flags, unshifted, shifted);

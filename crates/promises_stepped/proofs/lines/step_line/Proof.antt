@@ -11,7 +11,8 @@ use Rattle.line.specs.Line.{columnDots, lineDots}
 use Rattle.timing.specs.Fields.{hactOf}
 use Rattle.agreement.specs.Steps.{after}
 use Rattle.agreement.specs.Lines.{clockOf}
-use Rattle.promises_stepped.specs.Lines.{hact-is, width, turns-fit, each, begins, goes-on, wide, enough, copied}
+use Rattle.timing.specs.Decoded.{hact-is}
+use Rattle.promises_stepped.specs.Lines.{width, turns-fit, each, begins, goes-on, wide, enough, copied}
 use Rattle.promises_stepped.proofs.lines.step_line.Statement.{statement}
 use Rattle.promises_stepped.proofs.lines.step_line.Tie as tie
 
@@ -32,7 +33,7 @@ abbrev turns : tie.At-loop Inv-loop μ-loop → ℕ
 turns c = c .before .before .before .before .before .timing-of .result .counts .hact .0
 
 hact : (c : tie.At-loop Inv-loop μ-loop) → turns c ≡ hactOf (start c .args .b .page .irs)
-hact c = hact-is _ (c .before .before .before .before .before .timing-of .ensures)
+hact c = hact-is _ _ (c .before .before .before .before .before .timing-of .ensures)
 
 roomy : (c : tie.At-loop Inv-loop μ-loop) → turns c * start c .args .b .page .video .dots .0 ≤ length (start c .args .out .now)
 roomy c = turns-fit (start c .pre) (hact c)
@@ -50,7 +51,7 @@ timing-of-requires : tie.Need-timing-of-requires Inv-loop μ-loop
 timing-of-requires c κs = search needs
 
 cast-n : tie.Need-cast-n Inv-loop μ-loop
-cast-n c = omega (arith, hact-is _ (c .before .timing-of .ensures))
+cast-n c = omega (arith, hact-is _ _ (c .before .timing-of .ensures))
 
 clock-of-requires : tie.Need-clock-of-requires Inv-loop μ-loop
 clock-of-requires c κs = omega (arith, c .before .before .before .before .before .before .before .before .before .before .pre .visible)

@@ -1,7 +1,9 @@
 use Prim.Native.Nat.{_≤_, _-_}
-use mathlib.Core.Path.{_≡_}
+use mathlib.Core.Path.{_≡_, _∙_}
 use native.Mathlib.Omega.{arith}
 use borrow.Author.Needs.{needs}
+use Rattle.board.specs.State.{clockZero}
+use Rattle.place.specs.State.{withPlace}
 use Rattle.shape.specs.Font.{fontOf}
 use Rattle.agreement.specs.Steps.{after}
 use Rattle.promises_stepped.specs.States.{not-stepped, stepped, starts, goes}
@@ -14,14 +16,17 @@ Inv-loop chars attrs words flags unshifted shifted n refused at₀ i₀ at i = (
 abbrev μ-loop : tie.MeasureT-loop
 μ-loop chars attrs words flags unshifted shifted n refused at₀ i₀ at i = n - i
 
+zeroed : (c : tie.After-with-place Inv-loop μ-loop) → c .with-place .result ≡ withPlace (c .before .before .before .before .before .before .before .before .before .before .args .b) clockZero
+zeroed c = c .with-place .ensures ∙ rw (c .before .clock-zero .ensures)
+
 returns : tie.Need-returns Inv-loop μ-loop
 returns c = not-stepped _ _ _ _ _ _ _ _ (c .before .step-numbers .ensures) (c .if1 .taken)
 
 loop-holds : tie.Need-loop-holds Inv-loop μ-loop
-loop-holds c = (omega arith, starts (c .before .before .before .before .before .before .before .before .before .args .b) _ _ _ _ _ _ (c .at-zero .ensures))
+loop-holds c = (omega arith, starts (c .before .before .before .before .before .before .before .before .before .before .args .b) _ _ _ _ _ _ (zeroed c))
 
 add-i : tie.Need-add-i Inv-loop μ-loop
-add-i c = omega (arith, c .before .before .loop-test .taken, c .before .before .before .before .before .before .before .before .before .before .before .before .before .fits .n)
+add-i c = omega (arith, c .before .before .loop-test .taken, c .before .before .before .before .before .before .before .before .before .before .before .before .before .before .fits .n)
 
 loop-less : tie.Need-loop-less Inv-loop μ-loop
 loop-less c = omega arith
@@ -32,7 +37,7 @@ loop-again c = (omega (arith, c .before .before .loop-test .taken), goes _ _ _ _
 returns-2 : tie.Need-returns-2 Inv-loop μ-loop
 returns-2 c =
     let zero = c .before .before in
-    stepped _ _ _ _ _ _ _ _ (zero .before .before .step-numbers .ensures) (zero .before .if1 .left) (zero .at-zero .ensures) _ (c .before .loop .inv .1) (omega arith)
+    stepped _ _ _ _ _ _ _ _ (zero .before .before .before .step-numbers .ensures) (zero .before .before .if1 .left) (zeroed zero) _ (c .before .loop .inv .1) (omega arith)
 
 pub stepped-to-spec : {M : Type 1} → statement M
 stepped-to-spec =
@@ -42,6 +47,7 @@ stepped-to-spec =
     μ-loop
     (λ c κs. search needs)
     returns
+    (λ c κs. search needs)
     (λ c κs. search needs)
     loop-holds
     (λ c κs. search needs)
