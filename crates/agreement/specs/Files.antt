@@ -22,7 +22,7 @@ use Rattle.copies.specs.Put.{length-part}
 use Rattle.files.specs.Page.{wordAt, pageAt}
 use Rattle.files.specs.File.{longAt, versionRefused, lengthRefused, fileCheck, readCheck, pageRead, readPageOf, charsRead, attrsRead, headOf, fileOf, writeCheck, written}
 use Rattle.files.specs.FontFile.{fontCheck, fontIn, fontRead, fontWriteCheck, fontWritten}
-use Rattle.files.specs.Laws.{sized, FilePassed, file-passed, head-all, write-passed}
+use Rattle.files.specs.Laws.{file-sized, FilePassed, file-passed, head-all, write-passed}
 use Rattle.files.specs.Round.{Bytes, page-again, page-kept}
 use Rattle.files.specs.FontRound.{font-again}
 use Rattle.feldrime.specs.Numbers.{numbersRefused}
@@ -53,7 +53,7 @@ module _ (file : List ℕ) (size : Bool) (ok : readCheck file size ≡ Done) whe
   file-ok = file-passed file 32792 size (pageCheck (pageAt file 5)) ok
 
   file-length : length file ≡ 32797
-  file-length = sized file 32792 (file-ok .length-ok)
+  file-length = file-sized file 32792 (file-ok .length-ok)
 
   -- the memories that it leaves have their size
   pub chars-read-all : (chars : List ℕ) → length (charsRead file size chars) ≡ 16384
@@ -155,7 +155,7 @@ module _ (file : List ℕ) (f : Font) (ok : fontCheck file (fontRefused f) ≡ D
   font-ok = file-passed file 2450 (fontRefused f) Done ok
 
   font-length : length file ≡ 2455
-  font-length = sized file 2450 (font-ok .length-ok)
+  font-length = file-sized file 2450 (font-ok .length-ok)
 
   parts-fine : fontRefused (fontIn file) ≡ false
   unfolding fontIn

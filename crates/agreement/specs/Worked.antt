@@ -20,7 +20,7 @@ use Rattle.feldrime.specs.Answers.{answerOf}
 use Rattle.feldrime.specs.Pages.{pageReadSize}
 use Rattle.agreement.specs.Cases.{page}
 use Rattle.agreement.specs.Steps.{after}
-use Rattle.agreement.specs.Frames.{every-frame}
+use Rattle.agreement.specs.Frames.{frameClocks, every-frame}
 use Rattle.agreement.specs.Lines.{addressAt}
 use Rattle.agreement.specs.Rows.{row-from-start}
 use Rattle.agreement.specs.FilesFromC.{answerC, accepted-steps}
@@ -39,19 +39,19 @@ pub sheet-taken : stepCheck sheet memory memory font ≡ Done
 unfolding sheet memory font page callCheck pageCheck addressRefused stateRefused
 sheet-taken = refl
 
--- A5, by single steps of the board: the frame that begins there is frame 1
-pub after-27234 : (after sheet memory memory font 27234 .place .line .0 ≡ 0)
-    × (after sheet memory memory font 27234 .place .clock .0 ≡ 0)
-    × (after sheet memory memory font 27234 .place .field ≡ 1)
+-- a frame's clocks on, by single steps of the board, frame 1 begins
+pub after-a-frame : (after sheet memory memory font (frameClocks sheet) .place .line .0 ≡ 0)
+    × (after sheet memory memory font (frameClocks sheet) .place .clock .0 ≡ 0)
+    × (after sheet memory memory font (frameClocks sheet) .place .field ≡ 1)
 unfolding sheet page countsOf
-after-27234 =
-    let framed = every-frame sheet memory memory font sheet-taken 27234 in
+after-a-frame =
+    let framed = every-frame sheet memory memory font sheet-taken (frameClocks sheet) in
     (framed .ends refl .0, framed .ends refl .1, framed .counted)
 
 -- 256 frames on the field counter is back at 0
-pub after-256-frames : after sheet memory memory font (256 * 27234) .place .field ≡ 0
+pub after-256-frames : after sheet memory memory font (256 * frameClocks sheet) .place .field ≡ 0
 unfolding sheet page countsOf
-after-256-frames = every-frame sheet memory memory font sheet-taken (256 * 27234) .counted
+after-256-frames = every-frame sheet memory memory font sheet-taken (256 * frameClocks sheet) .counted
 
 -- A7, by a single step of the board: with screen start 1 below the buffer a cell outside it is fetched, so `stays-inside` has to ask
 pub low : Board

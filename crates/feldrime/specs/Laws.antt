@@ -16,7 +16,7 @@ use Rattle.board.specs.Range.{memoriesRefused}
 use Rattle.timing.specs.Check.{pageCheck}
 use Rattle.files.specs.Page.{pageAt}
 use Rattle.files.specs.File.{readCheck}
-use Rattle.files.specs.Laws.{sized, FilePassed, file-passed}
+use Rattle.files.specs.Laws.{file-sized, FilePassed, file-passed}
 use Rattle.feldrime.specs.declared.Answer.{Answer}
 use Rattle.feldrime.specs.Numbers.{numberAt}
 use Rattle.feldrime.specs.NumbersLaws.{numbers-tab}
@@ -39,7 +39,7 @@ module _ (file : List ℕ) (n c a : ℕ) (ok : readCheck file (pageReadSize n c 
 
   page-read-fits : (29 ≤ length file) × (n ≡ 32)
   page-read-fits =
-      (omega (arith, sized file 32792 (page-read-passed .length-ok)), eqb-true _ _ (not-false _ (neither (memoriesRefused c a) (not (eqb n 32)) (page-read-passed .size-ok) .1)))
+      (omega (arith, file-sized file 32792 (page-read-passed .length-ok)), eqb-true _ _ (not-false _ (neither (memoriesRefused c a) (not (eqb n 32)) (page-read-passed .size-ok) .1)))
 
   pub same-size : memoriesRefused c a ≡ pageReadSize n c a
   same-size = neither (memoriesRefused c a) (not (eqb n 32)) (page-read-passed .size-ok) .0 ∙ sym (page-read-passed .size-ok)

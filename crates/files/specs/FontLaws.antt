@@ -15,12 +15,12 @@ use Rattle.shape.specs.Font.{Font, fontOf, fontRefused, Whole}
 use Rattle.shape.specs.Laws.{font-whole}
 use Rattle.files.specs.FontFile.{wordsOf, byteOf, bytesIn, fontCheck, fontIn, fontRead, fontHead, fontFileOf, fontWriteCheck, fontWritten}
 use Rattle.copies.specs.Put.{length-part, putAt, laid-none, put-on}
-use Rattle.files.specs.Laws.{sized, file-passed}
+use Rattle.files.specs.Laws.{file-sized, file-passed}
 
 pub font-passed : (file : List ℕ) (f : Font) → fontCheck file (fontRefused f) ≡ Done → (length file ≡ 2455) × Whole f
 font-passed file f e =
     let p = file-passed file 2450 (fontRefused f) Done e in
-    (sized file 2450 (p .length-ok), font-whole f (p .size-ok))
+    (file-sized file 2450 (p .length-ok), font-whole f (p .size-ok))
 
 -- what a read leaves
 module _ (file : List ℕ) (f : Font) where

@@ -31,9 +31,9 @@ no-version [] e = refl
 no-version (x ∷ file) e = absurd (omega arith)
 
 -- a file of the right length
-pub sized : (file : List ℕ) (n : ℕ) → lengthRefused file n ≡ false → length file ≡ n + 5
+pub file-sized : (file : List ℕ) (n : ℕ) → lengthRefused file n ≡ false → length file ≡ n + 5
 unfolding lengthRefused
-sized file n e = eqb-true _ _ (not-false _ (neither (not (eqb (length file) (n + 5))) (not (eqb (longAt file 1) n)) e .0))
+file-sized file n e = eqb-true _ _ (not-false _ (neither (not (eqb (length file) (n + 5))) (not (eqb (longAt file 1) n)) e .0))
 
 -- a file that 1, 2 and 3 pass
 pub record FilePassed (file : List ℕ) (n : ℕ) (size : Bool) (rest : Refusal) : Type 0 where
@@ -82,7 +82,7 @@ unfolding readCheck
 read-passed file chars attrs e =
     let p = file-passed file 32792 (memoriesRefused chars attrs) (pageCheck (pageAt file 5)) e in
     let m = memories-all chars attrs (p .size-ok) in
-    record { file-all = sized file 32792 (p .length-ok); chars-all = m .0; attrs-all = m .1 }
+    record { file-all = file-sized file 32792 (p .length-ok); chars-all = m .0; attrs-all = m .1 }
 
 -- what a read gives and leaves
 module _ (file : List ℕ) (size : Bool) (chars attrs : List ℕ) (x : Refusal) (e : x ≡ readCheck file size) where

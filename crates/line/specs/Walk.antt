@@ -20,7 +20,7 @@ use Rattle.board.specs.declared.Board.{Board}
 use Rattle.board.specs.Range.{memoriesRefused}
 use Rattle.board.specs.Laws.{memories-all}
 use Rattle.timing.specs.declared.Timing.{Timing}
-use Rattle.timing.specs.declared.Size.{Size as PageSize}
+use Rattle.timing.specs.declared.PageSize.{PageSize}
 use Rattle.timing.specs.Fields.{hactOf, rowsOf, linesOf, visibleOf, bufferOf, timingOf, countsOf}
 use Rattle.timing.specs.Check.{pageCheck, sizeOf}
 use Rattle.timing.specs.Laws.{Accepted, call-passed, buffer-bounded, size-accepted}

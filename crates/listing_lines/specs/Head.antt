@@ -13,7 +13,7 @@ use Rattle.refusal.specs.declared.Refusal.the-variants.{Done, Room}
 use Rattle.refusal.specs.Number.{doneOf}
 use Rattle.refusal.specs.Laws.{passed, not-refused}
 use Rattle.board.specs.declared.Page.{Page}
-use Rattle.timing.specs.declared.Size.{Size as PageSize}
+use Rattle.timing.specs.declared.PageSize.{PageSize}
 use Rattle.timing.specs.Check.{pageCheck, sizeOf}
 use Rattle.listing_lines.specs.declared.Digits.{Digits}
 use Rattle.listing_lines.specs.declared.Listed.{Listed}

@@ -14,7 +14,7 @@ use Rattle.refusal.specs.declared.Refusal.the-variants.{Done, Size}
 use Rattle.refusal.specs.Number.{doneOf}
 use Rattle.refusal.specs.Laws.{done-is, passed, not-refused}
 use Rattle.board.specs.declared.Board.{Board}
-use Rattle.timing.specs.declared.Size.{Size as PageSize}
+use Rattle.timing.specs.declared.PageSize.{PageSize}
 use Rattle.timing.specs.Fields.{hactOf, visibleOf}
 use Rattle.timing.specs.Check.{pageCheck, sizeOf, callCheck}
 use Rattle.timing.specs.Laws.{Accepted, accepted, call-passed}

@@ -12,7 +12,7 @@ use Rattle.refusal.specs.Number.{doneOf}
 use Rattle.units.specs.Units.{clocks, lines, dots, dotsOf}
 use Rattle.board.specs.declared.Page.{Page}
 use Rattle.timing.specs.Fields.{rowsOf, linesOf, hactOf, htOf, vtOf, visibleOf}
-use Rattle.timing.specs.declared.Size.{Size as PageSize}
+use Rattle.timing.specs.declared.PageSize.{PageSize}
 use Rattle.timing.specs.Check.{pageCheck, sized, sizeOf, stateRefused, callCheck}
 use Rattle.timing.specs.Laws.{accepted, visible-bound, dots-bound}
 use Rattle.files.specs.Page.{pageAt, boardAt}

@@ -30,8 +30,8 @@ unfoldable pub againCheck : (read : Refusal) (n room : ℕ) → Refusal
 againCheck read n room = pick (doneOf read) (pick (ltb room n) Size Done) read
 
 -- the file, and what stood beyond it; on a refusal the buffer as it was
-unfoldable pub again : (read : Refusal) (n : ℕ) (file out : List ℕ) → List ℕ
-again read n file out = pick (doneOf (againCheck read n (length out))) (file ++ drop n out) out
+unfoldable pub writtenAgain : (read : Refusal) (n : ℕ) (file out : List ℕ) → List ℕ
+writtenAgain read n file out = pick (doneOf (againCheck read n (length out))) (file ++ drop n out) out
 
 -- a call's answer that is 0, and one that is not
 pub answer-done : (r : Refusal) {a : Answer} → a ≡ answerOf r → a .refusal ≡ 0 → r ≡ Done
@@ -39,18 +39,18 @@ answer-done r p e = done-is r (eq-eqb _ _ (ap (λ (x : Answer). x .refusal) (sym
 
 -- a read that refuses
 pub read-stops : (r : Refusal) (n : ℕ) (file out : List ℕ) {a : Answer} → a ≡ answerOf r → (a .refusal ≡ 0 → ⊥)
-    → (a ≡ answerOf (againCheck r n (length out))) × (out ≡ again r n file out)
-unfolding againCheck again
+    → (a ≡ answerOf (againCheck r n (length out))) × (out ≡ writtenAgain r n file out)
+unfolding againCheck writtenAgain
 read-stops r n file out p e = let d : doneOf r ≡ false = ne-eqb _ _ (λ q. e (ap (λ (x : Answer). x .refusal) p ∙ q)) in (rw d p, rw (d, d))
 
 -- a read that is done, and the write after it: w is the write's answer, and out′ what it leaves
 module _ (n : ℕ) (file out : List ℕ) {r w : Refusal} {a : Answer} {out′ : List ℕ} (ok : r ≡ Done) (p : a ≡ answerOf w)
     (roomy : n ≤ length out → (w ≡ Done) × (out′ ≡ file ++ drop n out)) (short : ltb (length out) n ≡ true → (w ≡ Size) × (out′ ≡ out)) where
-  pub wrote : (a ≡ answerOf (againCheck r n (length out))) × (out′ ≡ again r n file out)
-  unfolding againCheck again
+  pub wrote : (a ≡ answerOf (againCheck r n (length out))) × (out′ ≡ writtenAgain r n file out)
+  unfolding againCheck writtenAgain
   wrote = go (ltb (length out) n) refl
     where
-      go : (t : Bool) → ltb (length out) n ≡ t → (a ≡ answerOf (againCheck r n (length out))) × (out′ ≡ again r n file out)
+      go : (t : Bool) → ltb (length out) n ≡ t → (a ≡ answerOf (againCheck r n (length out))) × (out′ ≡ writtenAgain r n file out)
       go true t = (rw (ok, t) (p ∙ ap answerOf (short t .0)), rw (ok, t) (short t .1))
       go false t = let w = roomy (ltb-false _ _ t) in (rw (ok, t) (p ∙ ap answerOf (w .0)), rw (ok, t) (w .1))
 
@@ -76,12 +76,12 @@ zeros n = replicate n 0
 
 module _ (file : List ℕ) (bytes : Bytes file) (out : List ℕ) {a : Answer} {numbers chars attrs : List ℕ}
     (read : (a ≡ answerOf (readCheck file false)) × (numbers ≡ numbersRead file false (zeros 32)) × (chars ≡ charsRead file false (zeros 16384)) × (attrs ≡ attrsRead file false (zeros 16384))) where
-  pub page-refused : (a .refusal ≡ 0 → ⊥) → (a ≡ answerOf (againCheck (readCheck file false) 32797 (length out))) × (out ≡ again (readCheck file false) 32797 file out)
+  pub page-refused : (a .refusal ≡ 0 → ⊥) → (a ≡ answerOf (againCheck (readCheck file false) 32797 (length out))) × (out ≡ writtenAgain (readCheck file false) 32797 file out)
   page-refused e = read-stops (readCheck file false) 32797 file out (read .0) e
 
   pub page-wrote : a .refusal ≡ 0 → {w : Answer} {out′ : List ℕ}
       → (w ≡ answerOf (pageWriteCheck numbers (length chars) (length attrs) (length out))) × (out′ ≡ pageWritten numbers chars attrs out)
-      → (w ≡ answerOf (againCheck (readCheck file false) 32797 (length out))) × (out′ ≡ again (readCheck file false) 32797 file out)
+      → (w ≡ answerOf (againCheck (readCheck file false) 32797 (length out))) × (out′ ≡ writtenAgain (readCheck file false) 32797 file out)
   page-wrote e {w} {out′} write =
       let ok : readCheck file false ≡ Done = answer-done _ (read .0) e in
       wrote 32797 file out ok (write .0)
@@ -102,11 +102,11 @@ font-short f out t = rw (t, or-true (fontRefused f)) (refl, refl)
 
 module _ (file : List ℕ) (bytes : Bytes file) (out : List ℕ) {a : Answer} {f : Font}
     (read : (a ≡ answerOf (fontCheck file false)) × (f ≡ fontRead file noFont)) where
-  pub font-refused : (a .refusal ≡ 0 → ⊥) → (a ≡ answerOf (againCheck (fontCheck file false) 2455 (length out))) × (out ≡ again (fontCheck file false) 2455 file out)
+  pub font-refused : (a .refusal ≡ 0 → ⊥) → (a ≡ answerOf (againCheck (fontCheck file false) 2455 (length out))) × (out ≡ writtenAgain (fontCheck file false) 2455 file out)
   font-refused e = read-stops (fontCheck file false) 2455 file out (read .0) e
 
   pub font-wrote : a .refusal ≡ 0 → {w : Refusal} {out′ : List ℕ} → (w ≡ fontWriteCheck f (length out)) × (out′ ≡ fontWritten f out) → {n : ℕ} → n ≡ numberOf w
-      → (record { refusal = n; beside = 0 } ≡ answerOf (againCheck (fontCheck file false) 2455 (length out))) × (out′ ≡ again (fontCheck file false) 2455 file out)
+      → (record { refusal = n; beside = 0 } ≡ answerOf (againCheck (fontCheck file false) 2455 (length out))) × (out′ ≡ writtenAgain (fontCheck file false) 2455 file out)
   font-wrote e {w} {out′} write number =
       let ok : fontCheck file false ≡ Done = answer-done _ (read .0) e in
       wrote 2455 file out ok (ap (λ (k : ℕ). record { refusal = k; beside = 0 }) number)

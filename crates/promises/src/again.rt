@@ -6,13 +6,13 @@ ghost use lib.ListN.{length};
 ghost use Rattle.files.specs.File.{readCheck};
 ghost use Rattle.files.specs.FontFile.{fontCheck};
 ghost use Rattle.feldrime.specs.Answers.{answerOf};
-ghost use Rattle.promises.specs.Again.{againCheck, again};
+ghost use Rattle.promises.specs.Again.{againCheck, writtenAgain};
 ghost use Rattle.promises.specs.Numbers.{numbersAgainCheck, numbersAgain};
 
 // A page file that is accepted is written as the same bytes.
 pub fn page_again(file: &[u8], out: &mut [u8]) -> Answer
     ensures { λ r. ⌜ (r ≡ answerOf (againCheck (readCheck (now (file .entry)) false) 32797 (length (now (out .entry)))))
-        × (now (out .exit) ≡ again (readCheck (now (file .entry)) false) 32797 (now (file .entry)) (now (out .entry))) ⌝ }
+        × (now (out .exit) ≡ writtenAgain (readCheck (now (file .entry)) false) 32797 (now (file .entry)) (now (out .entry))) ⌝ }
 {
     let mut numbers = [0u8; 32];
     let mut chars = [0u8; 16384];
@@ -27,7 +27,7 @@ pub fn page_again(file: &[u8], out: &mut [u8]) -> Answer
 // A font file that is accepted is written as the same bytes. C has no call that writes a font.
 pub fn font_again(file: &[u8], out: &mut [u8]) -> Answer
     ensures { λ r. ⌜ (r ≡ answerOf (againCheck (fontCheck (now (file .entry)) false) 2455 (length (now (out .entry)))))
-        × (now (out .exit) ≡ again (fontCheck (now (file .entry)) false) 2455 (now (file .entry)) (now (out .entry))) ⌝ }
+        × (now (out .exit) ≡ writtenAgain (fontCheck (now (file .entry)) false) 2455 (now (file .entry)) (now (out .entry))) ⌝ }
 {
     let mut words = [0u16; 1152];
     let mut flags = [0u8; 128];

@@ -70,10 +70,10 @@ step-answer b chars attrs f = go (doneOf (stepCheck b chars attrs f)) refl
     go true t = rw t (sym (done-is _ t))
     go false t = rw t
 
-pub step-is : (b : Board) (chars attrs words flags unshifted shifted : List ℕ) {s : StepBy} → s ≡ stepNumbers b chars attrs words flags unshifted shifted
+pub step-by-value : (b : Board) (chars attrs words flags unshifted shifted : List ℕ) {s : StepBy} → s ≡ stepNumbers b chars attrs words flags unshifted shifted
     → s .answer .refusal ≡ numberOf (stepCheck b chars attrs (fontOf words flags unshifted shifted))
 unfolding numbered
-step-is b chars attrs words flags unshifted shifted e =
+step-by-value b chars attrs words flags unshifted shifted e =
     ap (λ (x : StepBy). x .answer .refusal) e ∙ ap numberOf (step-answer b chars attrs (fontOf words flags unshifted shifted))
 
 -- ---- the calls, one after the other
@@ -111,7 +111,7 @@ module _ (numbers chars attrs words flags unshifted shifted : List ℕ) (line ro
     -- 3 for what is lent: a step answers it whatever the board is
     pub lent-three : s .answer .refusal ≡ 3 → 3 ≡ answer
     unfolding lineDrawCheck drawCheck callCheck
-    lent-three e = rw (call-three (m .board) lent (sym (step-is (m .board) chars attrs words flags unshifted shifted tried) ∙ e)) (go (numbersRefused numbers))
+    lent-three e = rw (call-three (m .board) lent (sym (step-by-value (m .board) chars attrs words flags unshifted shifted tried) ∙ e)) (go (numbersRefused numbers))
       where
         go : (t : Bool) → 3 ≡ numberOf (pick t Size Size)
         go true = refl
@@ -119,7 +119,7 @@ module _ (numbers chars attrs words flags unshifted shifted : List ℕ) (line ro
 
     module _ (no-three : m .refusal ≡ 3 → ⊥) (none-lent : s .answer .refusal ≡ 3 → ⊥) where
       lent-fine : lent ≡ false
-      lent-fine = call-size (m .board) lent (λ e. none-lent (step-is (m .board) chars attrs words flags unshifted shifted tried ∙ e))
+      lent-fine = call-size (m .board) lent (λ e. none-lent (step-by-value (m .board) chars attrs words flags unshifted shifted tried ∙ e))
 
       -- then the page's own
       pub pages-own : (m .refusal ≡ 0 → ⊥) → m .refusal ≡ answer

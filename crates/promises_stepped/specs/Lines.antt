@@ -71,15 +71,15 @@ module _ {b : Board} {chars attrs words flags unshifted shifted : List ℕ} {lin
     abbrev pub atColumn : ℕ → Board
     atColumn c = after b chars attrs (fontOf words flags unshifted shifted) (clockOf b field line c)
 
-    abbrev pub dotsOf : ℕ → List ℕ
-    dotsOf c = columnDots b chars attrs (fontOf words flags unshifted shifted) line field c
+    abbrev pub columnOf : ℕ → List ℕ
+    columnOf c = columnDots b chars attrs (fontOf words flags unshifted shifted) line field c
 
-    pub each : (c : ℕ) → length (dotsOf c) ≡ b .page .video .dots .0
+    pub each : (c : ℕ) → length (columnOf c) ≡ b .page .video .dots .0
     each = length-dots b chars attrs (fontOf words flags unshifted shifted) line field (fits b chars attrs (fontOf words flags unshifted shifted) (s .accepted) .page)
 
-    pub begins : {n : Clocks} {a : BoardAnswer} → n ≡ clocks (clockOf b field line 0)
+    pub line-begins : {n : Clocks} {a : BoardAnswer} → n ≡ clocks (clockOf b field line 0)
         → a ≡ boardAnswer (stateOf b chars attrs (n .0) .refusal) (stateOf b chars attrs (n .0) .board) → a .board ≡ atColumn 0
-    begins e q = ap (λ (x : BoardAnswer). x .board) q ∙ rw e (at-once b chars attrs (fontOf words flags unshifted shifted) (s .accepted) (clockOf b field line 0) .1)
+    line-begins e q = ap (λ (x : BoardAnswer). x .board) q ∙ rw e (at-once b chars attrs (fontOf words flags unshifted shifted) (s .accepted) (clockOf b field line 0) .1)
 
     next-clock : (c : ℕ) → clockOf b field line (c + 1) ≡ suc (clockOf b field line c)
     unfolding clockOf
@@ -91,7 +91,7 @@ module _ {b : Board} {chars attrs words flags unshifted shifted : List ℕ} {lin
       goes-on = rw (step, here, next-clock c)
 
       module _ (h : c < hactOf (b .page .irs)) where
-        shows : take (b .page .video .dots .0) (x .answer .dots) ≡ dotsOf c
+        shows : take (b .page .video .dots .0) (x .answer .dots) ≡ columnOf c
         unfolding numbered
         shows =
             rw (step, here, dots-are b chars attrs (fontOf words flags unshifted shifted) (s .accepted) field line c (s .visible) h, mod-eq-of-lt small)
@@ -106,5 +106,5 @@ module _ {b : Board} {chars attrs words flags unshifted shifted : List ℕ} {lin
         -- what the copy of a step's dots leaves in the part that was lent
         pub copied : (part : List ℕ) {ys : List ℕ}
             → ys ≡ take (length (take (b .page .video .dots .0) (x .answer .dots))) (take (b .page .video .dots .0) (x .answer .dots)) ++ drop (length (take (b .page .video .dots .0) (x .answer .dots))) part
-            → ys ≡ dotsOf c ++ drop (b .page .video .dots .0) part
-        copied part q = q ∙ rw (shows, take-length (dotsOf c), each c)
+            → ys ≡ columnOf c ++ drop (b .page .video .dots .0) part
+        copied part q = q ∙ rw (shows, take-length (columnOf c), each c)

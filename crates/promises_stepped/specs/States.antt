@@ -19,7 +19,7 @@ use Rattle.feldrime.specs.declared.StepBy.{StepBy}
 use Rattle.feldrime.specs.Answers.{boardAnswer}
 use Rattle.feldrime.specs.Step.{stepNumbers}
 use Rattle.agreement.specs.Steps.{after, at-once}
-use Rattle.promises_stepped.specs.Asked.{step-is}
+use Rattle.promises_stepped.specs.Asked.{step-by-value}
 
 -- what a step answers for the board; where that is 0, the board that is asked for at clock n, and else the old one
 unfoldable pub steppedTo : Board → (chars attrs : List ℕ) → Font → ℕ → BoardAnswer
@@ -48,7 +48,7 @@ module _ (b : Board) (chars attrs words flags unshifted shifted : List ℕ) wher
     pub not-stepped : (s .answer .refusal ≡ 0 → ⊥) → record { refusal = s .answer .refusal; beside = 0; board = b } ≡ steppedTo b chars attrs font n
     unfolding steppedTo
     not-stepped e =
-        let r : s .answer .refusal ≡ numberOf (stepCheck b chars attrs font) = step-is b chars attrs words flags unshifted shifted tried in
+        let r : s .answer .refusal ≡ numberOf (stepCheck b chars attrs font) = step-by-value b chars attrs words flags unshifted shifted tried in
         let refused : doneOf (stepCheck b chars attrs font) ≡ false = ne-eqb _ _ (λ q. e (r ∙ q)) in
         rw (r, refused)
 
@@ -56,6 +56,6 @@ module _ (b : Board) (chars attrs words flags unshifted shifted : List ℕ) wher
         → record { refusal = 0; beside = 0; board = at } ≡ steppedTo b chars attrs font n
     unfolding steppedTo
     stepped e z i here q =
-        let r : s .answer .refusal ≡ numberOf (stepCheck b chars attrs font) = step-is b chars attrs words flags unshifted shifted tried in
+        let r : s .answer .refusal ≡ numberOf (stepCheck b chars attrs font) = step-by-value b chars attrs words flags unshifted shifted tried in
         let ok : stepCheck b chars attrs font ≡ Done = done-is _ (eq-eqb _ _ (sym r ∙ e)) in
         rw (ok, here, q, z, same-steps n, sym (at-once b chars attrs font ok n .1))

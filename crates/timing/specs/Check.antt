@@ -13,7 +13,7 @@ use Rattle.refusal.specs.Number.{doneOf}
 use Rattle.board.specs.declared.Page.{Page}
 use Rattle.board.specs.declared.Board.{Board}
 use Rattle.board.specs.Range.{addressRefused, cellsRefused, pointerRefused}
-use Rattle.timing.specs.declared.Size.{Size as PageSize}
+use Rattle.timing.specs.declared.PageSize.{PageSize}
 use Rattle.timing.specs.Fields.{ir, hfpOf, hactOf, htOf, vtOf, visibleOf}
 
 -- 4: IR0[7] or IR1[7] set

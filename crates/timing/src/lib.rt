@@ -26,7 +26,7 @@ pub struct CursorLook {
 }
 
 // The visible lines of a page, and the dots in each.
-pub struct Size {
+pub struct PageSize {
     pub refusal: refusal::Refusal,
     pub lines: units::Lines,
     pub dots: units::Dots,
@@ -249,20 +249,20 @@ pub fn page_check(p: board::Page) -> refusal::Refusal
     )
 }
 
-pub fn page_size(p: board::Page) -> Size
+pub fn page_size(p: board::Page) -> PageSize
     ensures { λ r. ⌜ r ≡ sizeOf p ⌝ }
 {
     let refused = page_check(p);
     if refusal::is_done(refused) {
         let irs = p.irs;
         let dots = p.video.dots;
-        return Size {
+        return PageSize {
             refusal: refused,
             lines: visible_of(irs),
             dots: units::dots_of(hact_of(irs), dots),
         };
     }
-    Size {
+    PageSize {
         refusal: refused,
         lines: units::Lines(0),
         dots: units::Dots(0),

@@ -12,11 +12,16 @@ returns c = c .entry .ensures ∙ ap cell (start-table _ _ _ (sym (c .before .be
 
 times-requires : tie.Need-times-requires
 unfolding timingOf countsOf
-times-requires c κs = let start = c .before .before .before .before .before in rw (c .timing-of .ensures) (omega (arith, moves-fit (start .args .p) (start .args .row) (start .pre .1)))
+times-requires c κs =
+    let start = c .before .before .before .before .before in
+    rw (c .timing-of .ensures) (omega (arith, moves-fit (start .args .p) (start .args .row) (start .pre .1)))
 
 returns-2 : tie.Need-returns-2
 unfolding timingOf countsOf
-returns-2 c = let left = c .before .before .before .before in c .advance-by .ensures ∙ rw (c .before .buffer-of .ensures, c .before .before .times .ensures, c .before .before .before .timing-of .ensures) (ap cell (start-sheet _ _ _ (sym (left .before .table-of .ensures) ∙ left .if1 .left)))
+returns-2 c =
+    let left = c .before .before .before .before in
+    c .advance-by .ensures ∙ rw (c .before .buffer-of .ensures, c .before .before .times .ensures, c .before .before .before .timing-of .ensures)
+    (ap cell (start-sheet _ _ _ (sym (left .before .table-of .ensures) ∙ left .if1 .left)))
 
 pub row-start-spec : {M : Type 1} → statement M
 row-start-spec =

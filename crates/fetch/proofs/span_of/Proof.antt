@@ -45,7 +45,8 @@ returns : tie.Need-returns
 returns c =
     let then = c .before .before .before .before in
     let check = then .before .before .run-check .ensures in
-    let same = shown _ _ _ _ _ _ check (checked check (then .before .is-done .ensures) (then .if1 .taken)) (c .before .before .before .row-start .ensures) (c .before .run-count .ensures) in
+    let same = shown _ _ _ _ _ _ check (checked check (then .before .is-done .ensures) (then .if1 .taken))
+    (c .before .before .before .row-start .ensures) (c .before .run-count .ensures) in
     (same, fits _ _ _ _ same .0, fits _ _ _ _ same .1)
 
 returns-2 : tie.Need-returns-2

@@ -4,14 +4,14 @@ use borrow.Author.Needs.{needs}
 use Rattle.refusal.specs.declared.Refusal.the-variants.{Done}
 use Rattle.refusal.specs.Laws.{done-is, checked}
 use Rattle.files.specs.File.{readCheck}
-use Rattle.files.specs.Laws.{sized, file-passed, file-rest, file-first}
+use Rattle.files.specs.Laws.{file-sized, file-passed, file-rest, file-first}
 use Rattle.files.proofs.read_check.Statement.{statement}
 use Rattle.files.proofs.read_check.Tie as tie
 
 page-at-requires : tie.Need-page-at-requires
 page-at-requires c κs =
     let start = c .before .before .before .before in
-    omega (arith, sized _ 32792 (file-passed (start .args .file .now) 32792 (start .args .size) Done (done-is _ (checked (c .before .before .file-check .ensures) (c .before .is-done .ensures) (c .if1 .taken))) .length-ok))
+    omega (arith, file-sized _ 32792 (file-passed (start .args .file .now) 32792 (start .args .size) Done (done-is _ (checked (c .before .before .file-check .ensures) (c .before .is-done .ensures) (c .if1 .taken))) .length-ok))
 
 returns : tie.Need-returns
 unfolding readCheck

@@ -14,7 +14,8 @@ use Rattle.line.proofs.cells.Tie as tie
 abbrev Inv-loop : tie.InvT-loop
 Inv-loop out₀ w chars attrs words flags count d buffer cell₀ c₀ out cell c =
     (c ≤ count) × (cell ≡ cellOf (advanceBy (w .buffer) c (cell₀ .address)))
-    × Filling (joined 0 count (columnBy w chars attrs words flags (cell₀ .address)) ++ drop (count * w .width .0) out₀) out₀ (count * w .width .0) out (c * w .width .0) (joined c (count - c) (columnBy w chars attrs words flags (cell₀ .address)))
+    × Filling (joined 0 count (columnBy w chars attrs words flags (cell₀ .address)) ++ drop (count * w .width .0) out₀) out₀ (count * w .width .0) out
+    (c * w .width .0) (joined c (count - c) (columnBy w chars attrs words flags (cell₀ .address)))
 
 abbrev μ-loop : tie.MeasureT-loop
 μ-loop out₀ w chars attrs words flags count d buffer cell₀ c₀ out cell c = count - c
@@ -24,7 +25,9 @@ abbrev start : tie.In-loop Inv-loop μ-loop → tie.Start Inv-loop μ-loop
 start c = c .before .before .before .before .before .before .before .before .before .before
 
 room : (c : tie.In-loop Inv-loop μ-loop) → c .before .loop .c * start c .args .w .width .0 + start c .args .w .width .0 ≤ length (c .before .loop .out)
-room c = omega (arith, c .before .loop .inv .2 .same, stretch-inside (c .before .loop .c) (start c .args .n .0) (start c .args .w .width .0) _ (c .loop-test .taken) (start c .pre .1))
+room c =
+    omega (arith, c .before .loop .inv .2 .same,
+    stretch-inside (c .before .loop .c) (start c .args .n .0) (start c .args .w .width .0) _ (c .loop-test .taken) (start c .pre .1))
 
 at : (c : tie.In-loop Inv-loop μ-loop) → c .before .loop .cell .address < 16384
 at c = at-lt _ _ _ _ (c .before .loop .inv .1)

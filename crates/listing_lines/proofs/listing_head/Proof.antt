@@ -5,7 +5,7 @@ use borrow.Author.Needs.{needs}
 use borrow.Author.Tests.{not-true, not-false}
 use lib.ListN.{length, length-take, length-drop}
 use Rattle.refusal.specs.Laws.{done-is, checked}
-use Rattle.timing.specs.declared.Size.{Size}
+use Rattle.timing.specs.declared.PageSize.{PageSize}
 use Rattle.timing.specs.Check.{pageCheck}
 use Rattle.timing.specs.Laws.{size-refusal}
 use Rattle.listing_lines.specs.Head.{Measured, head-refused, head-short, head-put}
@@ -14,13 +14,14 @@ use Rattle.listing_lines.proofs.listing_head.Tie as tie
 
 -- the refusal that comes with the size is the page's own
 check : (c : tie.After-page-size) → c .page-size .result .refusal ≡ pageCheck (c .before .before .args .p)
-check c = ap (λ (s : Size). s .refusal) (c .page-size .ensures) ∙ size-refusal (c .before .before .args .p)
+check c = ap (λ (s : PageSize). s .refusal) (c .page-size .ensures) ∙ size-refusal (c .before .before .args .p)
 
 returns : tie.Need-returns
 returns c =
     let then = c .before in
     let sized = then .before .before in
-    head-refused _ (sized .before .before .args .out .now) _ (check sized) (checked (check sized) (then .before .is-done .ensures) (not-true _ (then .if1 .taken))) _ (c .nothing .ensures)
+    head-refused _ (sized .before .before .args .out .now) _ (check sized)
+    (checked (check sized) (then .before .is-done .ensures) (not-true _ (then .if1 .taken))) _ (c .nothing .ensures)
 
 -- both numbers are in digits
 measured : (c : tie.After-digits-of2)
@@ -59,7 +60,9 @@ put-number-requires : tie.Need-put-number-requires
 put-number-requires c κs = (c .before .before .before .before .before .digits-of .ensures .digits-within, omega arith)
 
 put-number-requires-2 : tie.Need-put-number-requires-2
-put-number-requires-2 c κs = (c .before .before .before .before .before .before .before .before .digits-of2 .ensures .digits-within, simp (length-take, length-drop) (omega (arith, c .before .before .before .put-number .kept .0)))
+put-number-requires-2 c κs =
+    (c .before .before .before .before .before .before .before .before .digits-of2 .ensures .digits-within,
+    simp (length-take, length-drop) (omega (arith, c .before .before .before .put-number .kept .0)))
 
 returns-3 : tie.Need-returns-3
 returns-3 c =

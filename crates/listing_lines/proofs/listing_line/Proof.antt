@@ -22,7 +22,8 @@ returns : tie.Need-returns
 returns c =
     let then = c .before in
     let k = then .before .before .before .before in
-    line-refused _ _ _ (font k) _ (begin k .args .field) _ _ (k .before .before .room-for-dots .ensures) _ _ (k .draw-line .ensures) (sym (then .before .is-done .ensures) ∙ not-true _ (then .if1 .taken))
+    line-refused _ _ _ (font k) _ (begin k .args .field) _ _ (k .before .before .room-for-dots .ensures) _ _ (k .draw-line .ensures)
+    (sym (then .before .is-done .ensures) ∙ not-true _ (then .if1 .taken))
     _ (c .nothing .ensures)
 
 finish-line-requires : tie.Need-finish-line-requires
@@ -30,7 +31,8 @@ finish-line-requires c κs =
     let sized = c .before .before in
     let passed = sized .before in
     let k = passed .before .before .before .before in
-    line-fits _ _ _ (font k) _ (begin k .args .field) _ _ (k .before .before .room-for-dots .ensures) _ _ (k .draw-line .ensures) (sym (passed .before .is-done .ensures) ∙ not-false _ (passed .if1 .left))
+    line-fits _ _ _ (font k) _ (begin k .args .field) _ _ (k .before .before .room-for-dots .ensures) _ _ (k .draw-line .ensures)
+    (sym (passed .before .is-done .ensures) ∙ not-false _ (passed .if1 .left))
     _ (sized .page-size .ensures)
 
 returns-2 : tie.Need-returns-2
@@ -38,7 +40,8 @@ returns-2 c =
     let sized = c .before .before .before .before .before in
     let passed = sized .before in
     let k = passed .before .before .before .before in
-    line-put _ _ _ (font k) _ _ _ _ (k .before .before .room-for-dots .ensures) _ _ (k .draw-line .ensures) (sym (passed .before .is-done .ensures) ∙ not-false _ (passed .if1 .left))
+    line-put _ _ _ (font k) _ _ _ _ (k .before .before .room-for-dots .ensures) _ _ (k .draw-line .ensures)
+    (sym (passed .before .is-done .ensures) ∙ not-false _ (passed .if1 .left))
     _ (sized .page-size .ensures) _ (c .before .before .finish-line .ensures)
 
 pub listing-line-spec : {M : Type 1} → statement M

@@ -11,7 +11,9 @@ returns : tie.Need-returns
 returns c = at-zero _ (c .before .before .before .before .before .args .chars .now) _ _ _ (sym (c .before .at-origin .ensures) ∙ c .if1 .taken)
 
 returns-2 : tie.Need-returns-2
-returns-2 c = past-zero _ _ _ _ _ (sym (c .before .at-origin .ensures) ∙ c .if1 .left) _ (c .before .before .before .spot-before .ensures) _ (c .before .before .row-at .ensures)
+returns-2 c =
+    past-zero _ _ _ _ _ (sym (c .before .at-origin .ensures) ∙ c .if1 .left) _ (c .before .before .before .spot-before .ensures) _
+    (c .before .before .row-at .ensures)
 
 pub carried-before-spec : {M : Type 1} → statement M
 carried-before-spec =

@@ -5,7 +5,9 @@ use Rattle.place.proofs.moved_on.Statement.{statement}
 use Rattle.place.proofs.moved_on.Tie as tie
 
 returns : tie.Need-returns
-returns c = moved-active _ _ _ (sym (c .before .before .before .active-at .ensures) ∙ c .before .before .if1 .taken) _ (c .advance-one .ensures ∙ rw (c .before .buffer-of .ensures))
+returns c =
+    moved-active _ _ _ (sym (c .before .before .before .active-at .ensures) ∙ c .before .before .if1 .taken) _
+    (c .advance-one .ensures ∙ rw (c .before .buffer-of .ensures))
 
 returns-2 : tie.Need-returns-2
 returns-2 c = moved-held _ _ _ (sym (c .before .active-at .ensures) ∙ c .if1 .left)

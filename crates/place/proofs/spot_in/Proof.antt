@@ -7,11 +7,15 @@ use Rattle.place.proofs.spot_in.Tie as tie
 
 returns : tie.Need-returns
 unfolding spotIn
-returns c = stop _ (rw (c .before .before .before .visible-of .ensures) at (sym (c .before .before .below .ensures) ∙ c .before .if1 .taken)) (rw (c .row-of .ensures))
+returns c =
+    stop _ (rw (c .before .before .before .visible-of .ensures) at (sym (c .before .before .below .ensures) ∙ c .before .if1 .taken))
+    (rw (c .row-of .ensures))
 
 returns-2 : tie.Need-returns-2
 unfolding spotIn
-returns-2 c = pass _ (rw (c .before .before .before .visible-of .ensures) at (sym (c .before .before .below .ensures) ∙ c .before .if1 .left)) (c .last-spot .ensures)
+returns-2 c =
+    pass _ (rw (c .before .before .before .visible-of .ensures) at (sym (c .before .before .below .ensures) ∙ c .before .if1 .left))
+    (c .last-spot .ensures)
 
 pub spot-in-spec : {M : Type 1} → statement M
 spot-in-spec =

@@ -16,11 +16,18 @@ check : (c : tie.After-call-check) → c .call-check .result ≡ stateCheck (beg
 check c = c .call-check .ensures ∙ ap (λ (size : Bool). callCheck (begin c .args .b) size false false) (c .before .memories-refused .ensures)
 
 place-at-requires : tie.Need-place-at-requires
-place-at-requires c κs = let then = c .before in let k = then .before .before in state-whole (begin k .args .b) (begin k .args .chars .now) (begin k .args .attrs .now) (done-is _ (checked (check k) (then .before .is-done .ensures) (then .if1 .taken)))
+place-at-requires c κs =
+    let then = c .before in
+    let k = then .before .before in
+    state-whole (begin k .args .b) (begin k .args .chars .now) (begin k .args .attrs .now)
+    (done-is _ (checked (check k) (then .before .is-done .ensures) (then .if1 .taken)))
 
 returns : tie.Need-returns
 unfolding stateOf
-returns c = let then = c .before .before .before in let k = then .before .before in rw (checked (check k) (then .before .is-done .ensures) (then .if1 .taken), check k, c .with-place .ensures, c .before .place-at .ensures)
+returns c =
+    let then = c .before .before .before in
+    let k = then .before .before in
+    rw (checked (check k) (then .before .is-done .ensures) (then .if1 .taken), check k, c .with-place .ensures, c .before .place-at .ensures)
 
 returns-2 : tie.Need-returns-2
 unfolding stateOf

@@ -5,13 +5,20 @@ use Rattle.step.proofs.one_step.Statement.{statement}
 use Rattle.step.proofs.one_step.Tie as tie
 
 place-after-requires : tie.Need-place-after-requires
-place-after-requires c κs = let start = c .before .before .before .before .before .before .before .before .before in in-frame (start .args .b) (start .args .chars .now) (start .args .attrs .now) (fontOf (start .args .words .now) (start .args .flags .now) (start .args .unshifted .now) (start .args .shifted .now)) (start .pre .state)
+place-after-requires c κs =
+    let start = c .before .before .before .before .before .before .before .before .before in
+    in-frame (start .args .b) (start .args .chars .now) (start .args .attrs .now)
+    (fontOf (start .args .words .now) (start .args .flags .now) (start .args .unshifted .now) (start .args .shifted .now)) (start .pre .state)
 
 clock-dots-requires : tie.Need-clock-dots-requires
-clock-dots-requires c κs = let start = c .before .before .before .before .before .before .before .before .before .before .before in (start .pre, (c .scene-in .ensures, address-lt _ _ _ _ (start .pre) _ (c .before .before .loaded-at .ensures)))
+clock-dots-requires c κs =
+    let start = c .before .before .before .before .before .before .before .before .before .before .before in
+    (start .pre, (c .scene-in .ensures, address-lt _ _ _ _ (start .pre) _ (c .before .before .loaded-at .ensures)))
 
 returns : tie.Need-returns
-returns c = stepped _ _ _ _ _ (c .before .before .before .before .before .loaded-at .ensures) _ (c .before .before .before .before .place-after .ensures) _ (c .before .signals-of .ensures) _ (c .before .before .clock-dots .ensures) _ (c .with-place .ensures)
+returns c =
+    stepped _ _ _ _ _ (c .before .before .before .before .before .loaded-at .ensures) _ (c .before .before .before .before .place-after .ensures) _
+    (c .before .signals-of .ensures) _ (c .before .before .clock-dots .ensures) _ (c .with-place .ensures)
 
 pub one-step-spec : {M : Type 1} → statement M
 one-step-spec =

@@ -12,7 +12,9 @@ plus-requires c κs = rw (c .visible-of .ensures, c .before .timing-of .ensures)
 
 during-requires : tie.Need-during-requires
 unfolding timingOf countsOf
-during-requires c κs = rw (c .plus .ensures, c .before .visible-of .ensures, c .before .before .timing-of .ensures) (omega (arith, vt-bound (c .before .before .before .before .args .b .page .irs)))
+during-requires c κs =
+    rw (c .plus .ensures, c .before .visible-of .ensures, c .before .before .timing-of .ensures)
+    (omega (arith, vt-bound (c .before .before .before .before .args .b .page .irs)))
 
 returns : tie.Need-returns
 unfolding timingOf countsOf

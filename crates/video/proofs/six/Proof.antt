@@ -22,7 +22,8 @@ slice-write-out-6 c = simp length-set (omega arith)
 
 returns : tie.Need-returns
 returns c =
-    six-puts _ _ _ _ _ _ _ _ _ _ _ (omega arith) (c .before .before .before .before .before .shade .ensures) (c .before .before .before .before .shade2 .ensures)
+    six-puts _ _ _ _ _ _ _ _ _ _ _ (omega arith) (c .before .before .before .before .before .shade .ensures)
+    (c .before .before .before .before .shade2 .ensures)
     (c .before .before .before .shade3 .ensures) (c .before .before .shade4 .ensures) (c .before .shade5 .ensures) (c .shade6 .ensures)
 
 pub six-spec : {M : Type 1} → statement M

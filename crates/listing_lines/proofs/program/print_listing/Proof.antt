@@ -30,10 +30,15 @@ print-requires-2 : tie.Need-print-requires-2 Inv-loop μ-loop
 print-requires-2 c κs = let l = c .before .before .listing-line in rw (l .ensures .0, l .kept .1 .1 .1 .1 .1 .1 .1 .1 .1 .0) (line-within _ _ _ _ _ _ _ _)
 
 plus-requires : tie.Need-plus-requires Inv-loop μ-loop
-plus-requires c κs = omega (arith, below-means (c .before .before .before .before .before .before .before .loop .line) (c .before .before .before .before .before .before .before .before .before .page-size .result .lines) _ (c .before .before .before .before .before .before .below .ensures) (c .before .before .before .before .before .if1 .taken), lines-small _ _ (c .before .before .before .before .before .before .before .before .before .page-size .ensures))
+plus-requires c κs =
+    omega (arith,
+    below-means (c .before .before .before .before .before .before .before .loop .line) (c .before .before .before .before .before .before .before .before .before .page-size .result .lines) _ (c .before .before .before .before .before .before .below .ensures) (c .before .before .before .before .before .if1 .taken),
+    lines-small _ _ (c .before .before .before .before .before .before .before .before .before .page-size .ensures))
 
 loop-less : tie.Need-loop-less Inv-loop μ-loop
-loop-less c = rw (c .plus .ensures) (omega (arith, below-means (c .before .before .before .before .before .before .before .before .loop .line) (c .before .before .before .before .before .before .before .before .before .before .page-size .result .lines) _ (c .before .before .before .before .before .before .before .below .ensures) (c .before .before .before .before .before .before .if1 .taken)))
+loop-less c =
+    rw (c .plus .ensures)
+    (omega (arith, below-means (c .before .before .before .before .before .before .before .before .loop .line) (c .before .before .before .before .before .before .before .before .before .before .page-size .result .lines) _ (c .before .before .before .before .before .before .before .below .ensures) (c .before .before .before .before .before .before .if1 .taken)))
 
 pub print-listing-spec : {M : Type 1} → statement M
 print-listing-spec =

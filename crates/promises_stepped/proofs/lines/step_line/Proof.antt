@@ -12,7 +12,7 @@ use Rattle.timing.specs.Fields.{hactOf}
 use Rattle.agreement.specs.Steps.{after}
 use Rattle.agreement.specs.Lines.{clockOf}
 use Rattle.timing.specs.Decoded.{hact-is}
-use Rattle.promises_stepped.specs.Lines.{width, turns-fit, each, begins, goes-on, wide, enough, copied}
+use Rattle.promises_stepped.specs.Lines.{width, turns-fit, each, line-begins, goes-on, wide, enough, copied}
 use Rattle.promises_stepped.proofs.lines.step_line.Statement.{statement}
 use Rattle.promises_stepped.proofs.lines.step_line.Tie as tie
 
@@ -63,7 +63,7 @@ loop-holds : tie.Need-loop-holds Inv-loop μ-loop
 loop-holds c =
     let s = c .before .before .before .before .before .before .before .before .before .before .before .before .before in (
       omega arith,
-      begins (s .pre) _ (s .fits .field .fits) (c .before .before .clock-of .ensures) (c .before .feldrime-state-at .ensures),
+      line-begins (s .pre) _ (s .fits .field .fits) (c .before .before .clock-of .ensures) (c .before .feldrime-state-at .ensures),
       join-begins _ _ (each (s .pre) _ (s .fits .field .fits)) _ _,
     )
 
