@@ -36,23 +36,9 @@ fn irs_at(bytes: &[u8], at: usize) -> [u8; 15]
     requires { ⌜ at + 15 ≤ length (now bytes) ⌝ }
     ensures { λ r. ⌜ r ≡ take 15 (drop at (now (bytes .entry))) ⌝ }
 {
-    [
-        bytes[at],
-        bytes[at + 1],
-        bytes[at + 2],
-        bytes[at + 3],
-        bytes[at + 4],
-        bytes[at + 5],
-        bytes[at + 6],
-        bytes[at + 7],
-        bytes[at + 8],
-        bytes[at + 9],
-        bytes[at + 10],
-        bytes[at + 11],
-        bytes[at + 12],
-        bytes[at + 13],
-        bytes[at + 14],
-    ]
+    let mut irs = [0u8; 15];
+    copies::take_from(bytes, at, &mut irs);
+    irs
 }
 
 // The three addresses.
