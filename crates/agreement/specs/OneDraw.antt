@@ -86,6 +86,9 @@ pub look-of-one : (s : Scene) (attributes : ℕ) (cursor : Bool) → OneAnswer (
 look-of-one s attributes cursor = only (lookOf s attributes cursor)
 
 -- the buffer
+pub write-cell-one : (look : Look) (word d : ℕ) (out : List ℕ) → OneAnswer (λ r. r ≡ cellDots look word d ++ drop d out)
+write-cell-one look word d out = only (cellDots look word d ++ drop d out)
+
 pub draw-cell-one : (look : Look) (word d : ℕ) (out : List ℕ) → OneAnswer (λ r. r ≡ cellDots look word d ++ drop d out)
 draw-cell-one look word d out = only (cellDots look word d ++ drop d out)
 

@@ -1,18 +1,20 @@
 -- The line as the drawer goes along it, and that this is the line of `Line.antt`. Assumes nothing.
 use Prim.Native.Nat.{ℕ, min, _+_, _*_, _/_, _%_, _≤_, _<_}
-use mathlib.Core.Path.{_≡_, sym, ap, _∙_}
-use mathlib.Core.Bool.{Bool, true, false}
-use mathlib.Core.List.{List, _++_}
+use mathlib.Core.Path.{_≡_, refl, sym, ap, _∙_}
+use mathlib.Core.Bool.{Bool, true, false, _||_, not, true≢false}
+use mathlib.Core.List.{List, [], _∷_, _++_}
 use native.Mathlib.Nat.{div-lt-iff-lt-mul}
 use native.Mathlib.Numerals.{add-one}
 use native.Mathlib.Omega.{arith}
 use borrow.Author.Tests.{leb-false, ltb-false}
 use lib.ListN.{length, getD, drop}
 use lib.Dec.{ltb, leb}
-use Rattle.lists.specs.Choice.{neither}
+use Rattle.lists.specs.Choice.{pick, firstOf, neither}
 use Rattle.lists.specs.Join.{joined, same-joined}
-use Rattle.refusal.specs.declared.Refusal.the-variants.{Done}
+use Rattle.refusal.specs.declared.Refusal.{Refusal}
+use Rattle.refusal.specs.declared.Refusal.the-variants.{Done, Size, Range, Room}
 use Rattle.refusal.specs.Number.{doneOf}
+use Rattle.refusal.specs.Laws.{passed, not-refused}
 use Rattle.raster.specs.declared.Buffer.{Buffer}
 use Rattle.raster.specs.declared.Cell.{Cell}
 use Rattle.raster.specs.Moves.{cell, Bounded, advance, advanceBy, advanceBy-lt, advanceBy-zero, advanceBy-suc}
@@ -20,10 +22,9 @@ use Rattle.board.specs.declared.Board.{Board}
 use Rattle.board.specs.Range.{memoriesRefused}
 use Rattle.board.specs.Laws.{memories-all}
 use Rattle.timing.specs.declared.Timing.{Timing}
-use Rattle.timing.specs.declared.PageSize.{PageSize}
 use Rattle.timing.specs.Fields.{hactOf, rowsOf, linesOf, visibleOf, bufferOf, timingOf, countsOf}
-use Rattle.timing.specs.Check.{pageCheck, sizeOf}
-use Rattle.timing.specs.Laws.{Accepted, call-passed, buffer-bounded, size-accepted}
+use Rattle.timing.specs.Check.{pageCheck, stateRefused, callCheck}
+use Rattle.timing.specs.Laws.{Accepted, call-passed, buffer-bounded}
 use Rattle.fetch.specs.Rows.{rowStart}
 use Rattle.fetch.specs.Laws.{cell-moved, row-start-lt}
 use Rattle.shape.specs.Font.{Font, Whole, fontRefused, positionOf, wordBy, wordOf}
@@ -107,6 +108,37 @@ module _ (b : Board) (chars attrs : List ℕ) (f : Font) (line field : ℕ) wher
   unfolding lineDots
   walk-line = same-joined 0 (hactOf (b .page .irs)) _ _ (λ c l u. same-column c (omega arith))
 
+-- ---- the check in two stages, as the code has it: the call's own, then 7 and 8 for the line
+
+abbrev pub lastOf : (asked room : Bool) → Refusal
+lastOf asked room = pick asked Range (pick room Room Done)
+
+module _ (b : Board) (size asked room : Bool) where
+  pub check-last : callCheck b size false false ≡ Done → lastOf asked room ≡ callCheck b size asked room
+  unfolding callCheck
+  check-last e =
+      let s = passed size Size _ refl e in
+      let p = not-refused (pageCheck (b .page)) _ (s .1) in
+      let r = passed (stateRefused b || false) Range _ refl (p .1) in
+      let q = neither (stateRefused b) false (r .0) in
+      rw (s .0, p .0, q .0)
+
+  pub check-first : doneOf (callCheck b size false false) ≡ false → callCheck b size false false ≡ callCheck b size asked room
+  unfolding callCheck
+  check-first = go size (pageCheck (b .page)) (stateRefused b)
+    where
+      order : (size : Bool) → Refusal → (range room : Bool) → Refusal
+      order size page range room = firstOf ((size, Size) ∷ (not (doneOf page), page) ∷ (range, Range) ∷ (room, Room) ∷ []) Done
+
+      go : (s : Bool) (p : Refusal) (t : Bool) → doneOf (order s p (t || false) false) ≡ false → order s p (t || false) false ≡ order s p (t || asked) room
+      go true p t q = refl
+      go false p t q = by-page (doneOf p) refl t q
+        where
+          by-page : (d : Bool) → doneOf p ≡ d → (t : Bool) → doneOf (order false p (t || false) false) ≡ false → order false p (t || false) false ≡ order false p (t || asked) room
+          by-page false e t q = rw e
+          by-page true e true q = rw e
+          by-page true e false q = absurd (true≢false (rw e at q))
+
 -- ---- a call that is not refused
 
 pub record Drawn (b : Board) (chars attrs : List ℕ) (f : Font) (line room : ℕ) : Type 0 where
@@ -133,13 +165,6 @@ draw-passed b chars attrs f line room e =
       row-lt = div-lt-iff-lt-mul some .1 (leb-false _ _ (k .in-reach));
       roomy = ltb-false _ _ (k .roomy);
     }
-
--- the tests on the page's size, as the code has them
-pub whole-so : (b : Board) (line room : ℕ) (z : PageSize) (t : Bool) → z ≡ sizeOf (b .page) → t ≡ leb (z .lines .0) line → pageCheck (b .page) ≡ Done
-    → (t ≡ leb (visibleOf (b .page .irs) .0) line) × (ltb room (z .dots .0) ≡ ltb room (lineLength b))
-whole-so b line room z t e q ok =
-    let k = size-accepted (b .page) ok in
-    (q ∙ rw (e, k .0), rw (e, k .1))
 
 -- what the drawer has worked out before it goes along the line: the counts, the line's constants, and the row's start
 pub record Prepared (b : Board) (chars unshifted shifted : List ℕ) (line field : ℕ) (t : Timing) (w : Walk) (start : Cell) : Type 0 where

@@ -5,9 +5,12 @@ ghost use Prim.Native.Nat.{_*_, _≤_, _<_};
 ghost use lib.ListN.{length, drop};
 ghost use Rattle.lists.specs.Join.{joined};
 ghost use Rattle.shape.specs.Font.{fontNow, lentFont};
+ghost use lib.Dec.{ltb, leb};
+ghost use Rattle.timing.specs.Fields.{hactOf, visibleOf};
+ghost use Rattle.timing.specs.Laws.{Accepted};
 ghost use Rattle.video.specs.At.{lentRefused};
 ghost use Rattle.line.specs.Line.{drawCheck, drawnOf, lineDots, lineLength};
-ghost use Rattle.line.specs.Walk.{walkOf, cellBy, columnBy, Ready, Drawn};
+ghost use Rattle.line.specs.Walk.{lastOf, walkOf, cellBy, columnBy, Ready, Drawn};
 
 // What is the same for all cells of a line: the scene, where the scan line stands in the font's two lists, the buffer, the width of a cell.
 pub struct Walk {
@@ -18,10 +21,19 @@ pub struct Walk {
     pub width: units::Dots,
 }
 
-// Writes one cell's dots to the front of out.
-fn put(out: &mut [u8], w: Walk, words: &[u16], flags: &[u8], code: u8, attr: u8, at: usize)
+// Writes the d dots of one cell to the front of out.
+fn put(
+    out: &mut [u8],
+    w: Walk,
+    words: &[u16],
+    flags: &[u8],
+    code: u8,
+    attr: u8,
+    at: usize,
+    d: usize,
+)
     requires { ⌜ (length (now words) ≡ 1152) × (length (now flags) ≡ 128) ⌝ }
-    requires { ⌜ (6 ≤ w .width .0) × (w .width .0 ≤ 12) × (w .width .0 ≤ length (now out)) ⌝ }
+    requires { ⌜ (d ≡ w .width .0) × (6 ≤ d) × (d ≤ 12) × (d ≤ length (now out)) ⌝ }
     ensures { λ _. ⌜ now (out .exit)
         ≡ cellBy w (now (words .entry)) (now (flags .entry)) code attr at ++ drop (w .width .0) (now (out .entry)) ⌝ }
 {
@@ -29,7 +41,7 @@ fn put(out: &mut [u8], w: Walk, words: &[u16], flags: &[u8], code: u8, attr: u8,
     let cursor = video::cursor_at(scene, at);
     let look = video::look_of(scene, video::effective_of(attr), cursor);
     let word = shape::word_by(words, flags, w.plain, w.moved, code);
-    video::draw_cell(out, look, word, w.width);
+    video::write_cell(out, look, word, d);
 }
 
 // Writes n cells' dots, fetched from a row's start on, each into its own stretch.
@@ -58,7 +70,7 @@ fn cells(
         let a = c * d;
         let address = cell.address;
         let at = address as usize;
-        put(&mut out[a..], w, words, flags, chars[at], attrs[at], at);
+        put(&mut out[a..], w, words, flags, chars[at], attrs[at], at, d);
         cell = raster::advance_one(buffer, cell);
         c += 1;
     }
@@ -78,17 +90,30 @@ fn walk_of(b: board::Board, unshifted: &[u8], shifted: &[u8], scan: units::Lines
     }
 }
 
-// The page's size is 0 where the page is refused, which comes before 7 and 8.
+// 7 for a line that is not visible, 8 for a buffer that is too short; of an accepted page the line's dots are few enough to count.
+fn line_check(p: board::Page, line: units::Lines, room: usize) -> refusal::Refusal
+    requires { ⌜ Accepted p ⌝ }
+    ensures { λ r. ⌜ r ≡ lastOf (leb (visibleOf (p .irs) .0) (line .0)) (ltb room (hactOf (p .irs) * p .video .dots .0)) ⌝ }
+{
+    let irs = p.irs;
+    let t = timing::timing_of(irs);
+    if timing::visible_of(irs).at_most(line) {
+        return refusal::Refusal::Range;
+    }
+    if room < units::dots_of(t.counts.hact, p.video.dots).0 as usize {
+        return refusal::Refusal::Room;
+    }
+    refusal::Refusal::Done
+}
+
 fn draw_check(b: board::Board, size: bool, line: units::Lines, room: usize) -> refusal::Refusal
     ensures { λ r. ⌜ r ≡ drawCheck b size (line .0) room ⌝ }
 {
-    let whole = timing::page_size(b.page);
-    timing::call_check(
-        b,
-        size,
-        whole.lines.at_most(line),
-        room < whole.dots.0 as usize,
-    )
+    let refused = timing::call_check(b, size, false, false);
+    if refusal::is_done(refused) {
+        return line_check(b.page, line, room);
+    }
+    refused
 }
 
 // A line that nothing refuses.

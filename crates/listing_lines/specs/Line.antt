@@ -17,7 +17,7 @@ use Rattle.board.specs.declared.Board.{Board}
 use Rattle.timing.specs.declared.PageSize.{PageSize}
 use Rattle.timing.specs.Fields.{hactOf, visibleOf}
 use Rattle.timing.specs.Check.{pageCheck, sizeOf, callCheck}
-use Rattle.timing.specs.Laws.{Accepted, accepted, call-passed}
+use Rattle.timing.specs.Laws.{Accepted, accepted, call-passed, asked-last}
 use Rattle.shape.specs.Font.{Font}
 use Rattle.line.specs.Length.{length-line}
 use Rattle.video.specs.At.{lentRefused}
@@ -27,15 +27,6 @@ use Rattle.listing_lines.specs.Listing.{lineFeed, markOf, listingLine, l
 use Rattle.listing_lines.specs.Answers.{listed, refused-so, done-so, listed-within}
 
 -- ---- the check: drawing into all but one byte is refused as the line is
-
--- the last test counts only where the page is accepted
-room-last : (b : Board) (size asked s t : Bool) → (pageCheck (b .page) ≡ Done → s ≡ t) → callCheck b size asked s ≡ callCheck b size asked t
-unfolding callCheck
-room-last b size asked s t h = go (doneOf (pageCheck (b .page))) refl
-  where
-    go : (d : Bool) → doneOf (pageCheck (b .page)) ≡ d → callCheck b size asked s ≡ callCheck b size asked t
-    go true e = rw (h (done-is _ e))
-    go false e = rw e
 
 line-some : (b : Board) → Accepted (b .page) → 0 < lineLength b
 line-some b a =
@@ -51,7 +42,7 @@ one-less room n h = go (ltb room (n + 1)) refl
 
 feed-kept : (b : Board) (size : Bool) (line room : ℕ) → drawCheck b size line (room - 1) ≡ lineCheck b size line room
 unfolding drawCheck lineCheck
-feed-kept b size line room = room-last b size _ _ _ (λ e. one-less room (lineLength b) (line-some b (accepted (b .page) e)))
+feed-kept b size line room = asked-last b size _ _ _ _ (λ e. (refl, one-less room (lineLength b) (line-some b (accepted (b .page) e))))
 
 -- ---- its length
 

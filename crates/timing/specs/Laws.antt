@@ -19,7 +19,7 @@ use Rattle.raster.specs.Raster.{Good}
 use Rattle.board.specs.declared.Page.{Page}
 use Rattle.board.specs.declared.Board.{Board}
 use Rattle.board.specs.Range.{startsRefused, addressRefused, cellsRefused, pointerRefused}
-use Rattle.timing.specs.Fields.{ir, linesOf, rowsOf, hactOf, htOf, hfpOf, vsyncOf, visibleOf, vtOf, bufferOf, countsOf}
+use Rattle.timing.specs.Fields.{ir, linesOf, rowsOf, hactOf, htOf, hfpOf, vsyncOf, vtOf, bufferOf, countsOf}
 use Rattle.timing.specs.Check.{reservedRefused, porchRefused, widthRefused, pageCheck, sized, sizeOf, stateRefused, callCheck}
 
 -- ---- any registers
@@ -175,12 +175,6 @@ size-refusal p = go (doneOf (pageCheck p)) _ _ _ _
     go : (t : Bool) (l k : Lines) (d e : Dots) → (pick t (sized (pageCheck p) l d) (sized (pageCheck p) k e)) .refusal ≡ pageCheck p
     go true l k d e = refl
     go false l k d e = refl
-
--- and where the page is accepted the size is its own
-pub size-accepted : (p : Page) → pageCheck p ≡ Done
-    → (sizeOf p .lines ≡ visibleOf (p .irs)) × (sizeOf p .dots .0 ≡ hactOf (p .irs) * p .video .dots .0)
-unfolding sizeOf
-size-accepted p e = rw e (refl, refl)
 
 -- what is asked for and the room count only where the page is accepted
 pub asked-last : (b : Board) (size a r a′ r′ : Bool) → (pageCheck (b .page) ≡ Done → (a ≡ a′) × (r ≡ r′))

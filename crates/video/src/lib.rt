@@ -225,12 +225,11 @@ fn four(out: &mut [u8], d: usize, symbol: u8, surround: u8, w: u16)
     dot(out, 11, d, symbol, surround, w / 8 % 2);
 }
 
-// Writes a cell's dots to the front of the part it is lent.
-pub fn draw_cell(out: &mut [u8], look: Look, word: u16, width: units::Dots)
-    requires { ⌜ (word < 1024) × (6 ≤ width .0) × (width .0 ≤ 12) × (width .0 ≤ length (now out)) ⌝ }
-    ensures { λ _. ⌜ now (out .exit) ≡ cellDots look word (width .0) ++ drop (width .0) (now (out .entry)) ⌝ }
+// Writes the d dots of a cell to the front of the part it is lent.
+pub fn write_cell(out: &mut [u8], look: Look, word: u16, d: usize)
+    requires { ⌜ (word < 1024) × (6 ≤ d) × (d ≤ 12) × (d ≤ length (now out)) ⌝ }
+    ensures { λ _. ⌜ now (out .exit) ≡ cellDots look word d ++ drop d (now (out .entry)) ⌝ }
 {
-    let d = width.0 as usize;
     let w = wide(look.lit, word, d);
     if d < 8 {
         six(out, d, look.symbol, look.surround, w);
@@ -239,6 +238,14 @@ pub fn draw_cell(out: &mut [u8], look: Look, word: u16, width: units::Dots)
         eight(out, d, look.symbol, look.surround, w);
         four(out, d, look.symbol, look.surround, w / 256);
     }
+}
+
+// The same of a cell as wide as a page's.
+pub fn draw_cell(out: &mut [u8], look: Look, word: u16, width: units::Dots)
+    requires { ⌜ (word < 1024) × (6 ≤ width .0) × (width .0 ≤ 12) × (width .0 ≤ length (now out)) ⌝ }
+    ensures { λ _. ⌜ now (out .exit) ≡ cellDots look word (width .0) ++ drop (width .0) (now (out .entry)) ⌝ }
+{
+    write_cell(out, look, word, width.0 as usize);
 }
 
 // 3, for the memories and the font.

@@ -10,8 +10,12 @@ returns : tie.Need-returns
 unfolding timingOf countsOf
 returns c =
     c .advance-by .ensures
-    ∙ rw (c .before .buffer-of .ensures, c .before .before .row-start .ensures, c .before .before .before .least .ensures,
-    c .before .before .before .before .timing-of .ensures)
+    ∙ rw (
+      c .before .buffer-of .ensures,
+      c .before .before .row-start .ensures,
+      c .before .before .before .least .ensures,
+      c .before .before .before .before .timing-of .ensures,
+    )
     (ap cell (cell-moved _ _ _ _))
 
 pub cell-at-spec : {M : Type 1} → statement M

@@ -11,9 +11,12 @@ use Rattle.fetch.proofs.row_run.Tie as tie
 returns : tie.Need-returns
 returns c =
     let start = c .before .before .before .before .before in
-    let same = c .before .before .before .span-of .ensures .0 in
-    (run-part _ _ _ _ same, refl, add-comm _ _ ∙ ap (λ (s : Span). start .args .chars .ptr .1 + s .start) same,
-    c .before .before .number .ensures ∙ ap numberOf (span-number (start .args .b) (start .args .chars .now) (start .args .row) _ same))
+    let same = c .before .before .before .span-of .ensures .0 in (
+      run-part _ _ _ _ same,
+      refl,
+      add-comm _ _ ∙ ap (λ (s : Span). start .args .chars .ptr .1 + s .start) same,
+      c .before .before .number .ensures ∙ ap numberOf (span-number (start .args .b) (start .args .chars .now) (start .args .row) _ same),
+    )
 
 pub row-run-spec : {M : Type 1} → statement M
 row-run-spec =

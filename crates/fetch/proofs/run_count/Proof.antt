@@ -8,8 +8,12 @@ use Rattle.fetch.proofs.run_count.Tie as tie
 returns : tie.Need-returns
 unfolding runCount toLast timingOf countsOf
 returns c =
-    rw (c .least2 .ensures, c .before .least .ensures, c .before .before .before .buffer-of .ensures,
-    c .before .before .before .before .timing-of .ensures)
+    rw (
+      c .least2 .ensures,
+      c .before .least .ensures,
+      c .before .before .before .buffer-of .ensures,
+      c .before .before .before .before .timing-of .ensures,
+    )
 
 pub run-count-spec : {M : Type 1} → statement M
 run-count-spec =

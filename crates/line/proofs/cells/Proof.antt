@@ -1,5 +1,5 @@
 use Prim.Native.Nat.{_+_, _≤_, _<_, _-_, _*_}
-use mathlib.Core.Path.{_≡_}
+use mathlib.Core.Path.{_≡_, refl}
 use mathlib.Core.List.{_++_}
 use native.Mathlib.Omega.{arith}
 use borrow.Author.Needs.{needs}
@@ -26,8 +26,11 @@ start c = c .before .before .before .before .before .before .before .before .bef
 
 room : (c : tie.In-loop Inv-loop μ-loop) → c .before .loop .c * start c .args .w .width .0 + start c .args .w .width .0 ≤ length (c .before .loop .out)
 room c =
-    omega (arith, c .before .loop .inv .2 .same,
-    stretch-inside (c .before .loop .c) (start c .args .n .0) (start c .args .w .width .0) _ (c .loop-test .taken) (start c .pre .1))
+    omega (
+      arith,
+      c .before .loop .inv .2 .same,
+      stretch-inside (c .before .loop .c) (start c .args .n .0) (start c .args .w .width .0) _ (c .loop-test .taken) (start c .pre .1),
+    )
 
 at : (c : tie.In-loop Inv-loop μ-loop) → c .before .loop .cell .address < 16384
 at c = at-lt _ _ _ _ (c .before .loop .inv .1)
@@ -59,7 +62,7 @@ put-requires : tie.Need-put-requires Inv-loop μ-loop
 put-requires c κs =
     let i = c .before .before .before in
     let ready = start i .pre .0 in
-    ((ready .words-all, ready .flags-all), (ready .least, ready .most, simp (length-take, length-drop) (omega (arith, room i))))
+    ((ready .words-all, ready .flags-all), (refl, ready .least, ready .most, simp (length-take, length-drop) (omega (arith, room i))))
 
 add-c : tie.Need-add-c Inv-loop μ-loop
 add-c c = omega arith

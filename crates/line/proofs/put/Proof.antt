@@ -5,10 +5,10 @@ use Rattle.line.specs.Walk.{cellBy}
 use Rattle.line.proofs.put.Statement.{statement}
 use Rattle.line.proofs.put.Tie as tie
 
-draw-cell-requires : tie.Need-draw-cell-requires
-draw-cell-requires c κs =
+write-cell-requires : tie.Need-write-cell-requires
+write-cell-requires c κs =
     let pre = c .before .before .before .before .before .before .before .before .before .pre in
-    (rw (c .before .word-by .ensures) (by-small _ _ _ _ _), pre .1 .0, pre .1 .1, pre .1 .2)
+    (rw (c .before .word-by .ensures) (by-small _ _ _ _ _), pre .1 .1, pre .1 .2, pre .1 .3)
 
 returns : tie.Need-returns
 unfolding cellBy
@@ -17,8 +17,8 @@ returns c =
     let word = drawn .before .before in
     let look = word .before in
     let attributes = look .before in
-    drawn .draw-cell .ensures
-    ∙ rw (word .word-by .ensures, look .look-of .ensures, attributes .effective-of .ensures, attributes .before .cursor-at .ensures)
+    drawn .write-cell .ensures
+    ∙ rw (word .word-by .ensures, look .look-of .ensures, attributes .effective-of .ensures, attributes .before .cursor-at .ensures, attributes .before .before .before .before .before .before .pre .1 .0)
 
 pub put-spec : {M : Type 1} → statement M
 put-spec =
@@ -28,6 +28,6 @@ put-spec =
     (λ c κs. search needs)
     (λ c κs. search needs)
     (λ c κs. search needs)
-    draw-cell-requires
+    write-cell-requires
     (λ c. search needs)
     returns)

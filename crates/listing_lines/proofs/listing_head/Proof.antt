@@ -60,9 +60,10 @@ put-number-requires : tie.Need-put-number-requires
 put-number-requires c κs = (c .before .before .before .before .before .digits-of .ensures .digits-within, omega arith)
 
 put-number-requires-2 : tie.Need-put-number-requires-2
-put-number-requires-2 c κs =
-    (c .before .before .before .before .before .before .before .before .digits-of2 .ensures .digits-within,
-    simp (length-take, length-drop) (omega (arith, c .before .before .before .put-number .kept .0)))
+put-number-requires-2 c κs = (
+  c .before .before .before .before .before .before .before .before .digits-of2 .ensures .digits-within,
+  simp (length-take, length-drop) (omega (arith, c .before .before .before .put-number .kept .0)),
+)
 
 returns-3 : tie.Need-returns-3
 returns-3 c =

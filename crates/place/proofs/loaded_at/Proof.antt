@@ -5,9 +5,10 @@ use Rattle.place.proofs.loaded_at.Statement.{statement}
 use Rattle.place.proofs.loaded_at.Tie as tie
 
 begun-requires : tie.Need-begun-requires
-begun-requires c κs =
-    (c .before .before .before .before .before .before .before .before .before .before .before .pre,
-    rw (c .row-of .ensures) (loads-row (c .before .before .before .before .before .before .before .before .before .before .before .args .p) (c .before .before .before .before .before .before .before .before .before .before .before .args .chars .now) (c .before .before .before .before .before .before .before .before .before .before .before .args .q) (sym (c .before .before .before .before .before .loads-at .ensures) ∙ c .before .before .before .before .if1 .taken)))
+begun-requires c κs = (
+  c .before .before .before .before .before .before .before .before .before .before .before .pre,
+  rw (c .row-of .ensures) (loads-row (c .before .before .before .before .before .before .before .before .before .before .before .args .p) (c .before .before .before .before .before .before .before .before .before .before .before .args .chars .now) (c .before .before .before .before .before .before .before .before .before .before .before .args .q) (sym (c .before .before .before .before .before .loads-at .ensures) ∙ c .before .before .before .before .if1 .taken)),
+)
 
 returns : tie.Need-returns
 returns c =

@@ -7,8 +7,13 @@ use Rattle.step.proofs.signals_of.Tie as tie
 returns : tie.Need-returns
 unfolding signalsOf sceneOf
 returns c =
-    rw (c .cursor-at .ensures, c .before .before .vsync-in .ensures, c .before .before .before .hsync-in .ensures,
-    c .before .before .before .before .active-at .ensures, c .before .before .before .before .before .pre)
+    rw (
+      c .cursor-at .ensures,
+      c .before .before .vsync-in .ensures,
+      c .before .before .before .hsync-in .ensures,
+      c .before .before .before .before .active-at .ensures,
+      c .before .before .before .before .before .pre,
+    )
 
 pub signals-of-spec : {M : Type 1} → statement M
 signals-of-spec =

@@ -12,9 +12,15 @@ plus-requires-2 c κs =
 
 returns : tie.Need-returns
 returns c =
-    rw (c .minus .ensures, c .before .ht-of .ensures, c .before .before .plus2 .ensures, c .before .before .before .hbp-of .ensures,
-    c .before .before .before .before .plus .ensures, c .before .before .before .before .before .hsync-of .ensures,
-    c .before .before .before .before .before .before .hact-of .ensures)
+    rw (
+      c .minus .ensures,
+      c .before .ht-of .ensures,
+      c .before .before .plus2 .ensures,
+      c .before .before .before .hbp-of .ensures,
+      c .before .before .before .before .plus .ensures,
+      c .before .before .before .before .before .hsync-of .ensures,
+      c .before .before .before .before .before .before .hact-of .ensures,
+    )
 
 pub hfp-of-spec : {M : Type 1} → statement M
 hfp-of-spec =

@@ -15,8 +15,13 @@ times-requires-2 c κs =
 
 returns : tie.Need-returns
 returns c =
-    rw (c .times2 .ensures, c .before .plus .ensures, c .before .before .times .ensures, c .before .before .before .hsync-of .ensures,
-    c .before .before .before .before .ec-of .ensures)
+    rw (
+      c .times2 .ensures,
+      c .before .plus .ensures,
+      c .before .before .times .ensures,
+      c .before .before .before .hsync-of .ensures,
+      c .before .before .before .before .ec-of .ensures,
+    )
 
 pub ht-of-spec : {M : Type 1} → statement M
 ht-of-spec =

@@ -6,9 +6,14 @@ use Rattle.timing.proofs.state_refused.Tie as tie
 returns : tie.Need-returns
 unfolding stateRefused
 returns c =
-    rw (c .pointer-refused .ensures, c .before .cells-refused .ensures, c .before .before .at-most2 .ensures,
-    c .before .before .before .ht-of .ensures, c .before .before .before .before .at-most .ensures,
-    c .before .before .before .before .before .vt-of .ensures)
+    rw (
+      c .pointer-refused .ensures,
+      c .before .cells-refused .ensures,
+      c .before .before .at-most2 .ensures,
+      c .before .before .before .ht-of .ensures,
+      c .before .before .before .before .at-most .ensures,
+      c .before .before .before .before .before .vt-of .ensures,
+    )
 
 pub state-refused-spec : {M : Type 1} → statement M
 state-refused-spec =

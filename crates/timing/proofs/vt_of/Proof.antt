@@ -16,15 +16,27 @@ plus-requires-2 c κs =
 
 plus-requires-3 : tie.Need-plus-requires-3
 plus-requires-3 c κs =
-    rw (c .vbp-of .ensures, c .before .plus2 .ensures, c .before .before .vsync-of .ensures, c .before .before .before .plus .ensures,
-    c .before .before .before .before .vfp-of .ensures, c .before .before .before .before .before .visible-of .ensures)
+    rw (
+      c .vbp-of .ensures,
+      c .before .plus2 .ensures,
+      c .before .before .vsync-of .ensures,
+      c .before .before .before .plus .ensures,
+      c .before .before .before .before .vfp-of .ensures,
+      c .before .before .before .before .before .visible-of .ensures,
+    )
     (omega (arith, visible-bound (c .before .before .before .before .before .before .args .irs), vsync-bound (ir (c .before .before .before .before .before .before .args .irs) 7 / 64 % 4)))
 
 returns : tie.Need-returns
 returns c =
-    rw (c .plus3 .ensures, c .before .vbp-of .ensures, c .before .before .plus2 .ensures, c .before .before .before .vsync-of .ensures,
-    c .before .before .before .before .plus .ensures, c .before .before .before .before .before .vfp-of .ensures,
-    c .before .before .before .before .before .before .visible-of .ensures)
+    rw (
+      c .plus3 .ensures,
+      c .before .vbp-of .ensures,
+      c .before .before .plus2 .ensures,
+      c .before .before .before .vsync-of .ensures,
+      c .before .before .before .before .plus .ensures,
+      c .before .before .before .before .before .vfp-of .ensures,
+      c .before .before .before .before .before .before .visible-of .ensures,
+    )
 
 pub vt-of-spec : {M : Type 1} → statement M
 vt-of-spec =

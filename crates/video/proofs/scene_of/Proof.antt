@@ -12,14 +12,20 @@ cursor-gate-requires c κs = rw (c .before .cursor-of .ensures) (omega arith)
 returns : tie.Need-returns
 unfolding sceneOf
 returns c =
-    rw (c .cursor-gate .ensures, c .before .has4 .ensures, c .before .before .cursor-of .ensures, c .before .before .before .same2 .ensures,
-    c .before .before .before .before .same .ensures, c .before .before .before .before .before .underline-of .ensures,
-    c .before .before .before .before .before .before .blink-at .ensures,
-    c .before .before .before .before .before .before .before .blink-of .ensures,
-    c .before .before .before .before .before .before .before .before .blank-level .ensures,
-    c .before .before .before .before .before .before .before .before .before .has3 .ensures,
-    c .before .before .before .before .before .before .before .before .before .before .before .has2 .ensures,
-    c .before .before .before .before .before .before .before .before .before .before .before .before .before .has .ensures)
+    rw (
+      c .cursor-gate .ensures,
+      c .before .has4 .ensures,
+      c .before .before .cursor-of .ensures,
+      c .before .before .before .same2 .ensures,
+      c .before .before .before .before .same .ensures,
+      c .before .before .before .before .before .underline-of .ensures,
+      c .before .before .before .before .before .before .blink-at .ensures,
+      c .before .before .before .before .before .before .before .blink-of .ensures,
+      c .before .before .before .before .before .before .before .before .blank-level .ensures,
+      c .before .before .before .before .before .before .before .before .before .has3 .ensures,
+      c .before .before .before .before .before .before .before .before .before .before .before .has2 .ensures,
+      c .before .before .before .before .before .before .before .before .before .before .before .before .before .has .ensures,
+    )
 
 pub scene-of-spec : {M : Type 1} → statement M
 scene-of-spec =

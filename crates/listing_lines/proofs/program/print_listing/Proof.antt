@@ -31,9 +31,11 @@ print-requires-2 c κs = let l = c .before .before .listing-line in rw (l .ensur
 
 plus-requires : tie.Need-plus-requires Inv-loop μ-loop
 plus-requires c κs =
-    omega (arith,
-    below-means (c .before .before .before .before .before .before .before .loop .line) (c .before .before .before .before .before .before .before .before .before .page-size .result .lines) _ (c .before .before .before .before .before .before .below .ensures) (c .before .before .before .before .before .if1 .taken),
-    lines-small _ _ (c .before .before .before .before .before .before .before .before .before .page-size .ensures))
+    omega (
+      arith,
+      below-means (c .before .before .before .before .before .before .before .loop .line) (c .before .before .before .before .before .before .before .before .before .page-size .result .lines) _ (c .before .before .before .before .before .before .below .ensures) (c .before .before .before .before .before .if1 .taken),
+      lines-small _ _ (c .before .before .before .before .before .before .before .before .before .page-size .ensures),
+    )
 
 loop-less : tie.Need-loop-less Inv-loop μ-loop
 loop-less c =
