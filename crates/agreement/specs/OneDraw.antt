@@ -7,6 +7,7 @@ use native.Mathlib.Omega.{arith}
 use lib.ListN.{length, drop, length-drop}
 use lib.Seq.{length-take-le}
 use Rattle.lists.specs.Answer.{OneAnswer, only, only-both, only-four}
+use Rattle.units.specs.declared.Dots.{Dots}
 use Rattle.refusal.specs.declared.Refusal.{Refusal}
 use Rattle.refusal.specs.Number.{numberOf}
 use Rattle.raster.specs.Moves.{cell}
@@ -89,8 +90,8 @@ look-of-one s attributes cursor = only (lookOf s attributes cursor)
 pub write-cell-one : (look : Look) (word d : ℕ) (out : List ℕ) → OneAnswer (λ r. r ≡ cellDots look word d ++ drop d out)
 write-cell-one look word d out = only (cellDots look word d ++ drop d out)
 
-pub draw-cell-one : (look : Look) (word d : ℕ) (out : List ℕ) → OneAnswer (λ r. r ≡ cellDots look word d ++ drop d out)
-draw-cell-one look word d out = only (cellDots look word d ++ drop d out)
+pub draw-cell-one : (look : Look) (word : ℕ) (width : Dots) (out : List ℕ) → OneAnswer (λ r. r ≡ cellDots look word (width .0) ++ drop (width .0) out)
+draw-cell-one look word width out = only (cellDots look word (width .0) ++ drop (width .0) out)
 
 -- ---- `line`
 
