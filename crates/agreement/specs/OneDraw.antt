@@ -21,7 +21,7 @@ use Rattle.shape.specs.Font.{Font, fontRefused, positionOf, wordBy, wordOf}
 use Rattle.video.specs.declared.Scene.{Scene}
 use Rattle.video.specs.declared.Look.{Look}
 use Rattle.video.specs.Scene.{sceneOf, cursorAt}
-use Rattle.video.specs.Look.{effective, lookOf}
+use Rattle.video.specs.Look.{effective, lookWith, lookOf}
 use Rattle.video.specs.Cell.{cellDots}
 use Rattle.line.specs.Line.{drawCheck, drawnOf}
 use Rattle.video.specs.At.{lentRefused}
@@ -87,8 +87,8 @@ pub look-of-one : (s : Scene) (attributes : ℕ) (cursor : Bool) → OneAnswer (
 look-of-one s attributes cursor = only (lookOf s attributes cursor)
 
 -- the buffer
-pub write-cell-one : (look : Look) (word d : ℕ) (out : List ℕ) → OneAnswer (λ r. r ≡ cellDots look word d ++ drop d out)
-write-cell-one look word d out = only (cellDots look word d ++ drop d out)
+pub write-cell-one : (lit : Bool) (symbol surround word d : ℕ) (out : List ℕ) → OneAnswer (λ r. r ≡ cellDots (lookWith lit symbol surround) word d ++ drop d out)
+write-cell-one lit symbol surround word d out = only (cellDots (lookWith lit symbol surround) word d ++ drop d out)
 
 pub draw-cell-one : (look : Look) (word : ℕ) (width : Dots) (out : List ℕ) → OneAnswer (λ r. r ≡ cellDots look word (width .0) ++ drop (width .0) out)
 draw-cell-one look word width out = only (cellDots look word (width .0) ++ drop (width .0) out)

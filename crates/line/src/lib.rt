@@ -41,7 +41,7 @@ fn put(
     let cursor = video::cursor_at(scene, at);
     let look = video::look_of(scene, video::effective_of(attr), cursor);
     let word = shape::word_by(words, flags, w.plain, w.moved, code);
-    video::write_cell(out, look, word, d);
+    video::write_cell(out, look.lit, look.symbol, look.surround, word, d);
 }
 
 // Writes n cells' dots, fetched from a row's start on, each into its own stretch.

@@ -30,9 +30,12 @@ shownLook s a cursor = record {
   surround = surroundLevel (reversed s a cursor) (hasBit a 16);
 }
 
+abbrev pub lookWith : Bool → (symbol surround : ℕ) → Look
+lookWith lit symbol surround = record { lit = lit; symbol = symbol; surround = surround }
+
 -- while BLANK is high all dots have one level
 abbrev pub blankLook : ℕ → Look
-blankLook level = record { lit = false; symbol = level; surround = level }
+blankLook level = lookWith false level level
 
 unfoldable pub lookOf : Scene → ℕ → Bool → Look
 lookOf s a cursor = pick (s .shown) (shownLook s a cursor) (blankLook (s .blank))

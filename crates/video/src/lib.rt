@@ -6,7 +6,7 @@ ghost use Prim.Native.Nat.{_≤_, _<_};
 ghost use lib.ListN.{length, drop};
 ghost use Rattle.video.specs.Levels.{hasBit, blankLevel, symbolLevel, surroundLevel};
 ghost use Rattle.video.specs.Scene.{blinkAt, cursorGate, sceneOf, cursorAt};
-ghost use Rattle.video.specs.Look.{effective, lookOf};
+ghost use Rattle.video.specs.Look.{effective, lookWith, lookOf};
 ghost use Rattle.video.specs.Cell.{shadeOf, cellDots};
 ghost use Rattle.shape.specs.Font.{lentFont};
 ghost use Rattle.video.specs.At.{lentRefused};
@@ -226,26 +226,33 @@ fn four(out: &mut [u8], d: usize, symbol: u8, surround: u8, w: u16)
 }
 
 // Writes the d dots of a cell to the front of the part it is lent.
-pub fn write_cell(out: &mut [u8], look: Look, word: u16, d: usize)
+pub fn write_cell(out: &mut [u8], lit: bool, symbol: u8, surround: u8, word: u16, d: usize)
     requires { ⌜ (word < 1024) × (6 ≤ d) × (d ≤ 12) × (d ≤ length (now out)) ⌝ }
-    ensures { λ _. ⌜ now (out .exit) ≡ cellDots look word d ++ drop d (now (out .entry)) ⌝ }
+    ensures { λ _. ⌜ now (out .exit) ≡ cellDots (lookWith lit symbol surround) word d ++ drop d (now (out .entry)) ⌝ }
 {
-    let w = wide(look.lit, word, d);
+    let w = wide(lit, word, d);
     if d < 8 {
-        six(out, d, look.symbol, look.surround, w);
-        dot(out, 6, d, look.symbol, look.surround, w / 64 % 2);
+        six(out, d, symbol, surround, w);
+        dot(out, 6, d, symbol, surround, w / 64 % 2);
     } else {
-        eight(out, d, look.symbol, look.surround, w);
-        four(out, d, look.symbol, look.surround, w / 256);
+        eight(out, d, symbol, surround, w);
+        four(out, d, symbol, surround, w / 256);
     }
 }
 
-// The same of a cell as wide as a page's.
+// The same of a cell's look, as wide as a page's cells are.
 pub fn draw_cell(out: &mut [u8], look: Look, word: u16, width: units::Dots)
     requires { ⌜ (word < 1024) × (6 ≤ width .0) × (width .0 ≤ 12) × (width .0 ≤ length (now out)) ⌝ }
     ensures { λ _. ⌜ now (out .exit) ≡ cellDots look word (width .0) ++ drop (width .0) (now (out .entry)) ⌝ }
 {
-    write_cell(out, look, word, width.0 as usize);
+    write_cell(
+        out,
+        look.lit,
+        look.symbol,
+        look.surround,
+        word,
+        width.0 as usize,
+    );
 }
 
 // 3, for the memories and the font.

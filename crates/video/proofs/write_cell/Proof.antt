@@ -1,4 +1,5 @@
 use borrow.Author.Needs.{needs}
+use Rattle.video.specs.Look.{lookWith}
 use Rattle.video.specs.Flat.{narrow, broad}
 use Rattle.video.proofs.write_cell.Statement.{statement}
 use Rattle.video.proofs.write_cell.Tie as tie
@@ -9,7 +10,7 @@ returns c =
     let first = second .before .before .before .before in
     let then = first .before .before in
     let start = then .before .before .before in
-    narrow (start .args .look) _ _ _ _ (start .pre .0) (start .pre .2) (start .pre .3) (then .before .wide .ensures) _ _ (then .if1 .taken) (first .six .ensures) (second .dot .ensures)
+    narrow (lookWith (start .args .lit) (start .args .symbol) (start .args .surround)) _ _ _ _ (start .pre .0) (start .pre .2) (start .pre .3) (then .before .wide .ensures) _ _ (then .if1 .taken) (first .six .ensures) (second .dot .ensures)
 
 returns-2 : tie.Need-returns-2
 returns-2 c =
@@ -17,7 +18,7 @@ returns-2 c =
     let first = second .before .before .before .before in
     let else = first .before .before in
     let start = else .before .before .before in
-    broad (start .args .look) _ _ _ _ (start .pre .0) (start .pre .2) (start .pre .3) (else .before .wide .ensures) _ _ (first .eight .ensures) (second .four .ensures)
+    broad (lookWith (start .args .lit) (start .args .symbol) (start .args .surround)) _ _ _ _ (start .pre .0) (start .pre .2) (start .pre .3) (else .before .wide .ensures) _ _ (first .eight .ensures) (second .four .ensures)
 
 pub write-cell-spec : {M : Type 1} → statement M
 write-cell-spec =
