@@ -7,6 +7,7 @@ ghost use Rattle.shape.specs.Font.{Whole, fontNow, lentFont, wordOf};
 ghost use Rattle.video.specs.Scene.{sceneOf, cursorAt};
 ghost use Rattle.video.specs.Look.{effective, lookOf};
 ghost use Rattle.video.specs.Cell.{cellDots};
+ghost use Rattle.place.specs.Place.{activeAt};
 ghost use Rattle.step.specs.Signals.{scanIn, hsyncIn, vsyncIn, signalsOf, padded, clockDots};
 ghost use Rattle.step.specs.Step.{Fit, steppedOf, stepOf};
 
@@ -52,11 +53,10 @@ fn vsync_in(b: board::Board) -> bool
     b.place.line.during(first, t.vsync)
 }
 
-fn signals_of(b: board::Board, scene: video::Scene, address: usize) -> Signals
-    requires { ⌜ scene ≡ sceneOf b (scanIn b) (b .place .field) ⌝ }
+fn signals_of(b: board::Board, scene: video::Scene, active: bool, address: usize) -> Signals
+    requires { ⌜ (scene ≡ sceneOf b (scanIn b) (b .place .field)) × (active ≡ activeAt (b .page) (b .place)) ⌝ }
     ensures { λ r. ⌜ r ≡ signalsOf b address ⌝ }
 {
-    let active = place::active_at(b.page, b.place);
     Signals {
         hsync: hsync_in(b),
         vsync: vsync_in(b),
@@ -119,6 +119,7 @@ fn scene_in(b: board::Board) -> video::Scene
 fn clock_dots(
     b: board::Board,
     scene: video::Scene,
+    active: bool,
     chars: &[u8],
     attrs: &[u8],
     words: &[u16],
@@ -128,10 +129,10 @@ fn clock_dots(
     address: usize,
 ) -> [u8; 12]
     requires { ⌜ Fit b (now chars) (now attrs) (fontNow words flags unshifted shifted) ⌝ }
-    requires { ⌜ (scene ≡ sceneOf b (scanIn b) (b .place .field)) × (address < 16384) ⌝ }
+    requires { ⌜ (scene ≡ sceneOf b (scanIn b) (b .place .field)) × (active ≡ activeAt (b .page) (b .place)) × (address < 16384) ⌝ }
     ensures { λ r. ⌜ r ≡ clockDots b (now (chars .entry)) (now (attrs .entry)) (lentFont words flags unshifted shifted) address ⌝ }
 {
-    if place::active_at(b.page, b.place) {
+    if active {
         let code = chars[address];
         let attr = attrs[address];
         return shown_dots(
@@ -167,11 +168,13 @@ fn one_step(
     let c = place::loaded_at(page, chars, place);
     let next = place::place_after(page, place, c);
     let scene = scene_in(b);
+    let active = place::active_at(page, place);
     let at = c.beam.address;
     let address = at as usize;
     let dots = clock_dots(
         b,
         scene,
+        active,
         chars,
         attrs,
         words,
@@ -182,7 +185,7 @@ fn one_step(
     );
     Stepped {
         refusal: refusal::Refusal::Done,
-        signals: signals_of(b, scene, address),
+        signals: signals_of(b, scene, active, address),
         address: at,
         dots: dots,
         board: place::with_place(b, next),

@@ -12,13 +12,19 @@ place-after-requires c κs =
 
 clock-dots-requires : tie.Need-clock-dots-requires
 clock-dots-requires c κs =
-    let start = c .before .before .before .before .before .before .before .before .before .before .before in
-    (start .pre, (c .scene-in .ensures, address-lt _ _ _ _ (start .pre) _ (c .before .before .loaded-at .ensures)))
+    let start = c .before .before .before .before .before .before .before .before .before .before .before .before in (
+      start .pre,
+      (c .before .scene-in .ensures, c .active-at .ensures, address-lt _ _ _ _ (start .pre) _ (c .before .before .before .loaded-at .ensures)),
+    )
+
+signals-of-requires : tie.Need-signals-of-requires
+signals-of-requires c κs = (c .before .before .scene-in .ensures, c .before .active-at .ensures)
 
 returns : tie.Need-returns
 returns c =
-    stepped _ _ _ _ _ (c .before .before .before .before .before .loaded-at .ensures) _ (c .before .before .before .before .place-after .ensures) _
-    (c .before .signals-of .ensures) _ (c .before .before .clock-dots .ensures) _ (c .with-place .ensures)
+    stepped _ _ _ _ _ (c .before .before .before .before .before .before .loaded-at .ensures) _
+    (c .before .before .before .before .before .place-after .ensures) _ (c .before .signals-of .ensures) _ (c .before .before .clock-dots .ensures) _
+    (c .with-place .ensures)
 
 pub one-step-spec : {M : Type 1} → statement M
 one-step-spec =
@@ -27,8 +33,9 @@ one-step-spec =
     (λ c κs. search needs)
     place-after-requires
     (λ c κs. search needs)
+    (λ c κs. search needs)
     (λ c. search needs)
     clock-dots-requires
-    (λ c κs. search needs)
+    signals-of-requires
     (λ c κs. search needs)
     returns)

@@ -11,11 +11,10 @@ returns c =
       c .cursor-at .ensures,
       c .before .before .vsync-in .ensures,
       c .before .before .before .hsync-in .ensures,
-      c .before .before .before .before .active-at .ensures,
-      c .before .before .before .before .before .pre,
+      c .before .before .before .before .pre .1,
+      c .before .before .before .before .pre .0,
     )
 
 pub signals-of-spec : {M : Type 1} → statement M
 signals-of-spec =
-    tie.close
-    (tie.spec (λ c κs. search needs) (λ c κs. search needs) (λ c κs. search needs) (λ c κs. search needs) returns)
+    tie.close (tie.spec (λ c κs. search needs) (λ c κs. search needs) (λ c κs. search needs) returns)
