@@ -1,6 +1,6 @@
 -- The definitions as the code has them: one law for each way out of a function. Assumes nothing.
 use Prim.Native.Nat.{ℕ, zero, suc, _+_, _-_, _/_, _%_, _≤_, _<_}
-use mathlib.Core.Path.{_≡_, refl, sym, ap, _∙_}
+use mathlib.Core.Path.{_≡_, refl, _∙_}
 use mathlib.Core.Bool.{Bool, true, false, _&&_, true≢false}
 use mathlib.Core.List.{List}
 use native.Mathlib.Nat.{div-lt-iff-lt-mul}
@@ -13,7 +13,7 @@ use lib.ListN.{length}
 use Rattle.lists.specs.Choice.{pick, pick-lt, both}
 use Rattle.units.specs.declared.Clocks.{Clocks}
 use Rattle.units.specs.declared.Lines.{Lines}
-use Rattle.units.specs.Units.{clocks, lines, wholeLines}
+use Rattle.units.specs.Units.{clocks, lines}
 use Rattle.refusal.specs.declared.Refusal.the-variants.{Done}
 use Rattle.raster.specs.declared.Cell.{Cell}
 use Rattle.raster.specs.Moves.{cell, advance}

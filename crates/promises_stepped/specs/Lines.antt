@@ -12,8 +12,8 @@ use Rattle.units.specs.declared.Lines.{Lines}
 use Rattle.units.specs.Units.{clocks, lines, clocksOf}
 use Rattle.board.specs.declared.Board.{Board}
 use Rattle.timing.specs.declared.Timing.{Timing}
-use Rattle.timing.specs.Fields.{htOf, vtOf, hactOf, visibleOf, countsOf, timingOf}
-use Rattle.timing.specs.Decoded.{hact-is, ht-is, vt-is}
+use Rattle.timing.specs.Fields.{htOf, vtOf, hactOf, visibleOf, timingOf}
+use Rattle.timing.specs.Decoded.{ht-is, vt-is}
 use Rattle.timing.specs.Laws.{visible-bound, ht-bound, vt-bound}
 use Rattle.shape.specs.Font.{Font, fontOf}
 use Rattle.line.specs.Line.{columnDots, lineLength}
