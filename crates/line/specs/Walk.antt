@@ -1,112 +1,80 @@
--- The line as the drawer goes along it, and that this is the line of `Line.antt`. Assumes nothing.
+-- The line as the drawer makes it, from the row's cells and the levels of their marks, and that this is the line of `Line.antt`. Assumes nothing.
 use Prim.Native.Nat.{ℕ, min, _+_, _*_, _/_, _%_, _≤_, _<_}
 use mathlib.Core.Path.{_≡_, refl, sym, ap, _∙_}
 use mathlib.Core.Bool.{Bool, true, false, _||_, not, true≢false}
 use mathlib.Core.List.{List, [], _∷_, _++_}
 use native.Mathlib.Nat.{div-lt-iff-lt-mul}
-use native.Mathlib.Numerals.{add-one}
 use native.Mathlib.Omega.{arith}
 use borrow.Author.Tests.{leb-false, ltb-false}
 use lib.ListN.{length, getD, drop}
 use lib.Dec.{ltb, leb}
+use Rattle.units.specs.declared.Lines.{Lines}
+use Rattle.units.specs.Units.{lines}
 use Rattle.lists.specs.Choice.{pick, firstOf, neither}
 use Rattle.lists.specs.Join.{joined, same-joined}
+use Rattle.lists.specs.Tab.{tab}
 use Rattle.refusal.specs.declared.Refusal.{Refusal}
 use Rattle.refusal.specs.declared.Refusal.the-variants.{Done, Size, Range, Room}
 use Rattle.refusal.specs.Number.{doneOf}
 use Rattle.refusal.specs.Laws.{passed, not-refused}
 use Rattle.raster.specs.declared.Buffer.{Buffer}
 use Rattle.raster.specs.declared.Cell.{Cell}
-use Rattle.raster.specs.Moves.{cell, Bounded, advance, advanceBy, advanceBy-lt, advanceBy-zero, advanceBy-suc}
+use Rattle.raster.specs.Moves.{cell, advanceBy}
+use Rattle.board.specs.declared.Page.{Page}
 use Rattle.board.specs.declared.Board.{Board}
 use Rattle.board.specs.Range.{memoriesRefused}
 use Rattle.board.specs.Laws.{memories-all}
 use Rattle.timing.specs.declared.Timing.{Timing}
 use Rattle.timing.specs.Fields.{hactOf, rowsOf, linesOf, visibleOf, bufferOf, timingOf, countsOf}
 use Rattle.timing.specs.Check.{pageCheck, stateRefused, callCheck}
-use Rattle.timing.specs.Laws.{Accepted, call-passed, buffer-bounded}
+use Rattle.timing.specs.Laws.{Accepted, call-passed}
 use Rattle.fetch.specs.Rows.{rowStart}
-use Rattle.fetch.specs.Laws.{cell-moved, row-start-lt}
-use Rattle.shape.specs.Font.{Font, Whole, fontRefused, positionOf, wordBy, wordOf}
-use Rattle.shape.specs.Laws.{font-whole, by-small}
-use Rattle.video.specs.Scene.{sceneOf, cursorAt}
-use Rattle.video.specs.Look.{effective, lookOf}
-use Rattle.video.specs.Cell.{cellDots}
-use Rattle.video.specs.Width.{length-cell}
-use Rattle.video.specs.At.{lentRefused, scanOf, dotsAt}
+use Rattle.fetch.specs.Laws.{cell-moved}
+use Rattle.shape.specs.Font.{Font, Whole, fontRefused, positionOf, wordBy}
+use Rattle.shape.specs.Laws.{font-whole}
+use Rattle.video.specs.declared.Scene.{Scene}
+use Rattle.video.specs.Scene.{sceneOf}
+use Rattle.video.specs.At.{Content, lentRefused, contentAt, scanDots, dotsAt}
+use Rattle.dots.specs.Stores.{wideOf}
+use Rattle.dots.specs.Width.{shades, length-shades}
+use Rattle.tables.specs.Tables.{markOf, numberFor, cellBy, levelsOf}
+use Rattle.tables.specs.Laws.{gathered, gathered-lt, looked-up, code-of, mark-of, by-word}
 use Rattle.line.specs.declared.Walk.{Walk}
 use Rattle.line.specs.Line.{columnDots, lineDots, lineLength, drawCheck, drawnOf}
 
-unfoldable pub walkOf : Board → (unshifted shifted : List ℕ) → (scan field : ℕ) → Walk
-walkOf b unshifted shifted scan field = record {
-  scene = sceneOf b scan field;
+unfoldable pub walkOf : Page → (unshifted shifted : List ℕ) → (scan : ℕ) → Walk
+walkOf p unshifted shifted scan = record {
   plain = positionOf unshifted scan;
   moved = positionOf shifted scan;
-  buffer = bufferOf (b .page .irs);
-  width = b .page .video .dots;
+  width = p .video .dots;
 }
 
--- one cell, from its code, its attribute byte and its address
-unfoldable pub cellBy : Walk → (words flags : List ℕ) → (code attr at : ℕ) → List ℕ
-cellBy w words flags code attr at =
-    cellDots (lookOf (w .scene) (effective attr) (cursorAt (w .scene) at)) (wordBy words flags (w .plain) (w .moved) code) (w .width .0)
+-- one cell, from its number
+unfoldable pub dotsFor : Walk → (looks words flags : List ℕ) → (number : ℕ) → List ℕ
+dotsFor w looks words flags x =
+    shades (getD looks (x / 256) 0 % 256) (getD looks (x / 256) 0 / 256) (w .width .0)
+    (wideOf (wordBy words flags (w .plain) (w .moved) (x % 256)) (w .width .0))
 
--- the cell c moves from the row's start
-unfoldable pub columnBy : Walk → (chars attrs words flags : List ℕ) → (start c : ℕ) → List ℕ
-columnBy w chars attrs words flags start c =
-    cellBy w words flags (getD chars (advanceBy (w .buffer) c start) 0) (getD attrs (advanceBy (w .buffer) c start) 0) (advanceBy (w .buffer) c start)
+unfoldable pub columnBy : Walk → (row looks words flags : List ℕ) → (c : ℕ) → List ℕ
+columnBy w row looks words flags c = dotsFor w looks words flags (getD row c 0)
 
-pub record Ready (w : Walk) (chars attrs words flags : List ℕ) (start : ℕ) : Type 0 where
+pub record Ready (w : Walk) (row looks words flags : List ℕ) (n : ℕ) : Type 0 where
   pub least : 6 ≤ w .width .0
   pub most : w .width .0 ≤ 12
-  pub chars-all : length chars ≡ 16384
-  pub attrs-all : length attrs ≡ 16384
+  pub few : n ≤ length row
+  pub marked : (c : ℕ) → c < n → getD row c 0 < 32768
+  pub looks-all : length looks ≡ 128
   pub words-all : length words ≡ 1152
   pub flags-all : length flags ≡ 128
-  pub bounded : Bounded (w .buffer)
-  pub start-lt : start < 16384
 
-pub length-column : (w : Walk) (chars attrs words flags : List ℕ) (start : ℕ) → w .width .0 ≤ 12
-    → (c : ℕ) → length (columnBy w chars attrs words flags start c) ≡ w .width .0
-unfolding columnBy cellBy
-length-column w chars attrs words flags start m c = length-cell _ _ (w .width .0) (by-small words flags (w .plain) (w .moved) _) m
+pub length-column : (w : Walk) (row looks words flags : List ℕ) (c : ℕ) → length (columnBy w row looks words flags c) ≡ w .width .0
+unfolding columnBy dotsFor
+length-column w row looks words flags c = length-shades _ _ (w .width .0) _
 
--- ---- a turn of the drawer's loop
-
-module _ (b : Buffer) (start c : ℕ) (x : Cell) (e : x ≡ cell (advanceBy b c start)) where
-  pub at-lt : x .address < 16384
-  at-lt = rw e (advanceBy-lt b c start)
-
-  pub moved-on : Bounded b → start < 16384 → (y : Cell) → y ≡ cell (advance b (x .address)) → y ≡ cell (advanceBy b (c + 1) start)
-  moved-on o h y q = q ∙ rw (e, add-one c) (ap cell (sym (advanceBy-suc b o c start h)))
-
-pub not-moved : (b : Buffer) (x : Cell) → x .address < 16384 → x ≡ cell (advanceBy b 0 (x .address))
-not-moved b x h = ap cell (sym (advanceBy-zero b (x .address) h))
-
-pub as-column : (w : Walk) (chars attrs words flags : List ℕ) (start c : ℕ) (x : Cell) (out rest : List ℕ) → x ≡ cell (advanceBy (w .buffer) c start)
-    → out ≡ cellBy w words flags (getD chars (x .address) 0) (getD attrs (x .address) 0) (x .address) ++ rest → out ≡ columnBy w chars attrs words flags start c ++ rest
+pub as-column : (w : Walk) (row looks words flags : List ℕ) (c : ℕ) (out rest : List ℕ)
+    → out ≡ dotsFor w looks words flags (getD row c 0) ++ rest → out ≡ columnBy w row looks words flags c ++ rest
 unfolding columnBy
-as-column w chars attrs words flags start c x out rest e q = rw e at q
-
--- ---- the two lines agree
-
-module _ (b : Board) (chars attrs : List ℕ) (f : Font) (line field : ℕ) where
-  abbrev r : ℕ
-  r = line / linesOf (b .page .irs)
-
-  abbrev w : Walk
-  w = walkOf b (f .unshifted) (f .shifted) (scanOf (line % linesOf (b .page .irs))) field
-
-  same-column : (c : ℕ) → c < hactOf (b .page .irs)
-      → columnBy w chars attrs (f .words) (f .flags) (rowStart (b .page) chars r) c ≡ columnDots b chars attrs f line field c
-  unfolding columnBy cellBy columnDots dotsAt wordOf walkOf
-  same-column c h =
-      let k : min c (hactOf (b .page .irs)) ≡ c = omega arith in
-      rw (← cell-moved (b .page) chars (line / linesOf (b .page .irs)) c, k)
-
-  pub walk-line : joined 0 (hactOf (b .page .irs)) (columnBy w chars attrs (f .words) (f .flags) (rowStart (b .page) chars r)) ≡ lineDots b chars attrs f line field
-  unfolding lineDots
-  walk-line = same-joined 0 (hactOf (b .page .irs)) _ _ (λ c l u. same-column c (omega arith))
+as-column w row looks words flags c out rest e = e
 
 -- ---- the check in two stages, as the code has it: the call's own, then 7 and 8 for the line
 
@@ -166,38 +134,86 @@ draw-passed b chars attrs f line room e =
       roomy = ltb-false _ _ (k .roomy);
     }
 
--- what the drawer has worked out before it goes along the line: the counts, the line's constants, and the row's start
-pub record Prepared (b : Board) (chars unshifted shifted : List ℕ) (line field : ℕ) (t : Timing) (w : Walk) (start : Cell) : Type 0 where
-  pub timed : t ≡ timingOf (b .page .irs)
-  pub walked : w ≡ walkOf b unshifted shifted (line % linesOf (b .page .irs)) field
-  pub started : start ≡ cell (rowStart (b .page) chars (line / linesOf (b .page .irs)))
+-- a column shows the cell so many moves from the row's start
+pub column-content : (b : Board) (chars attrs : List ℕ) (f : Font) (line field c : ℕ) → c < hactOf (b .page .irs)
+    → scanDots b f (line % linesOf (b .page .irs)) field
+    (contentAt (b .page .starts .cursor) chars attrs (advanceBy (bufferOf (b .page .irs)) c (rowStart (b .page) chars (line / linesOf (b .page .irs)))))
+    ≡ columnDots b chars attrs f line field c
+unfolding columnDots dotsAt
+column-content b chars attrs f line field c h =
+    let m : min c (hactOf (b .page .irs)) ≡ c = omega arith in
+    ap (λ (x : ℕ). scanDots b f (line % linesOf (b .page .irs)) field (contentAt (b .page .starts .cursor) chars attrs x))
+    (rw m at (cell-moved (b .page) chars (line / linesOf (b .page .irs)) c))
 
-module _ (b : Board) (chars attrs : List ℕ) (f : Font) (line field : ℕ) (t : Timing) where
-  module _ (w : Walk) (start : Cell) (q : Prepared b chars (f .unshifted) (f .shifted) line field t w start) where
-    pub ready : {room : ℕ} → Drawn b chars attrs f line room → Ready w chars attrs (f .words) (f .flags) (start .address) × (t .counts .hact .0 * w .width .0 ≤ room)
-    unfolding timingOf countsOf walkOf
-    ready k =
-        rw (q .started, q .walked, q .timed) (
-          record {
-            least = k .page .least;
-            most = k .page .most;
-            chars-all = k .chars-all;
-            attrs-all = k .attrs-all;
-            words-all = k .font .words-all;
-            flags-all = k .font .flags-all;
-            bounded = buffer-bounded (b .page .irs);
-            start-lt = row-start-lt (b .page) chars (k .page) (line / linesOf (b .page .irs));
-          },
-          k .roomy,
-        )
+-- what the drawer has before it goes along the line: how many cells, the line's constants, the row's cells, and the levels of the scan line's marks
+pub record Prepared (b : Board) (chars attrs : List ℕ) (f : Font) (line field n : ℕ) (w : Walk) (row looks : List ℕ) : Type 0 where
+  pub counted : n ≡ hactOf (b .page .irs)
+  pub walked : w ≡ walkOf (b .page) (f .unshifted) (f .shifted) (line % linesOf (b .page .irs))
+  pub beyond : List ℕ
+  pub row-is : row
+      ≡ tab n (cellBy chars attrs (bufferOf (b .page .irs)) (b .page .starts .cursor) (rowStart (b .page) chars (line / linesOf (b .page .irs)))) ++ beyond
+  pub above : List ℕ
+  pub looks-is : looks ≡ tab 128 (levelsOf (sceneOf b (line % linesOf (b .page .irs)) field)) ++ above
 
-    pub drawn : (out out₀ : List ℕ)
-        → out ≡ joined 0 (t .counts .hact .0) (columnBy w chars attrs (f .words) (f .flags) (start .address)) ++ drop (t .counts .hact .0 * w .width .0) out₀
-        → out ≡ lineDots b chars attrs f line field ++ drop (lineLength b) out₀
-    unfolding timingOf countsOf walkOf
-    drawn out out₀ e =
-        (rw (q .started, q .walked, q .timed) at e)
-        ∙ ap (λ (l : List ℕ). l ++ drop (lineLength b) out₀) (walk-line b chars attrs f line field)
+-- the same in the words of the calls that made it
+pub prepared-of : (b : Board) (chars attrs : List ℕ) (f : Font) (line field : ℕ) {row looks : List ℕ} (beyond above : List ℕ) {t : Timing} {r : ℕ} {s : Lines} {w : Walk} {start : Cell} {u : Buffer} {scene : Scene}
+    → t ≡ timingOf (b .page .irs) → r ≡ line / linesOf (b .page .irs) → s ≡ lines (line % linesOf (b .page .irs)) → w ≡ walkOf (b .page) (f .unshifted) (f .shifted) (s .0)
+    → start ≡ cell (rowStart (b .page) chars r) → u ≡ bufferOf (b .page .irs)
+    → row ≡ tab (t .counts .hact .0) (cellBy chars attrs u (b .page .starts .cursor) (start .address)) ++ beyond → scene ≡ sceneOf b (s .0) field → looks ≡ tab 128 (levelsOf scene) ++ above
+    → Prepared b chars attrs f line field (t .counts .hact .0) w row looks
+unfolding timingOf countsOf
+prepared-of b chars attrs f line field beyond above te re se we starts ue row-e scene-e looks-e = record {
+  counted = rw te;
+  walked = rw se at we;
+  beyond = beyond;
+  row-is = rw (starts, re, ue) at row-e;
+  above = above;
+  looks-is = rw (scene-e, se) at looks-e;
+}
+
+module _ (b : Board) (chars attrs : List ℕ) (f : Font) (line field n : ℕ) (w : Walk) (row looks : List ℕ) (q : Prepared b chars attrs f line field n w row looks)
+    (bytes : (i : ℕ) → getD chars i 0 < 256) where
+  abbrev scan : ℕ
+  scan = line % linesOf (b .page .irs)
+
+  abbrev r : ℕ
+  r = line / linesOf (b .page .irs)
+
+  abbrev content : ℕ → Content
+  content c = contentAt (b .page .starts .cursor) chars attrs (advanceBy (bufferOf (b .page .irs)) c (rowStart (b .page) chars r))
+
+  numbered : (c : ℕ) → c < n → getD row c 0 ≡ numberFor (content c)
+  numbered c h = gathered chars attrs _ _ _ n row (q .beyond) (q .row-is) c h
+
+  same-column : Accepted (b .page) → (c : ℕ) → c < n → columnBy w row looks (f .words) (f .flags) c ≡ columnDots b chars attrs f line field c
+  unfolding columnBy dotsFor walkOf
+  same-column a c h =
+      rw (q .walked, numbered c h, code-of (content c) (bytes _), mark-of (content c) (bytes _))
+      (by-word b f scan field a (content c) (getD looks (markOf (content c .attributes) (content c .here)) 0)
+      (looked-up (sceneOf b scan field) (content c .attributes) (content c .here) looks (q .above) (q .looks-is)) ∙ column-content b chars attrs f line field c (omega (arith, q .counted)))
+
+  pub ready : {room : ℕ} → Drawn b chars attrs f line room → n ≤ length row → length looks ≡ 128 → Ready w row looks (f .words) (f .flags) n × (n * w .width .0 ≤ room)
+  unfolding walkOf
+  ready k l all = (
+    record {
+      least = rw (q .walked) (k .page .least);
+      most = rw (q .walked) (k .page .most);
+      few = l;
+      marked = gathered-lt chars attrs _ _ _ n row (q .beyond) (q .row-is) bytes;
+      looks-all = all;
+      words-all = k .font .words-all;
+      flags-all = k .font .flags-all;
+    },
+    rw (q .walked, q .counted) (k .roomy),
+  )
+
+  pub drawn : Accepted (b .page) → (out out₀ : List ℕ) → out ≡ joined 0 n (columnBy w row looks (f .words) (f .flags)) ++ drop (n * w .width .0) out₀
+      → out ≡ lineDots b chars attrs f line field ++ drop (lineLength b) out₀
+  unfolding walkOf lineDots
+  drawn a out out₀ e =
+      e
+      ∙ ap (λ (l : List ℕ). l ++ drop (n * w .width .0) out₀) (same-joined 0 n _ _ (λ c l u. same-column a c (omega arith)))
+      ∙ rw (q .walked, q .counted)
 
 -- ---- what the call leaves
 

@@ -10,82 +10,61 @@ ghost use Rattle.timing.specs.Fields.{hactOf, visibleOf};
 ghost use Rattle.timing.specs.Laws.{Accepted};
 ghost use Rattle.video.specs.At.{lentRefused};
 ghost use Rattle.line.specs.Line.{drawCheck, drawnOf, lineDots, lineLength};
-ghost use Rattle.line.specs.Walk.{lastOf, walkOf, cellBy, columnBy, Ready, Drawn};
+ghost use Rattle.line.specs.Walk.{lastOf, walkOf, dotsFor, columnBy, Ready, Drawn};
 
-// What is the same for all cells of a line: the scene, where the scan line stands in the font's two lists, the buffer, the width of a cell.
+// What is the same for all cells of a line: where the scan line stands in the font's two lists, and the width of a cell.
 pub struct Walk {
-    pub scene: video::Scene,
     pub plain: usize,
     pub moved: usize,
-    pub buffer: raster::Buffer,
     pub width: units::Dots,
 }
 
-// Writes the d dots of one cell to the front of out.
-fn put(
-    out: &mut [u8],
-    w: Walk,
-    words: &[u16],
-    flags: &[u8],
-    code: u8,
-    attr: u8,
-    at: usize,
-    d: usize,
-)
-    requires { ⌜ (length (now words) ≡ 1152) × (length (now flags) ≡ 128) ⌝ }
+// Writes the d dots of one cell, from its number, to the front of out.
+fn put(out: &mut [u8], w: Walk, looks: &[u16], words: &[u16], flags: &[u8], number: u16, d: usize)
+    requires { ⌜ (length (now looks) ≡ 128) × (length (now words) ≡ 1152) × (length (now flags) ≡ 128) × (number < 32768) ⌝ }
     requires { ⌜ (d ≡ w .width .0) × (6 ≤ d) × (d ≤ 12) × (d ≤ length (now out)) ⌝ }
     ensures { λ _. ⌜ now (out .exit)
-        ≡ cellBy w (now (words .entry)) (now (flags .entry)) code attr at ++ drop (w .width .0) (now (out .entry)) ⌝ }
+        ≡ dotsFor w (now (looks .entry)) (now (words .entry)) (now (flags .entry)) number ++ drop (w .width .0) (now (out .entry)) ⌝ }
 {
-    let scene = w.scene;
-    let cursor = video::cursor_at(scene, at);
-    let look = video::look_of(scene, video::effective_of(attr), cursor);
-    let word = shape::word_by(words, flags, w.plain, w.moved, code);
-    video::write_cell(out, look.lit, look.symbol, look.surround, word, d);
+    let mark = (number / 256) as usize;
+    let levels = looks[mark];
+    let word = shape::word_by(words, flags, w.plain, w.moved, (number % 256) as u8);
+    dots::write_cell(out, (levels % 256) as u8, (levels / 256) as u8, word, d);
 }
 
-// Writes n cells' dots, fetched from a row's start on, each into its own stretch.
+// Writes the dots of n cells, each into its own stretch.
 fn cells(
     out: &mut [u8],
     w: Walk,
-    chars: &[u8],
-    attrs: &[u8],
+    row: &[u16],
+    looks: &[u16],
     words: &[u16],
     flags: &[u8],
-    start: raster::Cell,
     n: units::Clocks,
 )
-    requires { ⌜ Ready w (now chars) (now attrs) (now words) (now flags) (start .address) ⌝ }
+    requires { ⌜ Ready w (now row) (now looks) (now words) (now flags) (n .0) ⌝ }
     requires { ⌜ n .0 * w .width .0 ≤ length (now out) ⌝ }
     ensures { λ _. ⌜ now (out .exit)
-        ≡ joined 0 (n .0) (columnBy w (now (chars .entry)) (now (attrs .entry)) (now (words .entry)) (now (flags .entry)) (start .address))
+        ≡ joined 0 (n .0) (columnBy w (now (row .entry)) (now (looks .entry)) (now (words .entry)) (now (flags .entry)))
         ++ drop (n .0 * w .width .0) (now (out .entry)) ⌝ }
 {
     let count = n.0 as usize;
     let d = w.width.0 as usize;
-    let buffer = w.buffer;
-    let mut cell = start;
     let mut c = 0;
     while c < count {
         let a = c * d;
-        let address = cell.address;
-        let at = address as usize;
-        put(&mut out[a..], w, words, flags, chars[at], attrs[at], at, d);
-        cell = raster::advance_one(buffer, cell);
+        put(&mut out[a..], w, looks, words, flags, row[c], d);
         c += 1;
     }
 }
 
-fn walk_of(b: board::Board, unshifted: &[u8], shifted: &[u8], scan: units::Lines, field: u8) -> Walk
-    ensures { λ r. ⌜ r ≡ walkOf b (now (unshifted .entry)) (now (shifted .entry)) (scan .0) field ⌝ }
+fn walk_of(p: board::Page, unshifted: &[u8], shifted: &[u8], scan: units::Lines) -> Walk
+    ensures { λ r. ⌜ r ≡ walkOf p (now (unshifted .entry)) (now (shifted .entry)) (scan .0) ⌝ }
 {
-    let irs = b.page.irs;
-    let width = b.page.video.dots;
+    let width = p.video.dots;
     Walk {
-        scene: video::scene_of(b, scan, field),
         plain: shape::position(unshifted, scan),
         moved: shape::position(shifted, scan),
-        buffer: timing::buffer_of(irs),
         width,
     }
 }
@@ -117,7 +96,7 @@ fn draw_check(b: board::Board, size: bool, line: units::Lines, room: usize) -> r
 }
 
 // A line that nothing refuses.
-fn whole_line(
+pub fn whole_line(
     out: &mut [u8],
     b: board::Board,
     chars: &[u8],
@@ -139,9 +118,22 @@ fn whole_line(
     let t = timing::timing_of(irs);
     let row = timing::row_of(irs, line);
     let scan = timing::line_of_row(irs, line);
-    let w = walk_of(b, unshifted, shifted, scan, field);
+    let w = walk_of(page, unshifted, shifted, scan);
     let start = fetch::row_start(page, chars, row);
-    cells(out, w, chars, attrs, words, flags, start, t.counts.hact);
+    let n = t.counts.hact;
+    let mut row_cells = [0u16; 256];
+    let mut looks = [0u16; 128];
+    tables::gather(
+        &mut row_cells,
+        chars,
+        attrs,
+        timing::buffer_of(irs),
+        start,
+        page.starts.cursor,
+        n.0 as usize,
+    );
+    tables::looks(&mut looks, video::scene_of(b, scan, field));
+    cells(out, w, &row_cells, &looks, words, flags, n);
 }
 
 // Draws a visible line as it looks in a field, HACT x dots bytes at the front of out.

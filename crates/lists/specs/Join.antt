@@ -3,14 +3,17 @@
 --     same-joined            stretches that agree one by one make the same list
 --     length-joined          n stretches of d are n * d long
 --     join-begins, join-turn, join-ends     the loop's proof, where every stretch is d long: what is left after c turns is `joined c (n - c) f`
---     stretch-inside                 stretch c lies within the buffer
-use mathlib.Core.Path.{_≡_, refl, sym, ap₂}
-use mathlib.Core.List.{List, [], _++_}
+--     stretch-inside         stretch c lies within the buffer
+--     join-all               stretches of stretches are stretches
+--     join-element           an element of one of them
+use mathlib.Core.Path.{_≡_, refl, sym, ap, ap₂, _∙_}
+use mathlib.Core.List.{List, [], _++_, append-assoc}
 use Prim.Native.Nat.{ℕ, zero, suc, _+_, _*_, _-_, _≤_, _<_}
-use native.Mathlib.Nat.{zero-mul, suc-mul, add-mul, one-mul, sub-zero, mul-le-mul-right}
+use native.Mathlib.Nat.{zero-mul, suc-mul, add-mul, one-mul, sub-zero, mul-le-mul-right, add-zero, zero-add, add-suc, suc-add, not-suc-le-zero, le-of-suc-le-suc}
 use native.Mathlib.Numerals.{add-one}
 use native.Mathlib.Omega.{arith}
-use lib.ListN.{length, take, drop, length-append}
+use lib.ListN.{length, take, drop, getD, length-append, List·getD-append}
+use lib.Seq.{getD-append-add}
 use Rattle.lists.specs.Fill.{Filling, fill-start, fill-part, fill-end, lent}
 
 unfoldable pub joined : (from n : ℕ) → (ℕ → List ℕ) → List ℕ
@@ -57,3 +60,45 @@ module _ (f : ℕ → List ℕ) (d : ℕ) (each : (c : ℕ) → length (f c) ≡
 
   pub join-ends : {final out₀ out : List ℕ} (c n : ℕ) → Filling final out₀ (n * d) out (c * d) (joined c (n - c) f) → c ≤ n → n ≤ c → out ≡ final
   join-ends c n g l h = let e : c ≡ n = omega arith in fill-end (rw (none c n h, e) at g)
+
+shifted : (f : ℕ → List ℕ) (a k n : ℕ) → joined k n (λ (s : ℕ). f (a + s)) ≡ joined (a + k) n f
+unfolding joined
+shifted f a k zero = refl
+shifted f a k (suc n) = ap (λ (l : List ℕ). f (a + k) ++ l) (shifted f a (suc k) n ∙ ap (λ (i : ℕ). joined i n f) (add-suc a k))
+
+added : (f : ℕ → List ℕ) (a m n : ℕ) → joined a (m + n) f ≡ joined a m f ++ joined (a + m) n f
+unfolding joined
+added f a zero n = rw (zero-add, add-zero)
+added f a (suc m) n =
+    let e : suc a + m ≡ a + suc m = omega arith in
+    rw (suc-add m n, append-assoc) (ap (λ (l : List ℕ). f a ++ l) (added f (suc a) m n ∙ ap (λ (i : ℕ). joined (suc a) m f ++ joined i n f) e))
+
+nested : (f : ℕ → List ℕ) (k c n : ℕ) → joined c n (λ (r : ℕ). joined 0 k (λ (s : ℕ). f (r * k + s))) ≡ joined (c * k) (n * k) f
+unfolding joined
+nested f k c zero = rw zero-mul
+nested f k c (suc n) =
+    let e : suc c * k ≡ c * k + k = omega (arith, suc-mul c k) in
+    let z : suc n * k ≡ k + n * k = omega (arith, suc-mul n k) in
+    ap₂ (λ (x t : List ℕ). x ++ t) (shifted f (c * k) 0 k ∙ ap (λ (i : ℕ). joined i k f) (add-zero (c * k))) (nested f k (suc c) n ∙ ap (λ (i : ℕ). joined i (n * k) f) e)
+    ∙ sym (rw z (added f (c * k) k (n * k)))
+
+-- n times k stretches are n * k
+pub join-all : (f : ℕ → List ℕ) (k n : ℕ) → joined 0 n (λ (r : ℕ). joined 0 k (λ (s : ℕ). f (r * k + s))) ≡ joined 0 (n * k) f
+join-all f k n = nested f k 0 n ∙ ap (λ (i : ℕ). joined i (n * k) f) (zero-mul k)
+
+-- element i of stretch s, where every stretch is d long
+element : (f : ℕ → List ℕ) (d : ℕ) (each : (c : ℕ) → length (f c) ≡ d) (rest : List ℕ) (n c s i : ℕ) → s < n → i < d
+    → getD (joined c n f ++ rest) (s * d + i) 0 ≡ getD (f (c + s)) i 0
+unfolding joined
+element f d each rest zero c s i h l = absurd (not-suc-le-zero h)
+element f d each rest (suc n) c zero i h l =
+    let e : 0 * d + i ≡ i = omega (arith, zero-mul d) in
+    rw (e, append-assoc, add-zero) (List·getD-append (f c) (joined (suc c) n f ++ rest) 0 i (rw (each c) l))
+element f d each rest (suc n) c (suc s) i h l =
+    let e : suc s * d + i ≡ length (f c) + (s * d + i) = omega (arith, suc-mul s d, each c) in
+    let k : c + suc s ≡ suc c + s = omega arith in
+    rw (e, append-assoc, k) (getD-append-add (f c) (joined (suc c) n f ++ rest) (s * d + i) 0 ∙ element f d each rest n (suc c) s i (le-of-suc-le-suc h) l)
+
+pub join-element : (f : ℕ → List ℕ) (d : ℕ) (each : (c : ℕ) → length (f c) ≡ d) (xs rest : List ℕ) (n s i : ℕ) → xs ≡ joined 0 n f ++ rest → s < n → i < d
+    → getD xs (s * d + i) 0 ≡ getD (f s) i 0
+join-element f d each xs rest n s i e h l = rw e (element f d each rest n 0 s i h l) ∙ ap (λ (k : ℕ). getD (f k) i 0) (zero-add s)

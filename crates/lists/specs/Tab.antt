@@ -1,7 +1,7 @@
 -- A list given element by element, and the loop that stores it: after i turns the buffer is `tab i f ++ drop i d`. Assumes nothing.
 --     tab                      f 0, f 1, .., n of them
 --     length-tab, getD-tab     how many there are, and each one
---     tab-turn, tab-ends               one tab-turn of such a loop, and its end, as a loop's proof asks for them
+--     tab-turn, tab-upto, tab-ends     one turn of such a loop, its end at n, and at the end of the buffer, as a loop's proof asks for them
 --     tab-part                 where f reads a list from a place on, it is a part of that list
 use mathlib.Core.Path.{_≡_, refl, sym, ap, _∙_, subst}
 use mathlib.Core.List.{List, [], _∷_, _++_, append-nil}
@@ -44,6 +44,11 @@ stored n f d l =
 module _ (f : ℕ → ℕ) (d₀ d : List ℕ) (i : ℕ) (e : d ≡ tab i f ++ drop i d₀) where
   pub tab-turn : (v : ℕ) → i < length d₀ → v ≡ f i → set d i v ≡ tab (i + 1) f ++ drop (i + 1) d₀
   tab-turn v l q = rw (e, q) (stored i f d₀ l)
+
+  pub tab-upto : (n : ℕ) → i ≤ n → n ≤ i → d ≡ tab n f ++ drop n d₀
+  tab-upto n l h =
+      let q : i ≡ n = omega arith in
+      rw q at e
 
   pub tab-ends : i ≡ length d₀ → d ≡ tab (length d₀) f
   tab-ends q = e ∙ rw (q, drop-length d₀) (append-nil (tab (length d₀) f))

@@ -22,8 +22,8 @@ use Rattle.video.specs.declared.Look.{Look}
 use Rattle.video.specs.Scene.{sceneOf, cursorAt}
 use Rattle.video.specs.Look.{blankLook, effective, lookOf}
 use Rattle.video.specs.Cell.{shadeOf, litBits, cellDots}
-use Rattle.video.specs.At.{lentRefused, dotsAt}
-use Rattle.video.specs.Width.{length-cell}
+use Rattle.video.specs.At.{lentRefused, scanDots, dotsAt}
+use Rattle.dots.specs.Width.{length-cell}
 use Rattle.place.specs.declared.Carried.{Carried}
 use Rattle.place.specs.Place.{activeAt, loadedIn, movedIn, turnedIn}
 use Rattle.place.specs.State.{withPlace}
@@ -93,7 +93,7 @@ module _ (b : Board) (chars attrs : List ℕ) (f : Font) where
     pub dots-active : activeAt (b .page) (b .place) ≡ true
         → r ≡ padded (cellDots (lookOf scene (effective (getD attrs a 0)) (cursorAt scene a)) (wordOf f (getD chars a 0) (scanIn b)) (b .page .video .dots .0)) (b .page .video .dots .0)
         → r ≡ clockDots b chars attrs f a
-    unfolding clockDots dotsAt
+    unfolding clockDots dotsAt scanDots sceneOf
     dots-active t q = rw t (rw e at q)
 
     pub dots-blank : activeAt (b .page) (b .place) ≡ false → r ≡ padded (replicate (b .page .video .dots .0) (scene .blank)) (b .page .video .dots .0) → r ≡ clockDots b chars attrs f a

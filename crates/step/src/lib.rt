@@ -89,7 +89,7 @@ fn shown_dots(
     let cursor = video::cursor_at(scene, address);
     let look = video::look_of(scene, video::effective_of(attr), cursor);
     let word = shape::word_of(code, scan_in(b), words, flags, unshifted, shifted);
-    video::draw_cell(&mut out, look, word, b.page.video.dots);
+    dots::draw_cell(&mut out, look, word, b.page.video.dots);
     out
 }
 
@@ -104,7 +104,7 @@ fn blank_dots(b: board::Board, level: u8) -> [u8; 12]
         symbol: level,
         surround: level,
     };
-    video::draw_cell(&mut out, look, 0, b.page.video.dots);
+    dots::draw_cell(&mut out, look, 0, b.page.video.dots);
     out
 }
 

@@ -4,7 +4,3 @@ pub mod Scene
 pub mod Look
 pub mod Cell
 pub mod At
-pub mod Stores
-pub mod Width
-pub mod Bytes
-pub mod Flat

@@ -1,16 +1,12 @@
-// The attributes controller (000): from a cell's attributes, the cursor gate and a font word to black, gray and white dots.
+// The attributes controller (000): from a cell's attributes and the cursor gate to its levels, black, gray and white.
 ghost use mathlib.Core.Path.{_≡_};
 ghost use mathlib.Core.Bool.{xor};
-ghost use mathlib.Core.List.{_++_};
 ghost use Prim.Native.Nat.{_≤_, _<_};
-ghost use lib.ListN.{length, drop};
 ghost use Rattle.video.specs.Levels.{hasBit, blankLevel, symbolLevel, surroundLevel};
 ghost use Rattle.video.specs.Scene.{blinkAt, cursorGate, sceneOf, cursorAt};
-ghost use Rattle.video.specs.Look.{effective, lookWith, lookOf};
-ghost use Rattle.video.specs.Cell.{shadeOf, cellDots};
+ghost use Rattle.video.specs.Look.{effective, lookOf};
 ghost use Rattle.shape.specs.Font.{lentFont};
 ghost use Rattle.video.specs.At.{lentRefused};
-ghost use Rattle.video.specs.Stores.{wideOf, putIf, puts, spreadOf, blendOf};
 
 // What is the same for all cells of a scan line: whether the picture is shown, the blank level, BKGND, BLINK, whether this is the
 // underline line and the strike line, whether the cursor gate opens on this line, and at which address.
@@ -141,118 +137,6 @@ pub fn look_of(s: Scene, attributes: u8, cursor: bool) -> Look
         symbol: symbol_level(e, highlight, hidden),
         surround: surround_level(e, highlight),
     }
-}
-
-fn shade(symbol: u8, surround: u8, bit: u16) -> u8
-    ensures { λ r. ⌜ r ≡ shadeOf symbol surround bit ⌝ }
-{
-    if bit == 0 { surround } else { symbol }
-}
-
-// The number whose low d bits are the cell's dots.
-fn wide(lit: bool, word: u16, d: usize) -> u16
-    requires { ⌜ word < 1024 ⌝ }
-    ensures { λ r. ⌜ r ≡ wideOf lit word d ⌝ }
-{
-    if lit {
-        return 4095;
-    }
-    if 10 < d { 2 * word } else { word }
-}
-
-// One dot at k, where the cell is that wide.
-fn dot(out: &mut [u8], k: usize, d: usize, symbol: u8, surround: u8, bit: u16)
-    requires { ⌜ d ≤ length (now out) ⌝ }
-    ensures { λ _. ⌜ now (out .exit) ≡ putIf (now (out .entry)) k d (shadeOf symbol surround bit) ⌝ }
-{
-    if k < d {
-        out[k] = shade(symbol, surround, bit);
-    }
-}
-
-// The first six dots, which every cell has.
-fn six(out: &mut [u8], d: usize, symbol: u8, surround: u8, w: u16)
-    requires { ⌜ (6 ≤ d) × (d ≤ length (now out)) ⌝ }
-    ensures { λ _. ⌜ now (out .exit) ≡ puts d symbol surround 6 (now (out .entry)) 0 w ⌝ }
-{
-    out[0] = shade(symbol, surround, w % 2);
-    out[1] = shade(symbol, surround, w / 2 % 2);
-    out[2] = shade(symbol, surround, w / 4 % 2);
-    out[3] = shade(symbol, surround, w / 8 % 2);
-    out[4] = shade(symbol, surround, w / 16 % 2);
-    out[5] = shade(symbol, surround, w / 32 % 2);
-}
-
-// Four bits, each in a byte of its own: the product has each at the lowest place of a byte, which the mask keeps.
-fn spread(w: u16) -> u64
-    ensures { λ r. ⌜ r ≡ spreadOf 4 w ⌝ }
-{
-    ((w % 16) as u64 * 0x20_4081) & 0x0101_0101
-}
-
-// Eight dots, each in a byte of its own: symbol times the bytes that are 1, and surround times those that are 0.
-fn blend(symbol: u8, surround: u8, w: u16) -> u64
-    ensures { λ r. ⌜ r ≡ blendOf symbol surround 8 w ⌝ }
-{
-    let s = spread(w) + spread(w / 16) * 0x1_0000_0000;
-    s * symbol as u64 + (0x0101_0101_0101_0101 - s) * surround as u64
-}
-
-// The first eight dots of a cell that has so many. They are bytes of one number, so that the compiler stores them at once.
-fn eight(out: &mut [u8], d: usize, symbol: u8, surround: u8, w: u16)
-    requires { ⌜ (8 ≤ d) × (d ≤ length (now out)) ⌝ }
-    ensures { λ _. ⌜ now (out .exit) ≡ puts d symbol surround 8 (now (out .entry)) 0 w ⌝ }
-{
-    let v = blend(symbol, surround, w);
-    out[0] = (v % 256) as u8;
-    out[1] = (v / 0x100 % 256) as u8;
-    out[2] = (v / 0x1_0000 % 256) as u8;
-    out[3] = (v / 0x100_0000 % 256) as u8;
-    out[4] = (v / 0x1_0000_0000 % 256) as u8;
-    out[5] = (v / 0x100_0000_0000 % 256) as u8;
-    out[6] = (v / 0x1_0000_0000_0000 % 256) as u8;
-    out[7] = (v / 0x100_0000_0000_0000 % 256) as u8;
-}
-
-// The dots after the first eight, of those that the cell has.
-fn four(out: &mut [u8], d: usize, symbol: u8, surround: u8, w: u16)
-    requires { ⌜ d ≤ length (now out) ⌝ }
-    ensures { λ _. ⌜ now (out .exit) ≡ puts d symbol surround 4 (now (out .entry)) 8 w ⌝ }
-{
-    dot(out, 8, d, symbol, surround, w % 2);
-    dot(out, 9, d, symbol, surround, w / 2 % 2);
-    dot(out, 10, d, symbol, surround, w / 4 % 2);
-    dot(out, 11, d, symbol, surround, w / 8 % 2);
-}
-
-// Writes the d dots of a cell to the front of the part it is lent.
-pub fn write_cell(out: &mut [u8], lit: bool, symbol: u8, surround: u8, word: u16, d: usize)
-    requires { ⌜ (word < 1024) × (6 ≤ d) × (d ≤ 12) × (d ≤ length (now out)) ⌝ }
-    ensures { λ _. ⌜ now (out .exit) ≡ cellDots (lookWith lit symbol surround) word d ++ drop d (now (out .entry)) ⌝ }
-{
-    let w = wide(lit, word, d);
-    if d < 8 {
-        six(out, d, symbol, surround, w);
-        dot(out, 6, d, symbol, surround, w / 64 % 2);
-    } else {
-        eight(out, d, symbol, surround, w);
-        four(out, d, symbol, surround, w / 256);
-    }
-}
-
-// The same of a cell's look, as wide as a page's cells are.
-pub fn draw_cell(out: &mut [u8], look: Look, word: u16, width: units::Dots)
-    requires { ⌜ (word < 1024) × (6 ≤ width .0) × (width .0 ≤ 12) × (width .0 ≤ length (now out)) ⌝ }
-    ensures { λ _. ⌜ now (out .exit) ≡ cellDots look word (width .0) ++ drop (width .0) (now (out .entry)) ⌝ }
-{
-    write_cell(
-        out,
-        look.lit,
-        look.symbol,
-        look.surround,
-        word,
-        width.0 as usize,
-    );
 }
 
 // 3, for the memories and the font.

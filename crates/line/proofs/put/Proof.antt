@@ -1,33 +1,41 @@
-use mathlib.Core.Path.{_∙_}
+use Prim.Native.Nat.{_/_}
+use native.Mathlib.Omega.{arith}
 use borrow.Author.Needs.{needs}
 use Rattle.shape.specs.Laws.{by-small}
-use Rattle.line.specs.Walk.{cellBy}
+use Rattle.line.specs.Walk.{dotsFor}
 use Rattle.line.proofs.put.Statement.{statement}
 use Rattle.line.proofs.put.Tie as tie
 
+-- where the function begins, from the place where the word is known
+abbrev begin : tie.After-word-by → tie.Start
+begin c = c .before .before .before .before .before .before
+
+cast-write-cell-2 : tie.Need-cast-write-cell-2
+cast-write-cell-2 c = omega (arith, c .before .before .shared-slice-known4 .given (begin (c .before) .args .number / 256))
+
 write-cell-requires : tie.Need-write-cell-requires
 write-cell-requires c κs =
-    let pre = c .before .before .before .before .before .before .before .before .before .pre in
+    let pre = begin (c .before) .pre in
     (rw (c .before .word-by .ensures) (by-small _ _ _ _ _), pre .1 .1, pre .1 .2, pre .1 .3)
 
 returns : tie.Need-returns
-unfolding cellBy
+unfolding dotsFor
 returns c =
     let drawn = c .before .before in
     let word = drawn .before .before in
-    let look = word .before in
-    let attributes = look .before in
-    drawn .write-cell .ensures
-    ∙ rw (word .word-by .ensures, look .look-of .ensures, attributes .effective-of .ensures, attributes .before .cursor-at .ensures, attributes .before .before .before .before .before .before .pre .1 .0)
+    rw (word .word-by .ensures, begin word .pre .1 .0) at (drawn .write-cell .ensures)
 
 pub put-spec : {M : Type 1} → statement M
 put-spec =
     tie.close
     (tie.spec
+    (λ c. search needs)
+    (λ c. search needs)
+    (λ c. search needs)
+    (λ c. search needs)
     (λ c κs. search needs)
-    (λ c κs. search needs)
-    (λ c κs. search needs)
-    (λ c κs. search needs)
+    (λ c. search needs)
+    cast-write-cell-2
     write-cell-requires
     (λ c. search needs)
     returns)

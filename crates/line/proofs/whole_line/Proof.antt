@@ -1,19 +1,14 @@
+use Prim.Native.Nat.{ℕ, _≤_, _<_}
 use native.Mathlib.Omega.{arith}
-use Prim.Native.Nat.{ℕ}
-use mathlib.Core.Path.{ap, _∙_}
 use borrow.Author.Needs.{needs}
-use Rattle.units.specs.declared.Lines.{Lines}
-use Rattle.raster.specs.Moves.{cell}
-use Rattle.fetch.specs.Rows.{rowStart}
+use lib.ListN.{getD}
+use Rattle.timing.specs.Fields.{timingOf, countsOf}
+use Rattle.timing.specs.Laws.{buffer-bounded}
+use Rattle.fetch.specs.Laws.{row-start-lt}
 use Rattle.shape.specs.Font.{Font, fontOf}
-use Rattle.line.specs.Walk.{Prepared, walkOf, ready, drawn}
+use Rattle.line.specs.Walk.{Prepared, prepared-of, ready, drawn}
 use Rattle.line.proofs.whole_line.Statement.{statement}
 use Rattle.line.proofs.whole_line.Tie as tie
-
-row-start-requires : tie.Need-row-start-requires
-row-start-requires c κs =
-    let start = c .before .before .before .before .before .before .before .before .before .before .before .before .before in
-    (start .pre .chars-all, rw (c .before .before .row-of .ensures) (omega (arith, start .pre .row-lt)))
 
 -- where the function begins, from the place where the row's start is known, and what is known there
 abbrev begin : tie.After-row-start → tie.Start
@@ -22,24 +17,50 @@ begin c = c .before .before .before .before .before .before .before .before .bef
 abbrev font : tie.After-row-start → Font
 font c = fontOf (begin c .args .words .now) (begin c .args .flags .now) (begin c .args .unshifted .now) (begin c .args .shifted .now)
 
-prepared : (c : tie.After-row-start)
-    → Prepared (begin c .args .b) (begin c .args .chars .now) (font c .unshifted) (font c .shifted) (begin c .args .line .0) (begin c .args .field)
-    (c .before .before .before .before .timing-of .result) (c .before .walk-of .result) (c .row-start .result)
-prepared c = record {
-  timed = c .before .before .before .before .timing-of .ensures;
-  walked = c .before .walk-of .ensures ∙ ap (λ (x : Lines). walkOf (begin c .args .b) (font c .unshifted) (font c .shifted) (x .0) (begin c .args .field)) (c .before .before .line-of-row .ensures);
-  started = c .row-start .ensures ∙ ap (λ (x : ℕ). cell (rowStart (begin c .args .b .page) (begin c .args .chars .now) x)) (c .before .before .before .row-of .ensures);
-}
+row-start-requires : tie.Need-row-start-requires
+row-start-requires c κs =
+    let start = c .before .before .before .before .before .before .before .before .before .before .before .before .before in
+    (start .pre .chars-all, rw (c .before .before .row-of .ensures) (omega (arith, start .pre .row-lt)))
+
+-- a row has at most 256 cells
+few : (c : tie.After-row-start) → c .before .before .before .before .timing-of .result .counts .hact .0 ≤ 256
+unfolding timingOf countsOf
+few c = rw (c .before .before .before .before .timing-of .ensures) (omega arith)
+
+gather-requires : tie.Need-gather-requires
+gather-requires c κs =
+    let k = c .before .before .before .before in (
+      begin k .pre .chars-all,
+      begin k .pre .attrs-all,
+      few k,
+      rw (c .before .buffer-of .ensures) (buffer-bounded _),
+      rw (k .row-start .ensures) (row-start-lt _ _ (begin k .pre .page) _),
+    )
+
+-- the row's start again, from the place where the levels are known
+abbrev started : tie.After-looks2 → tie.After-row-start
+started c = c .before .before .before .before .before .before .before .before .before
+
+prepared : (c : tie.After-looks2)
+    → Prepared (begin (started c) .args .b) (begin (started c) .args .chars .now) (begin (started c) .args .attrs .now) (font (started c)) (begin (started c) .args .line .0)
+    (begin (started c) .args .field) (started c .before .before .before .before .timing-of .result .counts .hact .0) (started c .before .walk-of .result) (c .before .before .before .before .gather .last .0) (c .looks2 .last .0)
+prepared c =
+    let k = started c in
+    prepared-of (begin k .args .b) _ _ (font k) _ _ _ _ (k .before .before .before .before .timing-of .ensures) (k .before .before .before .row-of .ensures) (k .before .before .line-of-row .ensures) (k .before .walk-of .ensures)
+    (k .row-start .ensures) (c .before .before .before .before .before .before .buffer-of .ensures) (c .before .before .before .before .gather .ensures) (c .before .scene-of .ensures) (c .looks2 .ensures)
+
+bytes : (c : tie.After-row-start) (i : ℕ) → getD (begin c .args .chars .now) i 0 < 256
+bytes c i = omega (arith, c .before .before .before .before .before .before .before .before .before .before .before .before .shared-slice-known .given i)
 
 cells-requires : tie.Need-cells-requires
 cells-requires c κs =
-    let k = c .before in
-    ready _ _ (begin k .args .attrs .now) (font k) _ _ _ _ _ (prepared k) (begin k .pre)
+    let k = c .before .before .before .before in
+    ready _ _ _ (font (started k)) _ _ _ _ _ _ (prepared k) (bytes (started k)) (begin (started k) .pre) (omega (arith, few (started k))) (search needs)
 
 returns : tie.Need-returns
 returns c =
-    let k = c .before .before .before .before in
-    drawn _ _ _ (font k) _ _ _ _ _ (prepared k) _ _ (c .before .before .cells .ensures)
+    let k = c .before .before .before .before .before .before .before in
+    drawn _ _ _ (font (started k)) _ _ _ _ _ _ (prepared k) (bytes (started k)) (begin (started k) .pre .page) _ _ (c .before .before .cells .ensures)
 
 pub whole-line-spec : {M : Type 1} → statement M
 whole-line-spec =
@@ -50,6 +71,15 @@ whole-line-spec =
     (λ c κs. search needs)
     (λ c κs. search needs)
     row-start-requires
+    (λ c. search needs)
+    (λ c κs. search needs)
+    (λ c. search needs)
+    gather-requires
+    (λ c. search needs)
+    (λ c κs. search needs)
+    (λ c κs. search needs)
+    (λ c. search needs)
+    (λ c. search needs)
     cells-requires
     (λ c. search needs)
     returns)

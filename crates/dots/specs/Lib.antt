@@ -1,0 +1,7 @@
+-- A cell's dots, as they are stored.
+pub mod Stores
+pub mod Width
+pub mod Bytes
+pub mod Overlap
+pub mod Spread
+pub mod Rest

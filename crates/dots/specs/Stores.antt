@@ -1,0 +1,56 @@
+-- The cell as it is stored: every width is the low d bits of one number, and several dots are the bytes of another.
+-- `Width` and `Spread` tie this to the definition. Assumes nothing.
+use Prim.Native.Nat.{ℕ, zero, suc, _+_, _*_, _-_, _/_, _%_}
+use mathlib.Core.List.{List, [], _∷_, _++_}
+use lib.ListN.{set, take}
+use lib.Dec.{ltb, leb}
+use Rattle.lists.specs.Choice.{pick}
+use Rattle.video.specs.declared.Look.{Look}
+use Rattle.video.specs.Cell.{shadeOf}
+
+-- the number whose low d bits are the cell's dots, where no line lights them
+unfoldable pub wideOf : ℕ → ℕ → ℕ
+wideOf w d = pick (ltb 10 d) (2 * w) w
+
+-- a lit cell shows its symbol's level only
+abbrev pub underOf : Look → ℕ
+underOf k = pick (k .lit) (k .symbol) (k .surround)
+
+-- out with v at k, where k is below d
+unfoldable pub putIf : List ℕ → ℕ → ℕ → ℕ → List ℕ
+putIf out k d v = pick (ltb k d) (set out k v) out
+
+-- n dots from the low bits of w put at k and on, of those below d
+unfoldable pub puts : (d symbol surround n : ℕ) → List ℕ → (k w : ℕ) → List ℕ
+puts d symbol surround zero out k w = out
+puts d symbol surround (suc n) out k w = puts d symbol surround n (putIf out k d (shadeOf symbol surround (w % 2))) (k + 1) (w / 2)
+
+-- n bits of w, each in a byte of its own, lowest first
+unfoldable pub spreadOf : ℕ → ℕ → ℕ
+spreadOf zero w = 0
+spreadOf (suc n) w = w % 2 + 256 * spreadOf n (w / 2)
+
+-- n dots from the low bits of w, each in a byte of its own, lowest first
+unfoldable pub blendOf : (symbol surround n w : ℕ) → ℕ
+blendOf symbol surround zero w = 0
+blendOf symbol surround (suc n) w = shadeOf symbol surround (w % 2) + 256 * blendOf symbol surround n (w / 2)
+
+-- bytes of 0 and 1, eight of them, to bytes of two levels
+abbrev pub mixOf : (s symbol surround : ℕ) → ℕ
+mixOf s symbol surround = s * symbol + (72340172838076673 - s) * surround
+
+-- n bytes of v, the lowest first
+unfoldable pub bytesOf : ℕ → ℕ → List ℕ
+bytesOf zero v = []
+bytesOf (suc n) v = (v % 256) ∷ bytesOf n (v / 256)
+
+-- d bytes: of the first n the front, then the last n
+unfoldable pub overlapOf : (n d first last : ℕ) → List ℕ
+overlapOf n d first last = take (d - n) (bytesOf n first) ++ bytesOf n last
+
+-- d dots from the first eight and the last eight, each in a byte of its own
+unfoldable pub dotsBy : (low high symbol surround d : ℕ) → List ℕ
+dotsBy low high symbol surround d =
+    pick (leb d 8)
+    (bytesOf d (mixOf low symbol surround))
+    (overlapOf 8 d (mixOf low symbol surround) (mixOf high symbol surround))

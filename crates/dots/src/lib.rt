@@ -1,0 +1,157 @@
+// The dots of a cell into a buffer, a byte each and several to a store.
+ghost use mathlib.Core.Path.{_≡_};
+ghost use mathlib.Core.List.{_++_};
+ghost use Prim.Native.Nat.{_≤_, _<_};
+ghost use lib.ListN.{length, drop};
+ghost use Rattle.video.specs.Cell.{shadeOf, cellDots};
+ghost use Rattle.dots.specs.Stores.{wideOf, underOf, putIf, puts, spreadOf, mixOf, bytesOf, overlapOf, dotsBy};
+ghost use Rattle.dots.specs.Width.{shades};
+
+// Four bits, each in a byte of its own: the product has each at the lowest place of a byte, which the mask keeps.
+fn nibble(w: u16) -> u64
+    ensures { λ r. ⌜ r ≡ spreadOf 4 w ⌝ }
+{
+    ((w % 16) as u64 * 0x20_4081) & 0x0101_0101
+}
+
+// Eight bits, each in a byte of its own.
+pub fn spread(w: u16) -> u64
+    ensures { λ r. ⌜ r ≡ spreadOf 8 w ⌝ }
+{
+    nibble(w) + nibble(w / 16) * 0x1_0000_0000
+}
+
+// The number whose low d bits are the cell's dots.
+pub fn wide(word: u16, d: usize) -> u16
+    requires { ⌜ word < 1024 ⌝ }
+    ensures { λ r. ⌜ r ≡ wideOf word d ⌝ }
+{
+    if 10 < d { 2 * word } else { word }
+}
+
+// The symbol's level in the bytes of s that are 1, the surround's in those that are 0.
+fn mix(s: u64, symbol: u8, surround: u8) -> u64
+    requires { ⌜ s ≤ 72340172838076673 ⌝ }
+    ensures { λ r. ⌜ r ≡ mixOf s symbol surround ⌝ }
+{
+    s * symbol as u64 + (0x0101_0101_0101_0101 - s) * surround as u64
+}
+
+// Four bytes of a number at the front of out. The compiler stores them at once.
+fn four(out: &mut [u8], v: u64)
+    requires { ⌜ 4 ≤ length (now out) ⌝ }
+    ensures { λ _. ⌜ now (out .exit) ≡ bytesOf 4 v ++ drop 4 (now (out .entry)) ⌝ }
+{
+    out[0] = (v % 256) as u8;
+    out[1] = (v / 0x100 % 256) as u8;
+    out[2] = (v / 0x1_0000 % 256) as u8;
+    out[3] = (v / 0x100_0000 % 256) as u8;
+}
+
+// Eight of them.
+fn eight(out: &mut [u8], v: u64)
+    requires { ⌜ 8 ≤ length (now out) ⌝ }
+    ensures { λ _. ⌜ now (out .exit) ≡ bytesOf 8 v ++ drop 8 (now (out .entry)) ⌝ }
+{
+    out[0] = (v % 256) as u8;
+    out[1] = (v / 0x100 % 256) as u8;
+    out[2] = (v / 0x1_0000 % 256) as u8;
+    out[3] = (v / 0x100_0000 % 256) as u8;
+    out[4] = (v / 0x1_0000_0000 % 256) as u8;
+    out[5] = (v / 0x100_0000_0000 % 256) as u8;
+    out[6] = (v / 0x1_0000_0000_0000 % 256) as u8;
+    out[7] = (v / 0x100_0000_0000_0000 % 256) as u8;
+}
+
+// Four to eight bytes of a number: the first four and the last four, which overlap.
+fn narrow(out: &mut [u8], v: u64, d: usize)
+    requires { ⌜ (4 ≤ d) × (d ≤ 8) × (d ≤ length (now out)) ⌝ }
+    ensures { λ _. ⌜ now (out .exit) ≡ bytesOf d v ++ drop d (now (out .entry)) ⌝ }
+{
+    four(out, v);
+    let e = d - 4;
+    four(&mut out[e..], v >> (8 * e));
+}
+
+// Eight to sixteen bytes: the first eight and the last eight.
+fn broad(out: &mut [u8], first: u64, last: u64, d: usize)
+    requires { ⌜ (8 ≤ d) × (d ≤ 16) × (d ≤ length (now out)) ⌝ }
+    ensures { λ _. ⌜ now (out .exit) ≡ overlapOf 8 d first last ++ drop d (now (out .entry)) ⌝ }
+{
+    eight(out, first);
+    let e = d - 8;
+    eight(&mut out[e..], last);
+}
+
+// A cell from its spread dots, the first eight and, where it has more, the last eight.
+pub fn put_cell(out: &mut [u8], low: u64, high: u64, symbol: u8, surround: u8, d: usize)
+    requires { ⌜ (low ≤ 72340172838076673) × (8 < d → high ≤ 72340172838076673) × (6 ≤ d) × (d ≤ 12) × (d ≤ length (now out)) ⌝ }
+    ensures { λ _. ⌜ now (out .exit) ≡ dotsBy low high symbol surround d ++ drop d (now (out .entry)) ⌝ }
+{
+    let first = mix(low, symbol, surround);
+    if d == 8 {
+        eight(out, first);
+    } else if d < 8 {
+        narrow(out, first, d);
+    } else {
+        let last = mix(high, symbol, surround);
+        broad(out, first, last, d);
+    }
+}
+
+fn shade(symbol: u8, surround: u8, bit: u16) -> u8
+    ensures { λ r. ⌜ r ≡ shadeOf symbol surround bit ⌝ }
+{
+    if bit == 0 { surround } else { symbol }
+}
+
+// One dot at k, where the cell is that wide.
+fn dot(out: &mut [u8], k: usize, d: usize, symbol: u8, surround: u8, bit: u16)
+    requires { ⌜ d ≤ length (now out) ⌝ }
+    ensures { λ _. ⌜ now (out .exit) ≡ putIf (now (out .entry)) k d (shadeOf symbol surround bit) ⌝ }
+{
+    if k < d {
+        out[k] = shade(symbol, surround, bit);
+    }
+}
+
+// The dots after the first eight, of those that the cell has.
+fn rest(out: &mut [u8], d: usize, symbol: u8, surround: u8, w: u16)
+    requires { ⌜ d ≤ length (now out) ⌝ }
+    ensures { λ _. ⌜ now (out .exit) ≡ puts d symbol surround 4 (now (out .entry)) 8 w ⌝ }
+{
+    dot(out, 8, d, symbol, surround, w % 2);
+    dot(out, 9, d, symbol, surround, w / 2 % 2);
+    dot(out, 10, d, symbol, surround, w / 4 % 2);
+    dot(out, 11, d, symbol, surround, w / 8 % 2);
+}
+
+// A cell from its word. To spread its last dots too would cost more than it saves.
+pub fn write_cell(out: &mut [u8], symbol: u8, surround: u8, word: u16, d: usize)
+    requires { ⌜ (word < 1024) × (6 ≤ d) × (d ≤ 12) × (d ≤ length (now out)) ⌝ }
+    ensures { λ _. ⌜ now (out .exit) ≡ shades symbol surround d (wideOf word d) ++ drop d (now (out .entry)) ⌝ }
+{
+    let w = wide(word, d);
+    let first = mix(spread(w), symbol, surround);
+    if d < 8 {
+        narrow(out, first, d);
+    } else {
+        eight(out, first);
+        rest(out, d, symbol, surround, w / 256);
+    }
+}
+
+// The level beneath a cell's symbol: a lit cell shows its symbol's level only.
+pub fn under(look: video::Look) -> u8
+    ensures { λ r. ⌜ r ≡ underOf look ⌝ }
+{
+    if look.lit { look.symbol } else { look.surround }
+}
+
+// The same of a cell's look, as wide as a page's cells are.
+pub fn draw_cell(out: &mut [u8], look: video::Look, word: u16, width: units::Dots)
+    requires { ⌜ (word < 1024) × (6 ≤ width .0) × (width .0 ≤ 12) × (width .0 ≤ length (now out)) ⌝ }
+    ensures { λ _. ⌜ now (out .exit) ≡ cellDots look word (width .0) ++ drop (width .0) (now (out .entry)) ⌝ }
+{
+    write_cell(out, look.symbol, under(look), word, width.0 as usize);
+}

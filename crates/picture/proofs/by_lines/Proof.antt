@@ -1,0 +1,121 @@
+use Prim.Native.Nat.{ℕ, _+_, _*_, _-_, _≤_}
+use mathlib.Core.Path.{_≡_}
+use mathlib.Core.List.{List, _++_}
+use native.Mathlib.Omega.{arith}
+use borrow.Author.Needs.{needs}
+use lib.ListN.{drop, length, length-take, length-drop}
+use Rattle.lists.specs.Fill.{Filling}
+use Rattle.lists.specs.Join.{joined, stretch-inside, join-begins, join-turn, join-ends}
+use Rattle.board.specs.declared.Board.{Board}
+use Rattle.shape.specs.Font.{Font, fontOf}
+use Rattle.line.specs.Line.{lineDots}
+use Rattle.picture.specs.Agree.{plan-visible, plan-small, line-passed, line-width, as-line-at, lined}
+use Rattle.picture.proofs.by_lines.Statement.{statement}
+use Rattle.picture.proofs.by_lines.Tie as tie
+
+abbrev lineAt : Board → (chars attrs words flags unshifted shifted : List ℕ) → (field : ℕ) → ℕ → List ℕ
+lineAt b chars attrs words flags unshifted shifted field l = lineDots b chars attrs (fontOf words flags unshifted shifted) l field
+
+abbrev Inv-loop : tie.InvT-loop
+Inv-loop out₀ b chars attrs words flags unshifted shifted field n width l₀ out l =
+    (l ≤ n)
+    × Filling (joined 0 n (lineAt b chars attrs words flags unshifted shifted field) ++ drop (n * width) out₀) out₀ (n * width) out (l * width)
+    (joined l (n - l) (lineAt b chars attrs words flags unshifted shifted field))
+
+abbrev μ-loop : tie.MeasureT-loop
+μ-loop out₀ b chars attrs words flags unshifted shifted field n width l₀ out l = n - l
+
+-- where the function begins, from a turn of the loop
+abbrev start : tie.In-loop Inv-loop μ-loop → tie.Start Inv-loop μ-loop
+start c = c .before .before .before .before .before .before .before .before .before .before .before
+
+abbrev font : tie.Start Inv-loop μ-loop → Font
+font c = fontOf (c .args .words .now) (c .args .flags .now) (c .args .unshifted .now) (c .args .shifted .now)
+
+abbrev drawnAt : tie.Start Inv-loop μ-loop → ℕ → List ℕ
+drawnAt c l = lineDots (c .args .b) (c .args .chars .now) (c .args .attrs .now) (font c) l (c .args .field)
+
+wide : (c : tie.Start Inv-loop μ-loop) (l : ℕ) → length (drawnAt c l) ≡ c .args .p .width
+wide c = line-width (c .args .b) _ _ (font c) (c .args .field) _ (c .pre .1) (c .pre .0 .page)
+
+whole : (c : tie.Start Inv-loop μ-loop) → c .args .p .rows * c .args .p .lines .0 * c .args .p .width ≤ length (c .args .out .now)
+whole c = rw (plan-visible _ _ (c .pre .1)) (c .pre .0 .roomy)
+
+room : (c : tie.In-loop Inv-loop μ-loop) → c .before .loop .l * start c .args .p .width + start c .args .p .width ≤ length (c .before .loop .out)
+room c = omega (arith, c .before .loop .inv .1 .same, stretch-inside (c .before .loop .l) (start c .args .p .rows * start c .args .p .lines .0) (start c .args .p .width) _ (c .loop-test .taken) (whole (start c)))
+
+mul-n : tie.Need-mul-n Inv-loop μ-loop
+mul-n c =
+    let start = c .before .before .before .before .before .before .before .before .before in
+    omega (arith, plan-small _ _ (start .pre .1) (start .pre .0 .page))
+
+loop-holds : tie.Need-loop-holds Inv-loop μ-loop
+loop-holds c =
+    let start = c .before .before .before .before .before .before .before .before .before in
+    (omega arith, join-begins (drawnAt start) _ (wide start) _ _)
+
+mul-a : tie.Need-mul-a Inv-loop μ-loop
+mul-a c = omega (arith, room c)
+
+sub-whole-line : tie.Need-sub-whole-line Inv-loop μ-loop
+sub-whole-line c = omega (arith, room c)
+
+part-whole-line-start : tie.Need-part-whole-line-start Inv-loop μ-loop
+part-whole-line-start c = omega (arith, room c)
+
+cast-t23 : tie.Need-cast-t23 Inv-loop μ-loop
+cast-t23 c =
+    let i = c .before in
+    omega (arith, i .loop-test .taken, plan-small _ _ (start i .pre .1) (start i .pre .0 .page))
+
+whole-line-requires : tie.Need-whole-line-requires Inv-loop μ-loop
+whole-line-requires c κs =
+    let i = c .before in
+    let k = start i in
+    line-passed (k .args .b) _ _ (font k) (k .args .field) _ (k .pre .1) (k .pre .0) _ _ (i .loop-test .taken) (simp (length-take, length-drop) (omega (arith, room i)))
+
+add-l : tie.Need-add-l Inv-loop μ-loop
+add-l c =
+    let i = c .before .before .before .before in
+    omega (arith, i .loop-test .taken, plan-small _ _ (start i .pre .1) (start i .pre .0 .page))
+
+loop-again : tie.Need-loop-again Inv-loop μ-loop
+loop-again c =
+    let call = c .before .before in
+    let i = call .before .before in
+    let k = start i in (
+      omega (arith, i .loop-test .taken),
+      join-turn (drawnAt k) _ (wide k) _ _ _ (i .before .loop .inv .1) (i .loop-test .taken) (whole k)
+          (as-line-at (k .args .b) _ _ (font k) (k .args .field) _ (k .pre .1) _ _ _ (call .whole-line .ensures)),
+    )
+
+same-length : tie.Need-same-length Inv-loop μ-loop
+same-length c = c .before .loop .inv .1 .same
+
+returns : tie.Need-returns Inv-loop μ-loop
+returns c =
+    let k = c .before .before .before .before .before .before .before .before .before .before .before in
+    lined (k .args .b) _ _ (font k) (k .args .field) _ (k .pre .1) _ _
+    (join-ends (drawnAt k) _ (wide k) _ _ (c .before .loop .inv .1) (omega arith) (omega arith))
+
+pub by-lines-spec : {M : Type 1} → statement M
+by-lines-spec =
+    tie.close
+    (tie.spec
+    Inv-loop
+    μ-loop
+    (λ c. search needs)
+    (λ c. search needs)
+    mul-n
+    loop-holds
+    mul-a
+    sub-whole-line
+    part-whole-line-start
+    (λ c. search needs)
+    cast-t23
+    whole-line-requires
+    add-l
+    (λ c. search needs)
+    loop-again
+    same-length
+    returns)

@@ -1,0 +1,89 @@
+use Prim.Native.Nat.{_+_, _*_, _-_, _≤_}
+use mathlib.Core.List.{_++_}
+use native.Mathlib.Omega.{arith}
+use borrow.Author.Needs.{needs}
+use lib.ListN.{drop, length, length-take, length-drop}
+use Rattle.lists.specs.Fill.{Filling}
+use Rattle.lists.specs.Join.{joined, stretch-inside, join-begins, join-turn, join-ends}
+use Rattle.picture.specs.Plan.{lineOf, length-line, as-line}
+use Rattle.picture.proofs.draw_lines.Statement.{statement}
+use Rattle.picture.proofs.draw_lines.Tie as tie
+
+abbrev Inv-loop : tie.InvT-loop
+Inv-loop out₀ p cells low high looks n width s₀ out s =
+    (s ≤ n)
+    × Filling (joined 0 n (lineOf cells low high looks (p .columns .0) (p .dots .0)) ++ drop (n * width) out₀) out₀ (n * width) out (s * width)
+    (joined s (n - s) (lineOf cells low high looks (p .columns .0) (p .dots .0)))
+
+abbrev μ-loop : tie.MeasureT-loop
+μ-loop out₀ p cells low high looks n width s₀ out s = n - s
+
+-- where the function begins, from a turn of the loop
+abbrev start : tie.In-loop Inv-loop μ-loop → tie.Start Inv-loop μ-loop
+start c = c .before .before .before .before .before .before .before .before
+
+room : (c : tie.In-loop Inv-loop μ-loop) → c .before .loop .s * start c .args .p .width + start c .args .p .width ≤ length (c .before .loop .out)
+room c = omega (arith, c .before .loop .inv .1 .same, stretch-inside (c .before .loop .s) (start c .args .p .lines .0) (start c .args .p .width) _ (c .loop-test .taken) (start c .pre .1))
+
+loop-holds : tie.Need-loop-holds Inv-loop μ-loop
+loop-holds c =
+    let sheet = c .before .before .before .before .before .before .pre .0 .0 in
+    (omega arith, join-begins _ _ (length-line _ _ _ _ _ _ _ (sheet .least) (sheet .most) (sheet .width-is)) _ _)
+
+mul-a : tie.Need-mul-a Inv-loop μ-loop
+mul-a c = omega (arith, room c)
+
+cast-t13 : tie.Need-cast-t13 Inv-loop μ-loop
+cast-t13 c = omega (arith, c .loop-test .taken, start c .pre .0 .0 .short)
+
+sub-draw-cells : tie.Need-sub-draw-cells Inv-loop μ-loop
+sub-draw-cells c = omega (arith, room c)
+
+part-draw-cells-start : tie.Need-part-draw-cells-start Inv-loop μ-loop
+part-draw-cells-start c = omega (arith, room c)
+
+draw-cells-requires : tie.Need-draw-cells-requires Inv-loop μ-loop
+draw-cells-requires c κs =
+    let i = c .before in
+    let pre = start i .pre in
+    (pre .0, (i .loop-test .taken, simp (length-take, length-drop) (omega (arith, room i, pre .0 .0 .width-is))))
+
+loop-again : tie.Need-loop-again Inv-loop μ-loop
+loop-again c =
+    let call = c .before .before in
+    let i = call .before .before in
+    let pre = start i .pre in
+    let sheet = pre .0 .0 in
+    let a = start i .args in (
+      omega (arith, i .loop-test .taken),
+      join-turn _ _ (length-line _ _ _ _ _ _ _ (sheet .least) (sheet .most) (sheet .width-is)) _ _ _ (i .before .loop .inv .1) (i .loop-test .taken) (pre .1)
+          (as-line (a .cells .now) (a .low .now) (a .high .now) (a .looks .now) _ _ _ _ _ _ (sheet .width-is) (call .draw-cells .ensures)),
+    )
+
+same-length : tie.Need-same-length Inv-loop μ-loop
+same-length c = c .before .loop .inv .1 .same
+
+returns : tie.Need-returns Inv-loop μ-loop
+returns c =
+    let sheet = c .before .before .before .before .before .before .before .before .pre .0 .0 in
+    join-ends _ _ (length-line _ _ _ _ _ _ _ (sheet .least) (sheet .most) (sheet .width-is)) _ _ (c .before .loop .inv .1) (omega arith) (omega arith)
+
+pub draw-lines-spec : {M : Type 1} → statement M
+draw-lines-spec =
+    tie.close
+    (tie.spec
+    Inv-loop
+    μ-loop
+    (λ c. search needs)
+    loop-holds
+    mul-a
+    cast-t13
+    sub-draw-cells
+    part-draw-cells-start
+    (λ c. search needs)
+    draw-cells-requires
+    (λ c. search needs)
+    (λ c. search needs)
+    loop-again
+    same-length
+    returns)

@@ -1,0 +1,216 @@
+-- The picture as the drawer makes it is the picture of `Picture.antt`. Assumes nothing.
+use Prim.Native.Nat.{ℕ, _+_, _-_, _*_, _/_, _%_, _≤_, _<_}
+use mathlib.Core.Path.{_≡_, refl, sym, ap, _∙_}
+use mathlib.Core.Bool.{true, false}
+use mathlib.Core.List.{List, _++_}
+use native.Mathlib.Nat.{mul-assoc, mul-le-mul, div-lt-iff-lt-mul}
+use native.Mathlib.Omega.{arith}
+use borrow.Author.Tests.{ltb-false}
+use lib.Arith.{digits-div, digits-mod}
+use lib.Dec.{ltb}
+use lib.ListN.{length, getD, drop}
+use Rattle.lists.specs.Choice.{neither}
+use Rattle.lists.specs.Join.{joined, same-joined, join-all}
+use Rattle.refusal.specs.declared.Refusal.the-variants.{Done}
+use Rattle.refusal.specs.Number.{doneOf}
+use Rattle.raster.specs.Moves.{advanceBy}
+use Rattle.board.specs.declared.Board.{Board}
+use Rattle.board.specs.declared.Page.{Page}
+use Rattle.board.specs.Range.{memoriesRefused}
+use Rattle.board.specs.Laws.{memories-all}
+use Rattle.timing.specs.Fields.{hactOf, linesOf, rowsOf, bufferOf}
+use Rattle.timing.specs.Laws.{Accepted, call-passed, buffer-bounded, dots-bound, visible-bound}
+use Rattle.fetch.specs.Rows.{rowStart}
+use Rattle.shape.specs.Font.{Font, Whole, fontRefused}
+use Rattle.shape.specs.Laws.{font-whole}
+use Rattle.video.specs.At.{Content, lentRefused, contentAt, scanDots}
+use Rattle.tables.specs.Tables.{markOf, numberFor, cellBy, spreadBy, spreadsAt, levelsAt}
+use Rattle.tables.specs.Marks.{mark-lt}
+use Rattle.tables.specs.Laws.{levels-at, spread-at, spread-small, code-of, mark-of, by-spreads}
+use Rattle.line.specs.Line.{lineDots, lineLength}
+use Rattle.line.specs.Length.{length-line}
+use Rattle.line.specs.Walk.{Drawn, column-content}
+use Rattle.picture.specs.declared.Plan.{Plan}
+use Rattle.picture.specs.Plan.{planOf, cellDotsOf, rowLine, rowOf, rowAt, Sheet}
+use Rattle.picture.specs.Picture.{pictureDots, pictureLength, pictureCheck, picturedOf}
+
+-- ---- a call that is not refused
+
+pub record Pictured (b : Board) (chars attrs : List ℕ) (f : Font) (room : ℕ) : Type 0 where
+  pub page : Accepted (b .page)
+  pub chars-all : length chars ≡ 16384
+  pub attrs-all : length attrs ≡ 16384
+  pub font : Whole f
+  pub roomy : pictureLength (b .page) ≤ room
+
+pub picture-passed : (b : Board) (chars attrs : List ℕ) (f : Font) (room : ℕ) → pictureCheck b (lentRefused chars attrs f) room ≡ Done → Pictured b chars attrs f room
+unfolding pictureCheck
+picture-passed b chars attrs f room e =
+    let k = call-passed b (lentRefused chars attrs f) false (ltb room (pictureLength (b .page))) e in
+    let s = neither (memoriesRefused (length chars) (length attrs)) (fontRefused f) (k .sized) in
+    let m = memories-all (length chars) (length attrs) (s .0) in
+    record {
+      page = k .page;
+      chars-all = m .0;
+      attrs-all = m .1;
+      font = font-whole f (s .1);
+      roomy = ltb-false _ _ (k .roomy);
+    }
+
+module _ (b : Board) (chars attrs : List ℕ) (f : Font) (field : ℕ) (out₀ : List ℕ) where
+  pub left-pictured : doneOf (pictureCheck b (lentRefused chars attrs f) (length out₀)) ≡ true
+      → (out : List ℕ) → out ≡ pictureDots b chars attrs f field ++ drop (pictureLength (b .page)) out₀ → out ≡ picturedOf b chars attrs f field out₀
+  unfolding picturedOf
+  left-pictured t out e = rw t e
+
+  pub left-alone : doneOf (pictureCheck b (lentRefused chars attrs f) (length out₀)) ≡ false → out₀ ≡ picturedOf b chars attrs f field out₀
+  unfolding picturedOf
+  left-alone t = rw t
+
+-- ---- the tables that the drawer has made before its first row
+
+pub record Made (b : Board) (f : Font) (field : ℕ) (low high looks : List ℕ) : Type 0 where
+  pub lows : List ℕ
+  pub low-is : low ≡ joined 0 (linesOf (b .page .irs)) (spreadsAt f (b .page .video .dots .0) 0) ++ lows
+  pub highs : List ℕ
+  pub high-is : 8 < b .page .video .dots .0 → high ≡ joined 0 (linesOf (b .page .irs)) (spreadsAt f (b .page .video .dots .0) (b .page .video .dots .0 - 8)) ++ highs
+  pub rest : List ℕ
+  pub looks-is : looks ≡ joined 0 (linesOf (b .page .irs)) (levelsAt b field) ++ rest
+
+-- ---- a cell, a line, the picture
+
+module _ (b : Board) (chars attrs : List ℕ) (f : Font) (field : ℕ) (low high looks : List ℕ) (page : Accepted (b .page)) (made : Made b f field low high looks)
+    (bytes : (i : ℕ) → getD chars i 0 < 256) where
+  abbrev d : ℕ
+  d = b .page .video .dots .0
+
+  abbrev n : ℕ
+  n = linesOf (b .page .irs)
+
+  same-cell : (s : ℕ) (k : Content) → s < n → k .code < 256 → cellDotsOf low high looks d s (numberFor k) ≡ scanDots b f s field k
+  unfolding cellDotsOf spreadBy
+  same-cell s k h l =
+      rw (code-of k l, mark-of k l)
+      (by-spreads b f s field page k (getD looks (s * 128 + markOf (k .attributes) (k .here)) 0)
+      (levels-at b field looks (made .rest) n s (markOf (k .attributes) (k .here)) (made .looks-is) h (mark-lt (k .attributes) (k .here))) _ _
+      (spread-at f d 0 low (made .lows) n s (k .code) (made .low-is) h l)
+      (λ g. spread-at f d (d - 8) high (made .highs) n s (k .code) (made .high-is g) h l))
+
+  same-line : (r s : ℕ) → s < n → rowLine (planOf (b .page)) chars attrs low high looks (rowStart (b .page) chars r) s ≡ lineDots b chars attrs f (r * n + s) field
+  unfolding rowLine planOf cellBy lineDots
+  same-line r s h =
+      let q : (r * n + s) / n ≡ r = digits-div r h in
+      let m : (r * n + s) % n ≡ s = digits-mod r h in
+      same-joined 0 (hactOf (b .page .irs)) _ _ (λ c l u.
+      same-cell s _ h (bytes _) ∙ (rw (q, m) at (column-content b chars attrs f (r * n + s) field c (omega arith))))
+
+  same-row : (r : ℕ) → rowAt (planOf (b .page)) (b .page) chars attrs low high looks r ≡ joined 0 n (λ (s : ℕ). lineDots b chars attrs f (r * n + s) field)
+  unfolding rowAt rowOf planOf
+  same-row r = same-joined 0 n _ _ (λ s l u. same-line r s (omega arith))
+
+  same-picture : joined 0 (rowsOf (b .page .irs)) (rowAt (planOf (b .page)) (b .page) chars attrs low high looks) ≡ pictureDots b chars attrs f field
+  unfolding pictureDots
+  same-picture =
+      same-joined 0 (rowsOf (b .page .irs)) _ _ (λ r l u. same-row r)
+      ∙ join-all (λ (line : ℕ). lineDots b chars attrs f line field) n (rowsOf (b .page .irs))
+
+  -- the drawer's own words
+  pub pictured : (p : Plan) (out out₀ : List ℕ) → p ≡ planOf (b .page) → out ≡ joined 0 (p .rows) (rowAt p (b .page) chars attrs low high looks) ++ drop (p .rows * p .size) out₀
+      → out ≡ pictureDots b chars attrs f field ++ drop (pictureLength (b .page)) out₀
+  unfolding planOf
+  pictured p out out₀ q e =
+      let k : rowsOf (b .page .irs) * (n * (hactOf (b .page .irs) * d)) ≡ pictureLength (b .page) = sym (mul-assoc (rowsOf (b .page .irs)) n (hactOf (b .page .irs) * d)) in
+      (rw q at e)
+      ∙ ap (λ (i : ℕ). joined 0 (rowsOf (b .page .irs)) (rowAt (planOf (b .page)) (b .page) chars attrs low high looks) ++ drop i out₀) k
+      ∙ ap (λ (l : List ℕ). l ++ drop (pictureLength (b .page)) out₀) same-picture
+
+-- what the drawer asks of its tables
+pub sheet-of : (b : Board) (f : Font) (field : ℕ) (low high looks : List ℕ) → Accepted (b .page) → Made b f field low high looks
+    → length low ≡ 4096 → length high ≡ 4096 → length looks ≡ 2048 → (p : Plan) → p ≡ planOf (b .page) → Sheet p low high looks
+unfolding planOf
+sheet-of b f field low high looks page made ll lh lk p q = rw q (record {
+  least = page .least;
+  most = page .most;
+  few = omega arith;
+  short = omega arith;
+  width-is = refl;
+  size-is = refl;
+  bounded = buffer-bounded (b .page .irs);
+  low-all = ll;
+  high-all = lh;
+  looks-all = lk;
+  low-le = λ s i h l. rw (spread-at f (b .page .video .dots .0) 0 low (made .lows) _ s i (made .low-is) h l) (spread-small _ _ _ _ _ _ _);
+  high-le = λ g s i h l. rw (spread-at f (b .page .video .dots .0) (b .page .video .dots .0 - 8) high (made .highs) _ s i (made .high-is g) h l) (spread-small _ _ _ _ _ _ _);
+})
+
+-- ---- what the plan has
+
+module _ (p : Plan) (page : Page) (q : p ≡ planOf page) where
+  pub plan-dots : Accepted page → (6 ≤ p .dots .0) × (p .dots .0 ≤ 12)
+  unfolding planOf
+  plan-dots a = rw q (a .least, a .most)
+
+  pub plan-lines : p .lines .0 ≤ 16
+  unfolding planOf
+  plan-lines = rw q (omega arith)
+
+  pub plan-rows : p .rows ≤ 128
+  unfolding planOf
+  plan-rows = rw q (omega arith)
+
+  pub plan-size : p .rows * p .size ≡ pictureLength page
+  unfolding planOf
+  plan-size = rw q (sym (mul-assoc (rowsOf (page .irs)) (linesOf (page .irs)) (hactOf (page .irs) * page .video .dots .0)))
+
+  pub plan-visible : p .rows * p .lines .0 * p .width ≡ pictureLength page
+  unfolding planOf
+  plan-visible = rw q
+
+  pub plan-small : Accepted page → (p .rows * p .size ≤ 6291456) × (p .rows * p .lines .0 ≤ 2048) × (p .rows * p .columns .0 ≤ 32768)
+  unfolding planOf
+  plan-small a =
+      let h : hactOf (page .irs) ≤ 256 = omega arith in
+      let r : rowsOf (page .irs) ≤ 128 = omega arith in
+      let l : linesOf (page .irs) ≤ 16 = omega arith in
+      rw q (mul-le-mul r (mul-le-mul l (dots-bound page a)), visible-bound (page .irs), mul-le-mul r h)
+
+pub made-of : (b : Board) (f : Font) (field : ℕ) (low high looks lows highs rest : List ℕ) (p : Plan) → p ≡ planOf (b .page)
+    → low ≡ joined 0 (p .lines .0) (spreadsAt f (p .dots .0) 0) ++ lows → (8 < p .dots .0 → high ≡ joined 0 (p .lines .0) (spreadsAt f (p .dots .0) (p .dots .0 - 8)) ++ highs)
+    → looks ≡ joined 0 (p .lines .0) (levelsAt b field) ++ rest → Made b f field low high looks
+unfolding planOf
+made-of b f field low high looks lows highs rest p q e1 e2 e3 = record {
+  lows = lows;
+  low-is = rw q at e1;
+  highs = highs;
+  high-is = rw q at e2;
+  rest = rest;
+  looks-is = rw q at e3;
+}
+
+-- ---- the picture line by line
+
+module _ (b : Board) (chars attrs : List ℕ) (f : Font) (field : ℕ) (p : Plan) (q : p ≡ planOf (b .page)) where
+  pub line-passed : {room : ℕ} → Pictured b chars attrs f room → (l part : ℕ) → l < p .rows * p .lines .0 → p .width ≤ part → Drawn b chars attrs f l part
+  unfolding planOf
+  line-passed k l part h w = record {
+    page = k .page;
+    chars-all = k .chars-all;
+    attrs-all = k .attrs-all;
+    font = k .font;
+    row-lt = let some : 0 < linesOf (b .page .irs) = omega arith in div-lt-iff-lt-mul some .1 (rw q at h);
+    roomy = rw q at w;
+  }
+
+  pub line-width : Accepted (b .page) → (l : ℕ) → length (lineDots b chars attrs f l field) ≡ p .width
+  unfolding planOf
+  line-width a l = rw q (length-line b chars attrs f l field a)
+
+  pub as-line-at : (l : ℕ) (out part : List ℕ) → out ≡ lineDots b chars attrs f l field ++ drop (lineLength b) part
+      → out ≡ lineDots b chars attrs f l field ++ drop (p .width) part
+  unfolding planOf
+  as-line-at l out part e = rw q e
+
+  pub lined : (out out₀ : List ℕ) → out ≡ joined 0 (p .rows * p .lines .0) (λ (l : ℕ). lineDots b chars attrs f l field) ++ drop (p .rows * p .lines .0 * p .width) out₀
+      → out ≡ pictureDots b chars attrs f field ++ drop (pictureLength (b .page)) out₀
+  unfolding planOf pictureDots
+  lined out out₀ e = rw q at e

@@ -1,0 +1,4 @@
+-- A whole picture.
+pub mod Picture
+pub mod Plan
+pub mod Agree

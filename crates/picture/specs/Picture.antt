@@ -1,0 +1,35 @@
+-- A picture is its visible lines, end to end.
+use Prim.Native.Nat.{ℕ, _*_}
+use mathlib.Core.Bool.{Bool, false}
+use mathlib.Core.List.{List, _++_}
+use lib.ListN.{length, drop}
+use lib.Dec.{ltb}
+use Rattle.lists.specs.Choice.{pick}
+use Rattle.lists.specs.Join.{joined}
+use Rattle.refusal.specs.declared.Refusal.{Refusal}
+use Rattle.refusal.specs.Number.{doneOf}
+use Rattle.board.specs.declared.Page.{Page}
+use Rattle.board.specs.declared.Board.{Board}
+use Rattle.timing.specs.Fields.{hactOf, visibleOf}
+use Rattle.timing.specs.Check.{callCheck}
+use Rattle.shape.specs.Font.{Font}
+use Rattle.video.specs.At.{lentRefused}
+use Rattle.line.specs.Line.{lineDots}
+
+unfoldable pub pictureDots : Board → (chars attrs : List ℕ) → Font → (field : ℕ) → List ℕ
+pictureDots b chars attrs f field = joined 0 (visibleOf (b .page .irs) .0) (λ (line : ℕ). lineDots b chars attrs f line field)
+
+-- the bytes of all visible lines
+abbrev pub pictureLength : Page → ℕ
+pictureLength p = visibleOf (p .irs) .0 * (hactOf (p .irs) * p .video .dots .0)
+
+-- 3, 12, 4, 5, 6, 7, 8 for a buffer of room bytes that is too short
+unfoldable pub pictureCheck : Board → (size : Bool) → (room : ℕ) → Refusal
+pictureCheck b size room = callCheck b size false (ltb room (pictureLength (b .page)))
+
+-- the buffer afterwards: bytes beyond the picture stay, and all of it on a refusal
+unfoldable pub picturedOf : Board → (chars attrs : List ℕ) → Font → (field : ℕ) → List ℕ → List ℕ
+picturedOf b chars attrs f field out =
+    pick (doneOf (pictureCheck b (lentRefused chars attrs f) (length out)))
+    (pictureDots b chars attrs f field ++ drop (pictureLength (b .page)) out)
+    out

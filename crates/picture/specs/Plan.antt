@@ -1,0 +1,128 @@
+-- A row's lines as the drawer makes them, from cells and tables. Assumes nothing.
+use Prim.Native.Nat.{ℕ, _+_, _*_, _/_, _%_, _≤_, _<_}
+use mathlib.Core.Path.{_≡_, sym, ap, _∙_}
+use mathlib.Core.List.{List, _++_}
+use native.Mathlib.Omega.{arith}
+use lib.ListN.{length, getD, drop, List·getD-append}
+use Rattle.units.specs.Units.{clocks, lines}
+use Rattle.lists.specs.Join.{joined, same-joined, length-joined}
+use Rattle.lists.specs.Tab.{tab, length-tab, getD-tab}
+use Rattle.raster.specs.declared.Cell.{Cell}
+use Rattle.raster.specs.Moves.{cell, Bounded}
+use Rattle.board.specs.declared.Page.{Page}
+use Rattle.timing.specs.Fields.{hactOf, linesOf, rowsOf, bufferOf}
+use Rattle.fetch.specs.Rows.{rowStart}
+use Rattle.dots.specs.Stores.{dotsBy}
+use Rattle.dots.specs.Spread.{length-dots}
+use Rattle.tables.specs.Tables.{cellBy}
+use Rattle.picture.specs.declared.Plan.{Plan}
+
+-- the dots of a cell's number on a scan line
+unfoldable pub cellDotsOf : (low high looks : List ℕ) → (d scan x : ℕ) → List ℕ
+cellDotsOf low high looks d scan x =
+    dotsBy (getD low (scan * 256 + x % 256) 0) (getD high (scan * 256 + x % 256) 0)
+    (getD looks (scan * 128 + x / 256) 0 % 256) (getD looks (scan * 128 + x / 256) 0 / 256) d
+
+unfoldable pub columnOf : (cells low high looks : List ℕ) → (d scan c : ℕ) → List ℕ
+columnOf cells low high looks d scan c = cellDotsOf low high looks d scan (getD cells c 0)
+
+unfoldable pub lineOf : (cells low high looks : List ℕ) → (n d scan : ℕ) → List ℕ
+lineOf cells low high looks n d scan = joined 0 n (columnOf cells low high looks d scan)
+
+pub record Sheet (p : Plan) (low high looks : List ℕ) : Type 0 where
+  pub least : 6 ≤ p .dots .0
+  pub most : p .dots .0 ≤ 12
+  pub few : p .columns .0 ≤ 256
+  pub short : p .lines .0 ≤ 16
+  pub width-is : p .width ≡ p .columns .0 * p .dots .0
+  pub size-is : p .size ≡ p .lines .0 * p .width
+  pub bounded : Bounded (p .buffer)
+  pub low-all : length low ≡ 4096
+  pub high-all : length high ≡ 4096
+  pub looks-all : length looks ≡ 2048
+  pub low-le : (s i : ℕ) → s < p .lines .0 → i < 256 → getD low (s * 256 + i) 0 ≤ 72340172838076673
+  pub high-le : 8 < p .dots .0 → (s i : ℕ) → s < p .lines .0 → i < 256 → getD high (s * 256 + i) 0 ≤ 72340172838076673
+
+pub length-column : (cells low high looks : List ℕ) (d scan : ℕ) → 6 ≤ d → d ≤ 12 → (c : ℕ) → length (columnOf cells low high looks d scan c) ≡ d
+unfolding columnOf cellDotsOf
+length-column cells low high looks d scan h m c = length-dots _ _ _ _ d m
+
+-- a turn of the drawer's loop
+pub as-column : (cells low high looks : List ℕ) (d scan c : ℕ) (out rest : List ℕ)
+    → out ≡ dotsBy (getD low (scan * 256 + getD cells c 0 % 256) 0) (getD high (scan * 256 + getD cells c 0 % 256) 0)
+    (getD looks (scan * 128 + getD cells c 0 / 256) 0 % 256) (getD looks (scan * 128 + getD cells c 0 / 256) 0 / 256) d ++ rest
+    → out ≡ columnOf cells low high looks d scan c ++ rest
+unfolding columnOf cellDotsOf
+as-column cells low high looks d scan c out rest e = e
+
+-- ---- lines and rows
+
+pub length-line : (cells low high looks : List ℕ) (n d w : ℕ) → 6 ≤ d → d ≤ 12 → w ≡ n * d → (s : ℕ) → length (lineOf cells low high looks n d s) ≡ w
+unfolding lineOf
+length-line cells low high looks n d w h m e s =
+    length-joined (columnOf cells low high looks d s) d (length-column cells low high looks d s h m) 0 n ∙ sym e
+
+pub as-line : (cells low high looks : List ℕ) (n d w s : ℕ) (out part : List ℕ) → w ≡ n * d
+    → out ≡ joined 0 n (columnOf cells low high looks d s) ++ drop (n * d) part → out ≡ lineOf cells low high looks n d s ++ drop w part
+unfolding lineOf
+as-line cells low high looks n d w s out part h e = rw h e
+
+-- the row that begins at an address
+unfoldable pub rowLine : Plan → (chars attrs low high looks : List ℕ) → (start scan : ℕ) → List ℕ
+rowLine p chars attrs low high looks start s =
+    joined 0 (p .columns .0) (λ (c : ℕ). cellDotsOf low high looks (p .dots .0) s (cellBy chars attrs (p .buffer) (p .cursor) start c))
+
+unfoldable pub rowOf : Plan → (chars attrs low high looks : List ℕ) → (start : ℕ) → List ℕ
+rowOf p chars attrs low high looks start = joined 0 (p .lines .0) (rowLine p chars attrs low high looks start)
+
+pub same-row : (p : Plan) (chars attrs low high looks cells rest : List ℕ) (start : ℕ) → cells ≡ tab (p .columns .0) (cellBy chars attrs (p .buffer) (p .cursor) start) ++ rest
+    → joined 0 (p .lines .0) (lineOf cells low high looks (p .columns .0) (p .dots .0)) ≡ rowOf p chars attrs low high looks start
+unfolding rowOf rowLine lineOf columnOf
+same-row p chars attrs low high looks cells rest start e =
+    same-joined 0 (p .lines .0) _ _ (λ s l u. same-joined 0 (p .columns .0) _ _ (λ c k v. ap (cellDotsOf low high looks (p .dots .0) s) (at c (omega (arith, v)))))
+  where
+    f : ℕ → ℕ
+    f = cellBy chars attrs (p .buffer) (p .cursor) start
+
+    at : (c : ℕ) → c < p .columns .0 → getD cells c 0 ≡ f c
+    at c h = rw e (List·getD-append (tab (p .columns .0) f) rest 0 c (rw (length-tab (p .columns .0) f) h)) ∙ getD-tab (p .columns .0) f c h
+
+pub as-row : (p : Plan) (chars attrs low high looks cells rest : List ℕ) (start : ℕ) (out back : List ℕ) → cells ≡ tab (p .columns .0) (cellBy chars attrs (p .buffer) (p .cursor) start) ++ rest
+    → out ≡ joined 0 (p .lines .0) (lineOf cells low high looks (p .columns .0) (p .dots .0)) ++ back → out ≡ rowOf p chars attrs low high looks start ++ back
+as-row p chars attrs low high looks cells rest start out back e q = q ∙ ap (λ (l : List ℕ). l ++ back) (same-row p chars attrs low high looks cells rest start e)
+
+pub length-row : (p : Plan) (chars attrs low high looks : List ℕ) → 6 ≤ p .dots .0 → p .dots .0 ≤ 12 → p .width ≡ p .columns .0 * p .dots .0 → p .size ≡ p .lines .0 * p .width
+    → (start : ℕ) → length (rowOf p chars attrs low high looks start) ≡ p .size
+unfolding rowOf rowLine cellDotsOf
+length-row p chars attrs low high looks h m w z start =
+    length-joined (rowLine p chars attrs low high looks start) (p .width) each 0 (p .lines .0) ∙ sym z
+  where
+    each : (s : ℕ) → length (rowLine p chars attrs low high looks start s) ≡ p .width
+    each s = length-joined _ (p .dots .0) (λ c. length-dots _ _ _ _ (p .dots .0) m) 0 (p .columns .0) ∙ sym w
+
+-- row r of a page
+unfoldable pub rowAt : Plan → Page → (chars attrs low high looks : List ℕ) → (r : ℕ) → List ℕ
+rowAt p page chars attrs low high looks r = rowOf p chars attrs low high looks (rowStart page chars r)
+
+pub length-row-at : (p : Plan) (page : Page) (chars attrs low high looks : List ℕ) → 6 ≤ p .dots .0 → p .dots .0 ≤ 12 → p .width ≡ p .columns .0 * p .dots .0 → p .size ≡ p .lines .0 * p .width
+    → (r : ℕ) → length (rowAt p page chars attrs low high looks r) ≡ p .size
+unfolding rowAt
+length-row-at p page chars attrs low high looks h m w z r = length-row p chars attrs low high looks h m w z (rowStart page chars r)
+
+pub as-row-at : (p : Plan) (page : Page) (chars attrs low high looks : List ℕ) (r : ℕ) (start : Cell) (out part : List ℕ) → start ≡ cell (rowStart page chars r) → p .size ≡ p .lines .0 * p .width
+    → out ≡ rowOf p chars attrs low high looks (start .address) ++ drop (p .lines .0 * p .width) part → out ≡ rowAt p page chars attrs low high looks r ++ drop (p .size) part
+unfolding rowAt
+as-row-at p page chars attrs low high looks r start out part q z e =
+    (rw q at e) ∙ ap (λ (k : ℕ). rowOf p chars attrs low high looks (rowStart page chars r) ++ drop k part) (sym z)
+
+unfoldable pub planOf : Page → Plan
+planOf p = record {
+  columns = clocks (hactOf (p .irs));
+  dots = p .video .dots;
+  lines = lines (linesOf (p .irs));
+  rows = rowsOf (p .irs);
+  width = hactOf (p .irs) * p .video .dots .0;
+  size = linesOf (p .irs) * (hactOf (p .irs) * p .video .dots .0);
+  buffer = bufferOf (p .irs);
+  cursor = p .starts .cursor;
+}

@@ -1,0 +1,340 @@
+// A whole picture into a lent buffer: tables once a picture, cells once a row, then dots only.
+ghost use mathlib.Core.Path.{_≡_};
+ghost use mathlib.Core.List.{_++_};
+ghost use mathlib.Core.Bool.{false};
+ghost use Prim.Native.Nat.{ℕ, _*_, _≤_, _<_};
+ghost use lib.Dec.{ltb};
+ghost use lib.ListN.{length, getD, drop};
+ghost use Rattle.lists.specs.Join.{joined};
+ghost use Rattle.shape.specs.Font.{fontNow, lentFont};
+ghost use Rattle.timing.specs.Laws.{Accepted};
+ghost use Rattle.video.specs.At.{lentRefused};
+ghost use Rattle.line.specs.Walk.{lastOf};
+ghost use Rattle.picture.specs.Picture.{pictureCheck, pictureDots, pictureLength, picturedOf};
+ghost use Rattle.picture.specs.Plan.{planOf, columnOf, lineOf, rowOf, rowAt, Sheet};
+ghost use Rattle.picture.specs.Agree.{Pictured};
+
+// What is the same for all rows: columns, dots a cell, lines a row, rows, the bytes of a line and of a row, the buffer, the cursor.
+pub struct Plan {
+    pub columns: units::Clocks,
+    pub dots: units::Dots,
+    pub lines: units::Lines,
+    pub rows: u32,
+    pub width: usize,
+    pub size: usize,
+    pub buffer: raster::Buffer,
+    pub cursor: u16,
+}
+
+// One line from its row's cells. No branch goes by what a cell is.
+fn draw_cells(
+    out: &mut [u8],
+    p: Plan,
+    cells: &[u16],
+    low: &[u64],
+    high: &[u64],
+    looks: &[u16],
+    scan: units::Lines,
+)
+    requires { ⌜ Sheet p (now low) (now high) (now looks) × (length (now cells) ≡ 256) × ((c : ℕ) → c < p .columns .0 → getD (now cells) c 0 < 32768) ⌝ }
+    requires { ⌜ (scan .0 < p .lines .0) × (p .columns .0 * p .dots .0 ≤ length (now out)) ⌝ }
+    ensures { λ _. ⌜ now (out .exit)
+        ≡ joined 0 (p .columns .0) (columnOf (now (cells .entry)) (now (low .entry)) (now (high .entry)) (now (looks .entry)) (p .dots .0) (scan .0))
+        ++ drop (p .columns .0 * p .dots .0) (now (out .entry)) ⌝ }
+{
+    let n = p.columns.0 as usize;
+    let d = p.dots.0 as usize;
+    let s = scan.0 as usize;
+    let mut c = 0;
+    while c < n {
+        let number = cells[c];
+        let code = s * 256 + (number % 256) as usize;
+        let mark = s * 128 + (number / 256) as usize;
+        let levels = looks[mark];
+        let a = c * d;
+        dots::put_cell(
+            &mut out[a..],
+            low[code],
+            high[code],
+            (levels % 256) as u8,
+            (levels / 256) as u8,
+            d,
+        );
+        c += 1;
+    }
+}
+
+// All lines of a row from its cells.
+fn draw_lines(out: &mut [u8], p: Plan, cells: &[u16], low: &[u64], high: &[u64], looks: &[u16])
+    requires { ⌜ Sheet p (now low) (now high) (now looks) × (length (now cells) ≡ 256) × ((c : ℕ) → c < p .columns .0 → getD (now cells) c 0 < 32768) ⌝ }
+    requires { ⌜ p .lines .0 * p .width ≤ length (now out) ⌝ }
+    ensures { λ _. ⌜ now (out .exit)
+        ≡ joined 0 (p .lines .0) (lineOf (now (cells .entry)) (now (low .entry)) (now (high .entry)) (now (looks .entry)) (p .columns .0) (p .dots .0))
+        ++ drop (p .lines .0 * p .width) (now (out .entry)) ⌝ }
+{
+    let n = p.lines.0 as usize;
+    let width = p.width;
+    let mut s: usize = 0;
+    while s < n {
+        let a = s * width;
+        let scan = units::Lines(s as u32);
+        draw_cells(&mut out[a..], p, cells, low, high, looks, scan);
+        s += 1;
+    }
+}
+
+// A row from where it starts: its cells once, then its lines.
+fn draw_row(
+    out: &mut [u8],
+    p: Plan,
+    chars: &[u8],
+    attrs: &[u8],
+    low: &[u64],
+    high: &[u64],
+    looks: &[u16],
+    start: raster::Cell,
+)
+    requires { ⌜ Sheet p (now low) (now high) (now looks) × (length (now chars) ≡ 16384) × (length (now attrs) ≡ 16384) ⌝ }
+    requires { ⌜ (start .address < 16384) × (p .lines .0 * p .width ≤ length (now out)) ⌝ }
+    ensures { λ _. ⌜ now (out .exit)
+        ≡ rowOf p (now (chars .entry)) (now (attrs .entry)) (now (low .entry)) (now (high .entry)) (now (looks .entry)) (start .address)
+        ++ drop (p .lines .0 * p .width) (now (out .entry)) ⌝ }
+{
+    let mut cells = [0u16; 256];
+    let buffer = p.buffer;
+    tables::gather(
+        &mut cells,
+        chars,
+        attrs,
+        buffer,
+        start,
+        p.cursor,
+        p.columns.0 as usize,
+    );
+    draw_lines(out, p, &cells, low, high, looks);
+}
+
+// All rows.
+fn draw_rows(
+    out: &mut [u8],
+    p: Plan,
+    page: board::Page,
+    chars: &[u8],
+    attrs: &[u8],
+    low: &[u64],
+    high: &[u64],
+    looks: &[u16],
+)
+    requires { ⌜ Sheet p (now low) (now high) (now looks) × (length (now chars) ≡ 16384) × (length (now attrs) ≡ 16384) ⌝ }
+    requires { ⌜ Accepted page × (p .rows ≤ 128) × (p .rows * p .size ≤ length (now out)) ⌝ }
+    ensures { λ _. ⌜ now (out .exit)
+        ≡ joined 0 (p .rows) (rowAt p page (now (chars .entry)) (now (attrs .entry)) (now (low .entry)) (now (high .entry)) (now (looks .entry)))
+        ++ drop (p .rows * p .size) (now (out .entry)) ⌝ }
+{
+    let n = p.rows;
+    let size = p.size;
+    let mut r: u32 = 0;
+    while r < n {
+        let start = fetch::row_start(page, chars, r);
+        let a = r as usize * size;
+        draw_row(&mut out[a..], p, chars, attrs, low, high, looks, start);
+        r += 1;
+    }
+}
+
+fn plan_of(p: board::Page) -> Plan
+    requires { ⌜ Accepted p ⌝ }
+    ensures { λ r. ⌜ r ≡ planOf p ⌝ }
+{
+    let irs = p.irs;
+    let t = timing::timing_of(irs);
+    let columns = t.counts.hact;
+    let dots = p.video.dots;
+    let lines = t.counts.lines;
+    let width = units::dots_of(columns, dots).0 as usize;
+    let size = lines.0 as usize * width;
+    Plan {
+        columns: columns,
+        dots: dots,
+        lines: lines,
+        rows: t.counts.rows,
+        width: width,
+        size: size,
+        buffer: timing::buffer_of(irs),
+        cursor: p.starts.cursor,
+    }
+}
+
+// 8 for a buffer that is too short for an accepted page's picture.
+fn room_check(p: board::Page, room: usize) -> refusal::Refusal
+    requires { ⌜ Accepted p ⌝ }
+    ensures { λ r. ⌜ r ≡ lastOf false (ltb room (pictureLength p)) ⌝ }
+{
+    let plan = plan_of(p);
+    if room < plan.rows as usize * plan.size {
+        return refusal::Refusal::Room;
+    }
+    refusal::Refusal::Done
+}
+
+fn picture_check(b: board::Board, size: bool, room: usize) -> refusal::Refusal
+    ensures { λ r. ⌜ r ≡ pictureCheck b size room ⌝ }
+{
+    let refused = timing::call_check(b, size, false, false);
+    if refusal::is_done(refused) {
+        return room_check(b.page, room);
+    }
+    refused
+}
+
+// The picture by tables, which pays where there are many cells.
+fn by_rows(
+    out: &mut [u8],
+    b: board::Board,
+    chars: &[u8],
+    attrs: &[u8],
+    words: &[u16],
+    flags: &[u8],
+    unshifted: &[u8],
+    shifted: &[u8],
+    field: u8,
+    p: Plan,
+)
+    requires { ⌜ Pictured b (now chars) (now attrs) (fontNow words flags unshifted shifted) (length (now out)) × (p ≡ planOf (b .page)) ⌝ }
+    ensures { λ _. ⌜ now (out .exit)
+        ≡ pictureDots b (now (chars .entry)) (now (attrs .entry)) (lentFont words flags unshifted shifted) field
+        ++ drop (pictureLength (b .page)) (now (out .entry)) ⌝ }
+{
+    let page = b.page;
+    let lines = p.lines;
+    let d = p.dots.0 as usize;
+    let mut low = [0u64; 4096];
+    let mut high = [0u64; 4096];
+    let mut looks = [0u16; 2048];
+    tables::fill_spreads(&mut low, words, flags, unshifted, shifted, lines, d, 0);
+    tables::fill_last(&mut high, words, flags, unshifted, shifted, lines, d);
+    tables::fill_looks(&mut looks, b, field, lines);
+    draw_rows(out, p, page, chars, attrs, &low, &high, &looks);
+}
+
+// The picture line by line.
+fn by_lines(
+    out: &mut [u8],
+    b: board::Board,
+    chars: &[u8],
+    attrs: &[u8],
+    words: &[u16],
+    flags: &[u8],
+    unshifted: &[u8],
+    shifted: &[u8],
+    field: u8,
+    p: Plan,
+)
+    requires { ⌜ Pictured b (now chars) (now attrs) (fontNow words flags unshifted shifted) (length (now out)) × (p ≡ planOf (b .page)) ⌝ }
+    ensures { λ _. ⌜ now (out .exit)
+        ≡ pictureDots b (now (chars .entry)) (now (attrs .entry)) (lentFont words flags unshifted shifted) field
+        ++ drop (pictureLength (b .page)) (now (out .entry)) ⌝ }
+{
+    let n = p.rows as usize * p.lines.0 as usize;
+    let width = p.width;
+    let mut l: usize = 0;
+    while l < n {
+        let a = l * width;
+        line::whole_line(
+            &mut out[a..],
+            b,
+            chars,
+            attrs,
+            words,
+            flags,
+            unshifted,
+            shifted,
+            units::Lines(l as u32),
+            field,
+        );
+        l += 1;
+    }
+}
+
+// A picture that nothing refuses.
+fn whole_picture(
+    out: &mut [u8],
+    b: board::Board,
+    chars: &[u8],
+    attrs: &[u8],
+    words: &[u16],
+    flags: &[u8],
+    unshifted: &[u8],
+    shifted: &[u8],
+    field: u8,
+)
+    requires { ⌜ Pictured b (now chars) (now attrs) (fontNow words flags unshifted shifted) (length (now out)) ⌝ }
+    ensures { λ _. ⌜ now (out .exit)
+        ≡ pictureDots b (now (chars .entry)) (now (attrs .entry)) (lentFont words flags unshifted shifted) field
+        ++ drop (pictureLength (b .page)) (now (out .entry)) ⌝ }
+{
+    let p = plan_of(b.page);
+    if p.columns.times(p.rows).below(units::Clocks(256)) {
+        by_lines(
+            out,
+            b,
+            chars,
+            attrs,
+            words,
+            flags,
+            unshifted,
+            shifted,
+            field,
+            p,
+        );
+    } else {
+        by_rows(
+            out,
+            b,
+            chars,
+            attrs,
+            words,
+            flags,
+            unshifted,
+            shifted,
+            field,
+            p,
+        );
+    }
+}
+
+// Draws all visible lines as they look in a field, end to end at the front of out.
+pub fn draw_picture(
+    b: board::Board,
+    chars: &[u8],
+    attrs: &[u8],
+    words: &[u16],
+    flags: &[u8],
+    unshifted: &[u8],
+    shifted: &[u8],
+    field: u8,
+    out: &mut [u8],
+) -> refusal::Refusal
+    ensures { λ r. ⌜ (r ≡ pictureCheck b
+        (lentRefused (now (chars .entry)) (now (attrs .entry)) (lentFont words flags unshifted shifted))
+        (length (now (out .entry))))
+        × (now (out .exit) ≡ picturedOf b (now (chars .entry)) (now (attrs .entry)) (lentFont words flags unshifted shifted)
+        field (now (out .entry))) ⌝ }
+{
+    let size = video::lent_refused(chars, attrs, words, flags, unshifted, shifted);
+    let refused = picture_check(b, size, out.len());
+    if refusal::is_done(refused) {
+        whole_picture(
+            out,
+            b,
+            chars,
+            attrs,
+            words,
+            flags,
+            unshifted,
+            shifted,
+            field,
+        );
+    }
+    refused
+}

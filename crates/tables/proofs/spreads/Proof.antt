@@ -1,0 +1,61 @@
+use Prim.Native.Nat.{_≤_, _-_, zero-le}
+use mathlib.Core.Path.{_≡_, refl}
+use mathlib.Core.List.{_++_}
+use native.Mathlib.Omega.{arith}
+use borrow.Author.Needs.{needs}
+use lib.ListN.{length, drop}
+use Rattle.lists.specs.Tab.{tab, tab-turn, tab-upto}
+use Rattle.shape.specs.Laws.{by-small}
+use Rattle.tables.specs.Tables.{spreadBy}
+use Rattle.tables.proofs.spreads.Statement.{statement}
+use Rattle.tables.proofs.spreads.Tie as tie
+
+abbrev Inv-loop : tie.InvT-loop
+Inv-loop table₀ words flags plain moved d from i₀ table i =
+    (i ≤ 256) × (length table ≡ length table₀) × (table ≡ tab i (spreadBy words flags plain moved d from) ++ drop i table₀)
+
+abbrev μ-loop : tie.MeasureT-loop
+μ-loop table₀ words flags plain moved d from i₀ table i = 256 - i
+
+loop-holds : tie.Need-loop-holds Inv-loop μ-loop
+unfolding tab
+loop-holds c = (zero-le, refl, refl)
+
+part-requires : tie.Need-part-requires Inv-loop μ-loop
+part-requires c κs = (rw (c .word-by .ensures) (by-small _ _ _ _ _), search needs)
+
+loop-again : tie.Need-loop-again Inv-loop μ-loop
+unfolding spreadBy
+loop-again c =
+    let at = c .before .before .before .before in
+    let start = at .before .before .before .before in
+    let a = start .args in (
+      omega (arith, c .before .before .before .loop-test .taken),
+      search needs,
+      tab-turn (spreadBy (a .words .now) (a .flags .now) (a .plain) (a .moved) (a .d) (a .from)) (a .table .now) _ (at .loop .i) (at .loop .inv .2) _ (omega (arith, start .pre, c .before .before .before .loop-test .taken))
+          (rw (c .spread .ensures, c .before .part .ensures, c .before .before .word-by .ensures)),
+    )
+
+returns : tie.Need-returns Inv-loop μ-loop
+returns c =
+    let at = c .before in
+    tab-upto _ _ _ (at .loop .i) (at .loop .inv .2) 256 (at .loop .inv .0) (c .loop-test .left)
+
+pub spreads-spec : {M : Type 1} → statement M
+spreads-spec =
+    tie.close
+    (tie.spec
+    Inv-loop
+    μ-loop
+    loop-holds
+    (λ c. search needs)
+    (λ c κs. search needs)
+    part-requires
+    (λ c κs. search needs)
+    (λ c. search needs)
+    (λ c. search needs)
+    (λ c. search needs)
+    (λ c. search needs)
+    loop-again
+    (λ c. search needs)
+    returns)

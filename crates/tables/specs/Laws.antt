@@ -1,0 +1,121 @@
+-- What a drawer makes of a cell's number and the tables is what the scan line makes of the cell. Assumes nothing.
+use Prim.Native.Nat.{ℕ, _+_, _*_, _/_, _%_, _-_, _^_, _≤_, _<_}
+use mathlib.Core.Path.{_≡_, _∙_}
+use mathlib.Core.Bool.{Bool, _&&_}
+use mathlib.Core.List.{List, _++_}
+use native.Mathlib.Nat.{div-one}
+use native.Mathlib.Omega.{arith}
+use lib.ListN.{length, getD, List·getD-append}
+use Rattle.lists.specs.Join.{joined, join-element}
+use Rattle.lists.specs.Tab.{tab, length-tab, getD-tab}
+use Rattle.raster.specs.declared.Buffer.{Buffer}
+use Rattle.raster.specs.declared.Cell.{Cell}
+use Rattle.raster.specs.Moves.{cell, advanceBy}
+use Rattle.board.specs.declared.Board.{Board}
+use Rattle.timing.specs.Laws.{Accepted}
+use Rattle.shape.specs.Font.{Font, positionOf, wordBy, wordOf}
+use Rattle.shape.specs.Laws.{by-small}
+use Rattle.video.specs.declared.Scene.{Scene}
+use Rattle.video.specs.declared.Look.{Look}
+use Rattle.video.specs.Scene.{sceneOf}
+use Rattle.video.specs.Look.{lookOf}
+use Rattle.video.specs.At.{Content, contentAt, scanDots}
+use Rattle.dots.specs.Stores.{underOf, wideOf, spreadOf, dotsBy}
+use Rattle.dots.specs.Width.{shades, cell-shades}
+use Rattle.dots.specs.Bytes.{spread-ones}
+use Rattle.dots.specs.Spread.{dots-shades}
+use Rattle.tables.specs.Tables.{markOf, numberFor, cellBy, levelsBy, levelsOf, levelsAt, partOf, spreadBy, spreadsAt}
+use Rattle.tables.specs.Marks.{mark-look, mark-lt, symbol-byte, under-byte, symbol-of, under-of}
+
+pub length-spreads : (f : Font) (d from s : ℕ) → length (spreadsAt f d from s) ≡ 256
+unfolding spreadsAt
+length-spreads f d from s = length-tab 256 _
+
+pub length-levels : (b : Board) (field s : ℕ) → length (levelsAt b field s) ≡ 128
+unfolding levelsAt
+length-levels b field s = length-tab 128 _
+
+pub spread-small : (words flags : List ℕ) (plain moved d from code : ℕ) → spreadBy words flags plain moved d from code ≤ 72340172838076673
+unfolding spreadBy
+spread-small words flags plain moved d from code = spread-ones _
+
+-- a cell's number taken apart
+module _ (k : Content) (h : k .code < 256) where
+  pub code-of : numberFor k % 256 ≡ k .code
+  code-of = omega arith
+
+  pub mark-of : numberFor k / 256 ≡ markOf (k .attributes) (k .here)
+  mark-of = omega arith
+
+  pub number-lt : numberFor k < 32768
+  number-lt = omega (arith, mark-lt (k .attributes) (k .here))
+
+-- ---- what the tables hold
+
+looked : (f : ℕ → ℕ) (n : ℕ) (xs rest : List ℕ) (i : ℕ) → xs ≡ tab n f ++ rest → i < n → getD xs i 0 ≡ f i
+looked f n xs rest i e h = rw e (List·getD-append (tab n f) rest 0 i (rw (length-tab n f) h)) ∙ getD-tab n f i h
+
+-- of a row its cells, of a scan line the levels of a mark
+module _ (chars attrs : List ℕ) (buffer : Buffer) (cursor start n : ℕ) (cells rest : List ℕ) (e : cells ≡ tab n (cellBy chars attrs buffer cursor start) ++ rest) where
+  pub gathered : (c : ℕ) → c < n → getD cells c 0 ≡ numberFor (contentAt cursor chars attrs (advanceBy buffer c start))
+  unfolding cellBy
+  gathered c h = looked _ n cells rest c e h
+
+  pub gathered-lt : ((i : ℕ) → getD chars i 0 < 256) → (c : ℕ) → c < n → getD cells c 0 < 32768
+  gathered-lt bytes c h = rw (gathered c h) (number-lt (contentAt cursor chars attrs (advanceBy buffer c start)) (bytes _))
+
+-- a cell's number where the walk along the row stands
+pub as-cell : (chars attrs : List ℕ) (buffer : Buffer) (cursor start c : ℕ) (x : Cell) (v : ℕ) → x ≡ cell (advanceBy buffer c start)
+    → v ≡ numberFor (contentAt cursor chars attrs (x .address)) → v ≡ cellBy chars attrs buffer cursor start c
+unfolding cellBy
+as-cell chars attrs buffer cursor start c x v e q = rw e at q
+
+pub looked-up : (s : Scene) (a : ℕ) (here : Bool) (looks rest : List ℕ) → looks ≡ tab 128 (levelsOf s) ++ rest → getD looks (markOf a here) 0 ≡ levelsOf s (markOf a here)
+looked-up s a here looks rest e = looked (levelsOf s) 128 looks rest (markOf a here) e (mark-lt a here)
+
+-- of n scan lines, end to end, scan line s
+pub levels-at : (b : Board) (field : ℕ) (xs rest : List ℕ) (n s i : ℕ) → xs ≡ joined 0 n (levelsAt b field) ++ rest → s < n → i < 128
+    → getD xs (s * 128 + i) 0 ≡ levelsOf (sceneOf b s field) i
+unfolding levelsAt
+levels-at b field xs rest n s i e h l = join-element (levelsAt b field) 128 (length-levels b field) xs rest n s i e h l ∙ getD-tab 128 _ i l
+
+pub spread-at : (f : Font) (d from : ℕ) (xs rest : List ℕ) (n s i : ℕ) → xs ≡ joined 0 n (spreadsAt f d from) ++ rest → s < n → i < 256
+    → getD xs (s * 256 + i) 0 ≡ spreadBy (f .words) (f .flags) (positionOf (f .unshifted) s) (positionOf (f .shifted) s) d from i
+unfolding spreadsAt
+spread-at f d from xs rest n s i e h l = join-element (spreadsAt f d from) 256 (length-spreads f d from) xs rest n s i e h l ∙ getD-tab 256 _ i l
+
+-- a cell from its mark and its word, as the line draws it, and from its spread dots, as the picture does
+module _ (b : Board) (f : Font) (scan field : ℕ) (a : Accepted (b .page)) (k : Content) (v : ℕ)
+    (e : v ≡ levelsOf (sceneOf b scan field) (markOf (k .attributes) (k .here))) where
+  abbrev d : ℕ
+  d = b .page .video .dots .0
+
+  abbrev word : ℕ
+  word = wordBy (f .words) (f .flags) (positionOf (f .unshifted) scan) (positionOf (f .shifted) scan) (k .code)
+
+  abbrev here : Bool
+  here = sceneOf b scan field .gate && k .here
+
+  abbrev look : Look
+  look = lookOf (sceneOf b scan field) (k .attributes) here
+
+  levelled : v ≡ levelsBy look
+  levelled = e ∙ mark-look (sceneOf b scan field) (k .attributes) (k .here)
+
+  pub by-word : shades (v % 256) (v / 256) d (wideOf word d) ≡ scanDots b f scan field k
+  unfolding scanDots wordOf
+  by-word =
+      rw (levelled, symbol-of b scan field (k .attributes) here, under-of b scan field (k .attributes) here)
+      (cell-shades look word d (by-small _ _ _ _ _) (a .most))
+
+  pub by-spreads : (low high : ℕ) → low ≡ spreadOf 8 (partOf word d 0) → (8 < d → high ≡ spreadOf 8 (partOf word d (d - 8)))
+      → dotsBy low high (v % 256) (v / 256) d ≡ scanDots b f scan field k
+  unfolding partOf
+  by-spreads low high e1 e2 =
+      let z : low ≡ spreadOf 8 (wideOf word d) = rw (div-one (wideOf word d)) at e1 in
+      rw (levelled, symbol-of b scan field (k .attributes) here, under-of b scan field (k .attributes) here)
+      (dots-shades (look .symbol) (underOf look) (symbol-byte b scan field (k .attributes) here) (under-byte b scan field (k .attributes) here) low high d (wideOf word d) (a .most) z e2)
+      ∙ by-word-again
+    where
+      by-word-again : shades (look .symbol) (underOf look) d (wideOf word d) ≡ scanDots b f scan field k
+      by-word-again = rw (levelled, symbol-of b scan field (k .attributes) here, under-of b scan field (k .attributes) here) at by-word

@@ -1,0 +1,4 @@
+-- What lines and pictures are drawn from.
+pub mod Tables
+pub mod Marks
+pub mod Laws

@@ -1,0 +1,53 @@
+-- A row's cells as numbers, and the tables by mark and by code. Assumes nothing.
+use Prim.Native.Nat.{ℕ, _+_, _*_, _/_, _%_, _^_}
+use mathlib.Core.Bool.{Bool, _&&_}
+use mathlib.Core.List.{List}
+use lib.Dec.{eqb}
+use Rattle.lists.specs.Choice.{pick}
+use Rattle.lists.specs.Tab.{tab}
+use Rattle.raster.specs.declared.Buffer.{Buffer}
+use Rattle.raster.specs.Moves.{advanceBy}
+use Rattle.board.specs.declared.Board.{Board}
+use Rattle.shape.specs.Font.{Font, positionOf, wordBy}
+use Rattle.video.specs.declared.Scene.{Scene}
+use Rattle.video.specs.declared.Look.{Look}
+use Rattle.video.specs.Scene.{sceneOf}
+use Rattle.video.specs.Look.{lookOf}
+use Rattle.video.specs.At.{Content, contentAt}
+use Rattle.dots.specs.Stores.{underOf, wideOf, spreadOf}
+
+-- a cell's mark has its attributes in the low six bits, and 64 where the cursor's address is its own
+abbrev pub markOf : (attributes : ℕ) → (here : Bool) → ℕ
+markOf attributes here = attributes % 64 + pick here 64 0
+
+abbrev pub cellNumber : (code attributes : ℕ) → (here : Bool) → ℕ
+cellNumber code attributes here = code + 256 * markOf attributes here
+
+abbrev pub numberFor : Content → ℕ
+numberFor k = cellNumber (k .code) (k .attributes) (k .here)
+
+-- the cell c moves from the row's start
+unfoldable pub cellBy : (chars attrs : List ℕ) → Buffer → (cursor start c : ℕ) → ℕ
+cellBy chars attrs buffer cursor start c = numberFor (contentAt cursor chars attrs (advanceBy buffer c start))
+
+-- a look's two levels as one number
+abbrev pub levelsBy : Look → ℕ
+levelsBy k = k .symbol + 256 * underOf k
+
+-- those of a mark, on a scan line
+unfoldable pub levelsOf : Scene → ℕ → ℕ
+levelsOf s mark = levelsBy (lookOf s mark (s .gate && eqb (mark / 64 % 2) 1))
+
+unfoldable pub levelsAt : Board → (field scan : ℕ) → List ℕ
+levelsAt b field scan = tab 128 (levelsOf (sceneOf b scan field))
+
+-- the number whose low bits are a word's dots from a place on
+unfoldable pub partOf : (word d from : ℕ) → ℕ
+partOf word d from = wideOf word d / 2 ^ from
+
+-- a code's eight dots from a place on, each in a byte of its own, on a scan line
+unfoldable pub spreadBy : (words flags : List ℕ) → (plain moved d from code : ℕ) → ℕ
+spreadBy words flags plain moved d from code = spreadOf 8 (partOf (wordBy words flags plain moved code) d from)
+
+unfoldable pub spreadsAt : Font → (d from scan : ℕ) → List ℕ
+spreadsAt f d from scan = tab 256 (spreadBy (f .words) (f .flags) (positionOf (f .unshifted) scan) (positionOf (f .shifted) scan) d from)

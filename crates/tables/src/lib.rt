@@ -1,0 +1,159 @@
+// What lines and pictures are drawn from: of a row its cells, a number each, and of a scan line a table by mark and one by code.
+ghost use mathlib.Core.Path.{_≡_};
+ghost use mathlib.Core.List.{_++_};
+ghost use Prim.Native.Nat.{_-_, _*_, _≤_, _<_};
+ghost use lib.ListN.{length, drop};
+ghost use Rattle.lists.specs.Join.{joined};
+ghost use Rattle.lists.specs.Tab.{tab};
+ghost use Rattle.raster.specs.Moves.{Bounded};
+ghost use Rattle.shape.specs.Font.{lentFont};
+ghost use Rattle.dots.specs.Stores.{spreadOf};
+ghost use Rattle.tables.specs.Tables.{cellNumber, cellBy, levelsOf, levelsAt, partOf, spreadBy, spreadsAt};
+
+// A cell's code, and 256 times its mark: the six attributes, and 64 where the cursor's address is the cell's.
+fn cell_number(code: u8, attributes: u8, here: bool) -> u16
+    ensures { λ r. ⌜ r ≡ cellNumber code attributes here ⌝ }
+{
+    let six = 256 * (attributes % 64) as u16;
+    if here {
+        return code as u16 + six + 0x4000;
+    }
+    code as u16 + six
+}
+
+// The cells of a row from its start on, each once for all its lines.
+pub fn gather(
+    cells: &mut [u16],
+    chars: &[u8],
+    attrs: &[u8],
+    buffer: raster::Buffer,
+    start: raster::Cell,
+    cursor: u16,
+    n: usize,
+)
+    requires { ⌜ (length (now chars) ≡ 16384) × (length (now attrs) ≡ 16384) × (n ≤ length (now cells)) × Bounded buffer × (start .address < 16384) ⌝ }
+    ensures { λ _. ⌜ now (cells .exit)
+        ≡ tab n (cellBy (now (chars .entry)) (now (attrs .entry)) buffer cursor (start .address)) ++ drop n (now (cells .entry)) ⌝ }
+{
+    let mut cell = start;
+    let mut c = 0;
+    while c < n {
+        let address = cell.address;
+        let at = address as usize;
+        let attributes = video::effective_of(attrs[at]);
+        cells[c] = cell_number(chars[at], attributes, address == cursor);
+        cell = raster::advance_one(buffer, cell);
+        c += 1;
+    }
+}
+
+// The symbol's level of a mark, and 256 times the surround's, which a lit cell shows as its symbol.
+fn levels(s: video::Scene, mark: u8) -> u16
+    ensures { λ r. ⌜ r ≡ levelsOf s mark ⌝ }
+{
+    let look = video::look_of(s, mark, s.gate & (mark / 64 % 2 == 1));
+    look.symbol as u16 + 256 * dots::under(look) as u16
+}
+
+// A scan line's table by mark.
+pub fn looks(table: &mut [u16], s: video::Scene)
+    requires { ⌜ 128 ≤ length (now table) ⌝ }
+    ensures { λ _. ⌜ now (table .exit) ≡ tab 128 (levelsOf s) ++ drop 128 (now (table .entry)) ⌝ }
+{
+    let mut i: usize = 0;
+    while i < 128 {
+        table[i] = levels(s, i as u8);
+        i += 1;
+    }
+}
+
+// Those of n scan lines, end to end.
+pub fn fill_looks(table: &mut [u16], b: board::Board, field: u8, n: units::Lines)
+    requires { ⌜ (n .0 ≤ 16) × (n .0 * 128 ≤ length (now table)) ⌝ }
+    ensures { λ _. ⌜ now (table .exit) ≡ joined 0 (n .0) (levelsAt b field) ++ drop (n .0 * 128) (now (table .entry)) ⌝ }
+{
+    let count = n.0 as usize;
+    let mut s: usize = 0;
+    while s < count {
+        let scene = video::scene_of(b, units::Lines(s as u32), field);
+        let a = s * 128;
+        looks(&mut table[a..], scene);
+        s += 1;
+    }
+}
+
+// The number whose low bits are a word's dots from a place on.
+fn part(word: u16, d: usize, from: usize) -> u16
+    requires { ⌜ (word < 1024) × (from ≤ 4) ⌝ }
+    ensures { λ r. ⌜ r ≡ partOf word d from ⌝ }
+{
+    dots::wide(word, d) >> from
+}
+
+// A scan line's table by code: eight dots from a place on, each in a byte of its own.
+fn spreads(
+    table: &mut [u64],
+    words: &[u16],
+    flags: &[u8],
+    plain: usize,
+    moved: usize,
+    d: usize,
+    from: usize,
+)
+    requires { ⌜ (length (now words) ≡ 1152) × (length (now flags) ≡ 128) × (from ≤ 4) × (256 ≤ length (now table)) ⌝ }
+    ensures { λ _. ⌜ now (table .exit)
+        ≡ tab 256 (spreadBy (now (words .entry)) (now (flags .entry)) plain moved d from) ++ drop 256 (now (table .entry)) ⌝ }
+{
+    let mut i: usize = 0;
+    while i < 256 {
+        let word = shape::word_by(words, flags, plain, moved, i as u8);
+        table[i] = dots::spread(part(word, d, from));
+        i += 1;
+    }
+}
+
+// Those of n scan lines, end to end.
+pub fn fill_spreads(
+    table: &mut [u64],
+    words: &[u16],
+    flags: &[u8],
+    unshifted: &[u8],
+    shifted: &[u8],
+    n: units::Lines,
+    d: usize,
+    from: usize,
+)
+    requires { ⌜ (length (now words) ≡ 1152) × (length (now flags) ≡ 128) × (from ≤ 4) × (n .0 ≤ 16) × (n .0 * 256 ≤ length (now table)) ⌝ }
+    ensures { λ _. ⌜ now (table .exit)
+        ≡ joined 0 (n .0) (spreadsAt (lentFont words flags unshifted shifted) d from) ++ drop (n .0 * 256) (now (table .entry)) ⌝ }
+{
+    let count = n.0 as usize;
+    let mut s: usize = 0;
+    while s < count {
+        let scan = units::Lines(s as u32);
+        let plain = shape::position(unshifted, scan);
+        let moved = shape::position(shifted, scan);
+        let a = s * 256;
+        spreads(&mut table[a..], words, flags, plain, moved, d, from);
+        s += 1;
+    }
+}
+
+// The last eight dots, where a cell has more than eight.
+pub fn fill_last(
+    table: &mut [u64],
+    words: &[u16],
+    flags: &[u8],
+    unshifted: &[u8],
+    shifted: &[u8],
+    n: units::Lines,
+    d: usize,
+)
+    requires { ⌜ (length (now words) ≡ 1152) × (length (now flags) ≡ 128) × (d ≤ 12) × (n .0 ≤ 16) × (n .0 * 256 ≤ length (now table)) ⌝ }
+    ensures { λ _. ⌜ (8 < d → now (table .exit)
+        ≡ joined 0 (n .0) (spreadsAt (lentFont words flags unshifted shifted) d (d - 8)) ++ drop (n .0 * 256) (now (table .entry))) ⌝ }
+{
+    if 8 < d {
+        fill_spreads(table, words, flags, unshifted, shifted, n, d, d - 8);
+    }
+}
