@@ -1,10 +1,9 @@
 -- The line as the drawer goes along it, and that this is the line of `Line.antt`. Assumes nothing.
-use Prim.Native.Nat.{ℕ, min, _+_, _*_, _/_, _%_, _≤_, _<_}
-use mathlib.Core.Path.{_≡_, refl, sym, ap, _∙_}
+use Prim.Native.Nat.{ℕ, min, _*_, _/_, _%_, _≤_, _<_}
+use mathlib.Core.Path.{_≡_, refl, ap, _∙_}
 use mathlib.Core.Bool.{Bool, true, false, _||_, not, true≢false}
 use mathlib.Core.List.{List, [], _∷_, _++_}
 use native.Mathlib.Nat.{div-lt-iff-lt-mul}
-use native.Mathlib.Numerals.{add-one}
 use native.Mathlib.Omega.{arith}
 use borrow.Author.Tests.{leb-false, ltb-false}
 use lib.ListN.{length, getD, drop}
@@ -15,9 +14,8 @@ use Rattle.refusal.specs.declared.Refusal.{Refusal}
 use Rattle.refusal.specs.declared.Refusal.the-variants.{Done, Size, Range, Room}
 use Rattle.refusal.specs.Number.{doneOf}
 use Rattle.refusal.specs.Laws.{passed, not-refused}
-use Rattle.raster.specs.declared.Buffer.{Buffer}
 use Rattle.raster.specs.declared.Cell.{Cell}
-use Rattle.raster.specs.Moves.{cell, Bounded, advance, advanceBy, advanceBy-lt, advanceBy-zero, advanceBy-suc}
+use Rattle.raster.specs.Moves.{cell, Bounded, advanceBy}
 use Rattle.board.specs.declared.Board.{Board}
 use Rattle.board.specs.Range.{memoriesRefused}
 use Rattle.board.specs.Laws.{memories-all}
@@ -72,16 +70,6 @@ unfolding columnBy cellBy
 length-column w chars attrs words flags start m c = length-cell _ _ (w .width .0) (by-small words flags (w .plain) (w .moved) _) m
 
 -- ---- a turn of the drawer's loop
-
-module _ (b : Buffer) (start c : ℕ) (x : Cell) (e : x ≡ cell (advanceBy b c start)) where
-  pub at-lt : x .address < 16384
-  at-lt = rw e (advanceBy-lt b c start)
-
-  pub moved-on : Bounded b → start < 16384 → (y : Cell) → y ≡ cell (advance b (x .address)) → y ≡ cell (advanceBy b (c + 1) start)
-  moved-on o h y q = q ∙ rw (e, add-one c) (ap cell (sym (advanceBy-suc b o c start h)))
-
-pub not-moved : (b : Buffer) (x : Cell) → x .address < 16384 → x ≡ cell (advanceBy b 0 (x .address))
-not-moved b x h = ap cell (sym (advanceBy-zero b (x .address) h))
 
 pub as-column : (w : Walk) (chars attrs words flags : List ℕ) (start c : ℕ) (x : Cell) (out rest : List ℕ) → x ≡ cell (advanceBy (w .buffer) c start)
     → out ≡ cellBy w words flags (getD chars (x .address) 0) (getD attrs (x .address) 0) (x .address) ++ rest → out ≡ columnBy w chars attrs words flags start c ++ rest

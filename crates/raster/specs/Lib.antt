@@ -22,6 +22,7 @@
 --     Fed, Tallied     0 and every address are below 16,384, and clock 3 moves on because 3 is below 80: so the Laws hold
 pub mod Tick
 pub mod Moves
+pub mod Walk
 pub mod Raster
 pub mod Agree
 pub mod Frame

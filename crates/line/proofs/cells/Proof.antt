@@ -7,7 +7,8 @@ use lib.ListN.{drop, length, length-take, length-drop}
 use Rattle.lists.specs.Fill.{Filling}
 use Rattle.lists.specs.Join.{joined, stretch-inside, join-begins, join-turn, join-ends}
 use Rattle.raster.specs.Moves.{advanceBy, cell as cellOf}
-use Rattle.line.specs.Walk.{columnBy, length-column, at-lt, moved-on, not-moved, as-column}
+use Rattle.raster.specs.Walk.{at-lt, moved-on, not-moved}
+use Rattle.line.specs.Walk.{columnBy, length-column, as-column}
 use Rattle.line.proofs.cells.Statement.{statement}
 use Rattle.line.proofs.cells.Tie as tie
 
