@@ -1,9 +1,10 @@
 -- A list given element by element, and the loop that stores it: after i turns the buffer is `tab i f ++ drop i d`. Assumes nothing.
 --     tab                      f 0, f 1, .., n of them
 --     length-tab, getD-tab     how many there are, and each one
+--     same-tab                 elements that agree one by one make the same list
 --     tab-turn, tab-upto, tab-ends     one turn of such a loop, its end at n, and at the end of the buffer, as a loop's proof asks for them
 --     tab-part                 where f reads a list from a place on, it is a part of that list
-use mathlib.Core.Path.{_≡_, refl, sym, ap, _∙_, subst}
+use mathlib.Core.Path.{_≡_, refl, sym, ap, ap₂, _∙_, subst}
 use mathlib.Core.List.{List, [], _∷_, _++_, append-nil}
 use mathlib.Core.Logic.{⊎-elim}
 use Prim.Native.Nat.{ℕ, zero, suc, _+_, _<_, _≤_}
@@ -32,6 +33,11 @@ getD-tab (suc n) f i l = ⊎-elim at-last (λ h. before h (getD-tab n f i h)) (e
 
     before : i < n → getD (tab n f) i 0 ≡ f i → getD (tab (suc n) f) i 0 ≡ f i
     before h e = List·getD-append (tab n f) (f n ∷ []) 0 i (rw (length-tab n f) h) ∙ e
+
+pub same-tab : (n : ℕ) (f g : ℕ → ℕ) → ((i : ℕ) → i < n → f i ≡ g i) → tab n f ≡ tab n g
+unfolding tab
+same-tab zero f g h = refl
+same-tab (suc n) f g h = ap₂ (λ (l : List ℕ) (x : ℕ). l ++ (x ∷ [])) (same-tab n f g (λ i l. h i (omega arith))) (h n (omega arith))
 
 stored : (n : ℕ) (f : ℕ → ℕ) (d : List ℕ) → n < length d → set (tab n f ++ drop n d) n (f n) ≡ tab (n + 1) f ++ drop (n + 1) d
 unfolding tab
