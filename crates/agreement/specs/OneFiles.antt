@@ -15,7 +15,7 @@ use Rattle.copies.specs.Put.{putAt}
 use Rattle.files.specs.declared.PageRead.{PageRead}
 use Rattle.files.specs.File.{readCheck, readPageOf, charsRead, attrsRead, writeCheck, written}
 use Rattle.files.specs.FontFile.{fontCheck, fontRead, fontWriteCheck, fontWritten}
-use Rattle.files.specs.Page.{pageAt, boardAt}
+use Rattle.files.specs.Page.{pageAt, boardAt, pageBytes}
 use Rattle.listing_lines.specs.declared.Listed.{Listed}
 use Rattle.listing_lines.specs.Listing.{listingHead, listingLine, headCheck, lineCheck, listedOf, listedIn}
 
@@ -59,6 +59,9 @@ page-at-one bytes at = only (pageAt bytes at)
 
 pub board-at-one : (bytes : List ℕ) (at : ℕ) → OneAnswer (λ r. r ≡ boardAt bytes at)
 board-at-one bytes at = only (boardAt bytes at)
+
+pub page-bytes-one : (p : Page) → OneAnswer (λ r. r ≡ pageBytes p)
+page-bytes-one p = only (pageBytes p)
 
 -- ---- `listing_lines`
 
