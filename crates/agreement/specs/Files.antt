@@ -25,9 +25,9 @@ use Rattle.files.specs.FontFile.{fontCheck, fontIn, fontRead, fontWriteCheck, f
 use Rattle.files.specs.Laws.{file-sized, FilePassed, file-passed, head-all, write-passed}
 use Rattle.files.specs.Round.{Bytes, page-from, page-again, page-kept}
 use Rattle.files.specs.FontRound.{font-again}
-use Rattle.feldrime.specs.Numbers.{numbersRefused}
-use Rattle.feldrime.specs.NumbersLaws.{numbers-page}
-use Rattle.feldrime.specs.Pages.{numbersRead}
+use Rattle.numbers.specs.Numbers.{numbersRefused}
+use Rattle.numbers.specs.Files.{numbersRead}
+use Rattle.numbers.specs.Laws.{numbers-page}
 use Rattle.agreement.specs.Steps.{range-ok, call-ok, call-page}
 
 -- an accepted file's version and length

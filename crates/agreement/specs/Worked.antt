@@ -16,8 +16,8 @@ use Rattle.step.specs.Step.{stepCheck}
 use Rattle.files.specs.File.{readCheck, fileCheck, lengthRefused, longAt, headOf, fileOf}
 use Rattle.files.specs.Page.{wordAt, pageAt, tailOf}
 use Rattle.files.specs.FontFile.{fontCheck, fontHead}
+use Rattle.numbers.specs.Files.{pageReadSize}
 use Rattle.feldrime.specs.Answers.{answerOf}
-use Rattle.feldrime.specs.Pages.{pageReadSize}
 use Rattle.agreement.specs.Cases.{page}
 use Rattle.agreement.specs.Steps.{after}
 use Rattle.agreement.specs.Frames.{frameClocks, every-frame}

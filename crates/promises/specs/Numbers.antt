@@ -22,12 +22,13 @@ use Rattle.files.specs.Page.{pageAt}
 use Rattle.files.specs.File.{fileCheck, readCheck, readPageOf, headOf, fileOf, writeCheck, written}
 use Rattle.files.specs.Laws.{file-passed}
 use Rattle.files.specs.Round.{Bytes, bytes-again}
+use Rattle.numbers.specs.Numbers.{numbersRefused, numbersBoard, numbersIn, numbersCheck}
+use Rattle.numbers.specs.Files.{pageReadSize, numbersRead}
+use Rattle.numbers.specs.Laws.{numbers-all, numbers-passed}
 use Rattle.feldrime.specs.declared.Answer.{Answer}
 use Rattle.feldrime.specs.declared.BoardAnswer.{BoardAnswer}
-use Rattle.feldrime.specs.Numbers.{numbersRefused, numbersBoard, numbersIn}
 use Rattle.feldrime.specs.Answers.{answerOf}
-use Rattle.feldrime.specs.Pages.{numbersCheck, pageReadSize, numbersRead, boardFor}
-use Rattle.feldrime.specs.NumbersLaws.{numbers-all, numbers-passed}
+use Rattle.feldrime.specs.Pages.{boardFor}
 use Rattle.agreement.specs.Steps.{range-ok}
 use Rattle.agreement.specs.Files.{length-file, board-same}
 use Rattle.promises.specs.Sizes.{made-done}
