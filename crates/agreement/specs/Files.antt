@@ -23,11 +23,11 @@ use Rattle.files.specs.Page.{wordAt, pageAt}
 use Rattle.files.specs.File.{longAt, versionRefused, lengthRefused, fileCheck, readCheck, pageRead, readPageOf, charsRead, attrsRead, headOf, fileOf, writeCheck, written}
 use Rattle.files.specs.FontFile.{fontCheck, fontIn, fontRead, fontWriteCheck, fontWritten}
 use Rattle.files.specs.Laws.{file-sized, FilePassed, file-passed, head-all, write-passed}
-use Rattle.files.specs.Round.{Bytes, page-again, page-kept}
+use Rattle.files.specs.Round.{Bytes, page-from, page-again, page-kept}
 use Rattle.files.specs.FontRound.{font-again}
-use Rattle.feldrime.specs.Numbers.{numbersRefused}
-use Rattle.feldrime.specs.NumbersLaws.{numbers-page}
-use Rattle.feldrime.specs.Pages.{numbersRead}
+use Rattle.numbers.specs.Numbers.{numbersRefused}
+use Rattle.numbers.specs.Files.{numbersRead}
+use Rattle.numbers.specs.Laws.{numbers-page}
 use Rattle.agreement.specs.Steps.{range-ok, call-ok, call-page}
 
 -- an accepted file's version and length
@@ -97,7 +97,7 @@ module _ (file : List ℕ) (bytes : Bytes file) (size : Bool) (ok : readCheck fi
 
 -- ---- a board, written and read again
 
-length-file : (p : Page) (chars attrs : List ℕ) → length (p .irs) ≡ 15 → length chars ≡ 16384 → length attrs ≡ 16384 → length (fileOf p chars attrs) ≡ 32797
+pub length-file : (p : Page) (chars attrs : List ℕ) → length (p .irs) ≡ 15 → length chars ≡ 16384 → length attrs ≡ 16384 → length (fileOf p chars attrs) ≡ 32797
 unfolding fileOf
 length-file p chars attrs n c a = length-append (headOf p) (chars ++ attrs) ∙ rw (head-all p n, length-append chars attrs, c, a)
 
@@ -116,8 +116,8 @@ module _ (b : Board) (irs-all : length (b .page .irs) ≡ 15) (chars attrs out :
   file-is = rw ok (take-at (fileOf (b .page) chars attrs) (drop 32797 out) 32797 (length-file (b .page) chars attrs irs-all (memories .0) (memories .1)))
 
   page-is : pageAt (fileOf (b .page) chars attrs) 5 ≡ b .page
-  unfolding fileOf
-  page-is = page-kept (b .page) (chars ++ attrs) irs-all
+  unfolding fileOf headOf
+  page-is = page-from (fileOf (b .page) chars attrs) 5 ∙ page-kept (b .page) (chars ++ attrs) irs-all
 
   version : versionRefused (fileOf (b .page) chars attrs) ≡ false
   unfolding fileOf headOf

@@ -13,10 +13,11 @@ use Rattle.step.specs.Step.{stepCheck}
 use Rattle.files.specs.File.{readCheck, charsRead, attrsRead}
 use Rattle.files.specs.FontFile.{fontCheck, fontRead}
 use Rattle.files.specs.Round.{Bytes}
+use Rattle.numbers.specs.Numbers.{numbersBoard, numbersCheck}
+use Rattle.numbers.specs.Files.{pageReadSize, numbersRead, pageWriteCheck, pageWritten}
 use Rattle.feldrime.specs.declared.StepAnswer.{StepAnswer}
-use Rattle.feldrime.specs.Numbers.{numbersBoard}
 use Rattle.feldrime.specs.Answers.{answerOf}
-use Rattle.feldrime.specs.Pages.{numbersCheck, pageReadSize, numbersRead, pageWriteCheck, pageWritten, boardFor}
+use Rattle.feldrime.specs.Pages.{boardFor}
 use Rattle.agreement.specs.Files.{file-ok, again, chars-read-all, attrs-read-all, numbers-fine, numbers-are, font-fine}
 use Rattle.agreement.specs.FromC.{zero-done, stepC, fit-from-c, begins-from-c, steps-answer}
 

@@ -27,14 +27,14 @@ use Rattle.video.specs.At.{scanOf, dotsAt, lentRefused}
 use Rattle.step.specs.Step.{steppedOf, stepCheck, stepOf}
 use Rattle.place.specs.State.{stateOf}
 use Rattle.files.specs.Page.{pageAt}
+use Rattle.numbers.specs.Numbers.{numbersRefused, numbersBoard, numbersCheck}
+use Rattle.numbers.specs.Laws.{numbers-passed}
 use Rattle.feldrime.specs.declared.StepAnswer.{StepAnswer}
 use Rattle.feldrime.specs.declared.BoardAnswer.{BoardAnswer}
 use Rattle.feldrime.specs.declared.Answer.{Answer}
-use Rattle.feldrime.specs.Numbers.{numbersRefused, numbersBoard}
 use Rattle.feldrime.specs.Answers.{answerOf, sizeAnswer, runAnswer, boardAnswer}
-use Rattle.feldrime.specs.Pages.{numbersCheck, sizeFor, runFor, boardFor}
+use Rattle.feldrime.specs.Pages.{sizeFor, runFor, boardFor}
 use Rattle.feldrime.specs.LineDraw.{lineDrawCheck, lineDrawn}
-use Rattle.feldrime.specs.NumbersLaws.{numbers-passed}
 use Rattle.feldrime.specs.Step.{numbered, stepNumbers}
 use Rattle.agreement.specs.Steps.{call-ok, call-page, after, step-answers, at-once-anywhere}
 use Rattle.agreement.specs.Files.{zero-ok}

@@ -15,10 +15,12 @@ use Rattle.shape.specs.Font.{Font, fontRefused}
 use Rattle.place.specs.State.{stateOf}
 use Rattle.files.specs.File.{readCheck, charsRead, attrsRead}
 use Rattle.files.specs.FontFile.{fontCheck, fontRead}
+use Rattle.numbers.specs.Numbers.{numbersCheck}
+use Rattle.numbers.specs.Files.{pageReadSize, numbersRead, pageWriteCheck, pageWritten}
 use Rattle.feldrime.specs.declared.Answer.{Answer}
 use Rattle.feldrime.specs.declared.StepAnswer.{StepAnswer}
 use Rattle.feldrime.specs.Answers.{answerOf, boardAnswer, byteAnswer}
-use Rattle.feldrime.specs.Pages.{numbersCheck, sizeFor, pageReadSize, numbersRead, pageWriteCheck, pageWritten, runFor, boardFor}
+use Rattle.feldrime.specs.Pages.{sizeFor, runFor, boardFor}
 use Rattle.feldrime.specs.LineDraw.{lineDrawCheck, lineDrawn}
 use Rattle.feldrime.specs.Step.{stepNumbers}
 

@@ -1,10 +1,10 @@
--- No second answer meets the contract of a public function of `copies`, `files` or `listing_lines`: it names its answer, so each of these is `only`.
+-- No second answer meets the contract of a public function of `copies`, `files`, `numbers` or `listing_lines`: it names its answer, so each of these is `only`.
 use Prim.Native.Nat.{ℕ}
 use mathlib.Core.Path.{_≡_}
 use mathlib.Core.Bool.{Bool}
 use mathlib.Core.List.{List}
 use lib.ListN.{length, take, drop}
-use Rattle.lists.specs.Answer.{OneAnswer, only, only-both, only-three}
+use Rattle.lists.specs.Answer.{OneAnswer, only, only-both, only-three, only-four}
 use Rattle.refusal.specs.declared.Refusal.{Refusal}
 use Rattle.board.specs.declared.Page.{Page}
 use Rattle.board.specs.declared.Board.{Board}
@@ -15,7 +15,9 @@ use Rattle.copies.specs.Put.{putAt}
 use Rattle.files.specs.declared.PageRead.{PageRead}
 use Rattle.files.specs.File.{readCheck, readPageOf, charsRead, attrsRead, writeCheck, written}
 use Rattle.files.specs.FontFile.{fontCheck, fontRead, fontWriteCheck, fontWritten}
-use Rattle.files.specs.Page.{pageAt, boardAt}
+use Rattle.files.specs.Page.{pageAt, boardAt, pageBytes}
+use Rattle.numbers.specs.Numbers.{numbersRefused, numbersCheck}
+use Rattle.numbers.specs.Files.{pageReadSize, numbersRead, pageWriteCheck, pageWritten}
 use Rattle.listing_lines.specs.declared.Listed.{Listed}
 use Rattle.listing_lines.specs.Listing.{listingHead, listingLine, headCheck, lineCheck, listedOf, listedIn}
 
@@ -59,6 +61,32 @@ page-at-one bytes at = only (pageAt bytes at)
 
 pub board-at-one : (bytes : List ℕ) (at : ℕ) → OneAnswer (λ r. r ≡ boardAt bytes at)
 board-at-one bytes at = only (boardAt bytes at)
+
+pub page-bytes-one : (p : Page) → OneAnswer (λ r. r ≡ pageBytes p)
+page-bytes-one p = only (pageBytes p)
+
+-- ---- `numbers`
+
+pub numbers-refused-one : (numbers : List ℕ) → OneAnswer (λ r. r ≡ numbersRefused numbers)
+numbers-refused-one numbers = only (numbersRefused numbers)
+
+pub numbers-check-one : (numbers : List ℕ) → OneAnswer (λ r. r ≡ numbersCheck numbers)
+numbers-check-one numbers = only (numbersCheck numbers)
+
+-- the refusal, the numbers and both memories
+pub read-file-one : (file numbers chars attrs : List ℕ)
+    → OneAnswer (λ (r : Refusal × List ℕ × List ℕ × List ℕ).
+    (r .0 ≡ readCheck file (pageReadSize (length numbers) (length chars) (length attrs)))
+    × (r .1 ≡ numbersRead file (pageReadSize (length numbers) (length chars) (length attrs)) numbers)
+    × (r .2 ≡ charsRead file (pageReadSize (length numbers) (length chars) (length attrs)) chars)
+    × (r .3 ≡ attrsRead file (pageReadSize (length numbers) (length chars) (length attrs)) attrs))
+read-file-one file numbers chars attrs =
+    let size = pageReadSize (length numbers) (length chars) (length attrs) in
+    only-four (readCheck file size) (numbersRead file size numbers) (charsRead file size chars) (attrsRead file size attrs)
+
+pub write-file-one : (numbers chars attrs out : List ℕ)
+    → OneAnswer (λ (r : Refusal × List ℕ). (r .0 ≡ pageWriteCheck numbers (length chars) (length attrs) (length out)) × (r .1 ≡ pageWritten numbers chars attrs out))
+write-file-one numbers chars attrs out = only-both (pageWriteCheck numbers (length chars) (length attrs) (length out)) (pageWritten numbers chars attrs out)
 
 -- ---- `listing_lines`
 

@@ -14,10 +14,10 @@ use Rattle.timing.specs.Check.{pageCheck, stateRefused, callCheck}
 use Rattle.shape.specs.Font.{Font, fontOf, fontRefused}
 use Rattle.step.specs.Step.{stepCheck}
 use Rattle.files.specs.File.{readCheck, fileCheck, lengthRefused, longAt, headOf, fileOf}
-use Rattle.files.specs.Page.{wordAt, pageAt}
+use Rattle.files.specs.Page.{wordAt, pageAt, tailOf}
 use Rattle.files.specs.FontFile.{fontCheck, fontHead}
+use Rattle.numbers.specs.Files.{pageReadSize}
 use Rattle.feldrime.specs.Answers.{answerOf}
-use Rattle.feldrime.specs.Pages.{pageReadSize}
 use Rattle.agreement.specs.Cases.{page}
 use Rattle.agreement.specs.Steps.{after}
 use Rattle.agreement.specs.Frames.{frameClocks, every-frame}
@@ -79,7 +79,7 @@ abbrev pub numbers : List ℕ
 numbers = replicate 32 0
 
 pub page-taken : answerOf (readCheck file (pageReadSize (length numbers) (length memory) (length memory))) .refusal ≡ 0
-unfolding sheet memory page readCheck fileCheck lengthRefused longAt wordAt headOf fileOf pageAt pageCheck addressRefused
+unfolding sheet memory page readCheck fileCheck lengthRefused longAt wordAt tailOf headOf fileOf pageAt pageCheck addressRefused
 page-taken = refl
 
 pub font-taken : answerOf (fontCheck fontFile (fontRefused (fontOf (font .words) (font .flags) (font .unshifted) (font .shifted)))) .refusal ≡ 0

@@ -5,11 +5,12 @@
 --     put-back       a lent stretch that came back is such a part
 --     Laid           what stands at the front so far
 --     put-on         one part more, behind it
+--     laid-all       the parts fill the buffer
 use Prim.Native.Nat.{ℕ, _+_, _-_, _≤_}
 use mathlib.Core.Path.{_≡_, refl, sym, _∙_}
 use mathlib.Core.List.{List, [], _++_, append-nil, append-assoc}
 use native.Mathlib.Omega.{arith}
-use lib.ListN.{length, take, drop, length-drop, length-append}
+use lib.ListN.{length, take, drop, length-drop, length-append, drop-of-length-le}
 use lib.Seq.{take-at, drop-at, drop-drop, take-length, drop-length, length-take-le}
 
 pub whole : (s d x : List ℕ) → length s ≡ length d → x ≡ take (length s) s ++ drop (length s) d → x ≡ s
@@ -45,3 +46,6 @@ put-on front part out₀ at k l n e = (length-append front part ∙ rw (l .0, n)
 
     body : take at (front ++ d) ++ (part ++ drop (at + k) out₀) ≡ (front ++ part) ++ drop (at + k) out₀
     body = rw (take-at front d at (l .0)) (sym (append-assoc front part (drop (at + k) out₀)))
+
+pub laid-all : (front out₀ : List ℕ) (n : ℕ) {out : List ℕ} → Laid front n out₀ out → length out₀ ≡ n → out ≡ front
+laid-all front out₀ n l e = l .1 ∙ rw (drop-of-length-le out₀ {i = n} (omega (arith, e))) (append-nil front)

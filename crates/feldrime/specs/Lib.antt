@@ -1,8 +1,6 @@
 -- The calls for C.
-pub mod Numbers
 pub mod Answers
 pub mod Pages
 pub mod LineDraw
-pub mod NumbersLaws
 pub mod Laws
 pub mod Step

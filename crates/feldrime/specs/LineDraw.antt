@@ -7,7 +7,7 @@ use Rattle.refusal.specs.declared.Refusal.the-variants.{Size}
 use Rattle.shape.specs.Font.{Font}
 use Rattle.video.specs.At.{lentRefused}
 use Rattle.line.specs.Line.{drawCheck, drawnOf}
-use Rattle.feldrime.specs.Numbers.{numbersRefused, numbersBoard}
+use Rattle.numbers.specs.Numbers.{numbersRefused, numbersBoard}
 
 -- 3 for the numbers, then the line's own refusals
 unfoldable pub lineDrawCheck : (numbers chars attrs : List ℕ) → Font → (line room : ℕ) → Refusal

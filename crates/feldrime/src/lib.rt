@@ -2,7 +2,6 @@
 ghost use mathlib.Core.Path.{_≡_};
 ghost use lib.ListN.{length};
 ghost use Rattle.lists.specs.Choice.{pick};
-ghost use Rattle.lists.specs.Tab.{tab};
 ghost use lib.Dec.{eqb};
 ghost use mathlib.Core.Bool.{not};
 ghost use Rattle.units.specs.Units.{dots};
@@ -14,9 +13,10 @@ ghost use Rattle.shape.specs.Font.{lentFont, leftFont, fontRefused};
 ghost use Rattle.place.specs.State.{stateOf};
 ghost use Rattle.files.specs.File.{readCheck, charsRead, attrsRead};
 ghost use Rattle.files.specs.FontFile.{fontCheck, fontRead};
-ghost use Rattle.feldrime.specs.Numbers.{numbersRefused, numberAt};
+ghost use Rattle.numbers.specs.Numbers.{numbersCheck};
+ghost use Rattle.numbers.specs.Files.{pageReadSize, numbersRead, pageWriteCheck, pageWritten};
 ghost use Rattle.feldrime.specs.Answers.{answerOf, boardAnswer, byteAnswer};
-ghost use Rattle.feldrime.specs.Pages.{numbersCheck, sizeFor, pageReadSize, numbersRead, pageWriteCheck, pageWritten, runFor, boardFor};
+ghost use Rattle.feldrime.specs.Pages.{sizeFor, runFor, boardFor};
 ghost use Rattle.feldrime.specs.LineDraw.{lineDrawCheck, lineDrawn};
 ghost use Rattle.feldrime.specs.Step.{numbered, stepNumbers};
 
@@ -36,31 +36,11 @@ fn answered(r: refusal::Refusal) -> Answer
     }
 }
 
-// 3, for a page's numbers. The version is looked at only where there is one.
-fn numbers_refused(numbers: &[u8]) -> bool
-    ensures { λ r. ⌜ r ≡ numbersRefused (now (numbers .entry)) ⌝ }
-{
-    if numbers.len() != 32 {
-        return true;
-    }
-    numbers[0] != 1
-}
-
-// The page check: 3, 12, 4, 5, 6.
-fn numbers_check(numbers: &[u8]) -> refusal::Refusal
-    ensures { λ r. ⌜ r ≡ numbersCheck (now (numbers .entry)) ⌝ }
-{
-    if numbers_refused(numbers) {
-        return refusal::Refusal::Size;
-    }
-    timing::page_check(files::page_at(numbers, 1))
-}
-
 #[no_mangle]
 pub extern "C" fn feldrime_page_check(numbers: &[u8]) -> Answer
     ensures { λ r. ⌜ r ≡ answerOf (numbersCheck (now (numbers .entry))) ⌝ }
 {
-    answered(numbers_check(numbers))
+    answered(numbers::numbers_check(numbers))
 }
 
 // Visible lines, and dots in a line.
@@ -76,7 +56,7 @@ pub struct SizeAnswer {
 pub extern "C" fn feldrime_page_size(numbers: &[u8]) -> SizeAnswer
     ensures { λ r. ⌜ r ≡ sizeFor (now (numbers .entry)) ⌝ }
 {
-    if numbers_refused(numbers) {
+    if numbers::numbers_refused(numbers) {
         return SizeAnswer {
             refusal: 3,
             beside: 0,
@@ -94,33 +74,6 @@ pub extern "C" fn feldrime_page_size(numbers: &[u8]) -> SizeAnswer
     }
 }
 
-// Byte i of a page file's numbers.
-fn number_at(file: &[u8], i: usize) -> u8
-    ensures { λ r. ⌜ r ≡ numberAt (now (file .entry)) i ⌝ }
-{
-    if i == 0 {
-        return 1;
-    }
-    if 24 < i {
-        return 0;
-    }
-    if file.len() <= i + 4 {
-        return 0;
-    }
-    file[i + 4]
-}
-
-// As many of a page file's numbers as there is room for.
-fn put_numbers(file: &[u8], numbers: &mut [u8])
-    ensures { λ _. ⌜ now (numbers .exit) ≡ tab (length (now (numbers .entry))) (numberAt (now (file .entry))) ⌝ }
-{
-    let mut i = 0;
-    while i < numbers.len() {
-        numbers[i] = number_at(file, i);
-        i += 1;
-    }
-}
-
 // Reads a page file: its numbers and the two memories. A refusal leaves them as they were.
 #[no_mangle]
 pub extern "C" fn feldrime_page_read(
@@ -135,14 +88,8 @@ pub extern "C" fn feldrime_page_read(
         × (now (chars .exit) ≡ charsRead (now (file .entry)) size (now (chars .entry)))
         × (now (attrs .exit) ≡ attrsRead (now (file .entry)) size (now (attrs .entry))) ⌝ }
 {
-    let size = board::memories_refused(chars.len(), attrs.len()) | (numbers.len() != 32);
-    let judged = files::read_check(file, size);
-    let answer = answered(judged);
-    if refusal::is_done(judged) {
-        files::read_page(file, chars, attrs);
-        put_numbers(file, numbers);
-    }
-    answer
+    let refused = numbers::read_file(file, numbers, chars, attrs);
+    answered(refused)
 }
 
 // Writes a page file at the front of out.
@@ -157,11 +104,7 @@ pub extern "C" fn feldrime_page_write(
         ⌜ (r ≡ answerOf (pageWriteCheck (now (numbers .entry)) (length (now (chars .entry))) (length (now (attrs .entry))) (length (now (out .entry)))))
         × (now (out .exit) ≡ pageWritten (now (numbers .entry)) (now (chars .entry)) (now (attrs .entry)) (now (out .entry))) ⌝ }
 {
-    if numbers_refused(numbers) {
-        return answered(refusal::Refusal::Size);
-    }
-    let b = files::board_at(numbers, 1);
-    let refused = files::write_page(b, chars, attrs, out);
+    let refused = numbers::write_file(numbers, chars, attrs, out);
     answered(refused)
 }
 
@@ -200,7 +143,7 @@ pub extern "C" fn feldrime_line_draw(
         ⌜ (r ≡ answerOf (lineDrawCheck (now (numbers .entry)) (now (chars .entry)) (now (attrs .entry)) f line (length (now (out .entry)))))
         × (now (out .exit) ≡ lineDrawn (now (numbers .entry)) (now (chars .entry)) (now (attrs .entry)) f line field (now (out .entry))) ⌝ }
 {
-    if numbers_refused(numbers) {
+    if numbers::numbers_refused(numbers) {
         return answered(refusal::Refusal::Size);
     }
     let b = files::board_at(numbers, 1);
@@ -232,7 +175,7 @@ pub struct RunAnswer {
 pub extern "C" fn feldrime_row_run(numbers: &[u8], chars: &[u8], row: u32) -> RunAnswer
     ensures { λ r. ⌜ r ≡ runFor (now (numbers .entry)) (now (chars .entry)) row ⌝ }
 {
-    if numbers_refused(numbers) {
+    if numbers::numbers_refused(numbers) {
         return RunAnswer {
             refusal: 3,
             beside: 0,
@@ -280,7 +223,7 @@ pub extern "C" fn feldrime_power() -> board::Board
 pub extern "C" fn feldrime_board_of(numbers: &[u8]) -> BoardAnswer
     ensures { λ r. ⌜ r ≡ boardFor (now (numbers .entry)) ⌝ }
 {
-    let refused = numbers_check(numbers);
+    let refused = numbers::numbers_check(numbers);
     if refusal::is_done(refused) {
         return with_board(refused, files::board_at(numbers, 1));
     }

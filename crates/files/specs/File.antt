@@ -1,5 +1,5 @@
 -- 01, "Files": the page file. A file is exactly its size.
-use Prim.Native.Nat.{ℕ, _+_, _*_, _/_, _%_}
+use Prim.Native.Nat.{ℕ, _+_, _*_}
 use mathlib.Core.Bool.{Bool, false, _||_, not}
 use mathlib.Core.List.{List, [], _∷_, _++_}
 use lib.ListN.{length, getD, take, drop}
@@ -14,7 +14,7 @@ use Rattle.board.specs.State.{powerOf}
 use Rattle.board.specs.Range.{memoriesRefused}
 use Rattle.timing.specs.Check.{pageCheck, callCheck}
 use Rattle.files.specs.declared.PageRead.{PageRead}
-use Rattle.files.specs.Page.{wordAt, pageAt, boardAt}
+use Rattle.files.specs.Page.{wordAt, pageAt, boardAt, pageBytes}
 
 -- four bytes big-endian
 unfoldable pub longAt : List ℕ → ℕ → ℕ
@@ -52,19 +52,13 @@ attrsRead file size attrs = pick (doneOf (readCheck file size)) (take 16384 (dro
 
 -- ---- writing
 
--- two bytes big-endian
-abbrev pub bytesOf : ℕ → List ℕ
-bytesOf x = (x / 256) ∷ (x % 256) ∷ []
+-- version 1, the length 32,792 in four bytes
+abbrev pub pageHead : List ℕ
+pageHead = 1 ∷ 0 ∷ 0 ∷ 128 ∷ 24 ∷ []
 
--- what stands before the memories: version 1, the length 32,792 in four bytes, and the page's numbers
+-- what stands before the memories
 unfoldable pub headOf : Page → List ℕ
-headOf p =
-    (1 ∷ 0 ∷ 0 ∷ 128 ∷ 24 ∷ [])
-    ++ (p .irs
-    ++ (bytesOf (p .starts .start1)
-    ++ (bytesOf (p .starts .cursor)
-    ++ (bytesOf (p .starts .start2)
-    ++ (p .switches ∷ p .video .dots .0 ∷ p .video .strike ∷ [])))))
+headOf p = pageHead ++ pageBytes p
 
 -- a page's file
 unfoldable pub fileOf : Page → (chars attrs : List ℕ) → List ℕ

@@ -8,13 +8,13 @@ use native.Mathlib.Nat.{eq-zero-or-pos}
 use native.Mathlib.Decide.{decLt}
 use native.Mathlib.Omega.{arith}
 use lib.ListN.{length, getD, take, drop, take-append-drop, length-take, length-drop, List·getD-eq-default}
-use lib.Seq.{take-all, ext-getD, drop-drop, getD-drop, getD-take}
+use lib.Seq.{take-all, ext-getD, getD-drop, getD-take}
 use Rattle.lists.specs.Tab.{length-tab, getD-tab}
 use Rattle.files.specs.Page.{wordAt}
 use Rattle.files.specs.File.{longAt}
 use Rattle.files.specs.FontFile.{wordsOf, byteOf, bytesIn, fontIn, fontFileOf}
 use Rattle.copies.specs.Put.{length-part}
-use Rattle.files.specs.Round.{Bytes, word-high, word-low, word-kept, front-again}
+use Rattle.files.specs.Round.{Bytes, word-high, word-low, word-kept, front-again, on}
 
 -- ---- words and their bytes
 
@@ -75,9 +75,6 @@ part-bytes f a n fits i = go (decLt i n)
     go (no x) =
         let short : length (take n (drop a f)) ≤ i = omega (arith, length-take n (drop a f)) in
         rw (List·getD-eq-default (take n (drop a f)) 0 short) (omega arith)
-
-on : (f : List ℕ) (a n : ℕ) → take n (drop a f) ++ drop (a + n) f ≡ drop a f
-on f a n = rw (sym (drop-drop n a f)) (take-append-drop n (drop a f))
 
 -- a font file's parts, written again, are the same bytes
 pub font-again : (f : List ℕ) → Bytes f → length f ≡ 2455 → getD f 0 0 ≡ 1 → longAt f 1 ≡ 2450 → fontFileOf (fontIn f) ≡ f

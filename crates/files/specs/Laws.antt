@@ -1,15 +1,13 @@
 -- What the proofs of the file calls use. Assumes nothing.
-use Prim.Native.Nat.{ℕ, _+_, _/_, _%_, _≤_}
-use mathlib.Core.Path.{_≡_, refl, sym, _∙_}
+use Prim.Native.Nat.{ℕ, _+_, _≤_}
+use mathlib.Core.Path.{_≡_, refl, ap, _∙_}
 use mathlib.Core.Bool.{Bool, true, false, _||_, not, true≢false}
 use mathlib.Core.List.{List, [], _∷_, _++_, append-assoc}
 use native.Mathlib.Omega.{arith}
 use borrow.Author.Tests.{eqb-true, ltb-false, not-false}
 use lib.Dec.{eqb, ltb}
-use lib.ListN.{length, getD, take, drop, length-append}
-use lib.Seq.{ext-getD}
+use lib.ListN.{length, take, drop, length-append}
 use Rattle.lists.specs.Choice.{firstOf, neither}
-use Rattle.lists.specs.Tab.{tab, length-tab, getD-tab}
 use Rattle.refusal.specs.declared.Refusal.{Refusal}
 use Rattle.refusal.specs.declared.Refusal.the-variants.{Done, Version, Length, Size}
 use Rattle.refusal.specs.Number.{doneOf}
@@ -21,9 +19,9 @@ use Rattle.board.specs.Range.{memoriesRefused}
 use Rattle.board.specs.Laws.{memories-all}
 use Rattle.timing.specs.Check.{pageCheck}
 use Rattle.timing.specs.Laws.{call-passed}
-use Rattle.files.specs.Page.{pageAt, boardAt}
-use Rattle.copies.specs.Put.{putAt, laid-none, put-on}
-use Rattle.files.specs.File.{longAt, versionRefused, lengthRefused, fileCheck, readCheck, pageRead, readPageOf, charsRead, attrsRead, bytesOf, headOf, fileOf, writeCheck, written}
+use Rattle.files.specs.Page.{pageAt, boardAt, tailOf, pageBytes}
+use Rattle.copies.specs.Put.{putAt, laid-none, put-on, laid-all}
+use Rattle.files.specs.File.{longAt, versionRefused, lengthRefused, fileCheck, readCheck, pageRead, readPageOf, charsRead, attrsRead, pageHead, headOf, fileOf, writeCheck, written}
 
 -- an empty file has no version
 pub no-version : (file : List ℕ) → length file ≡ 0 → true ≡ versionRefused file
@@ -97,42 +95,37 @@ module _ (file : List ℕ) (size : Bool) (chars attrs : List ℕ) (x : Refusal) 
   unfolding readPageOf charsRead attrsRead
   read-refused t b eb = (rw (t, e, eb), rw t, rw t)
 
-tab-all : (xs : List ℕ) (n : ℕ) → length xs ≡ n → tab n (λ i. getD xs i 0) ≡ xs
-tab-all xs n e = ext-getD 0 (tab n f) xs (length-tab n f ∙ sym e) (λ i h. getD-tab n f i (rw (length-tab n f) at h))
-  where
-    f : ℕ → ℕ
-    f i = getD xs i 0
+tail-all : (p : Page) → length (tailOf p) ≡ 9
+unfolding tailOf
+tail-all p = refl
 
--- what stands before the memories, byte by byte
-pub head-is : (p : Page) → length (p .irs) ≡ 15 → (h₁ l₁ h₂ l₂ h₃ l₃ : ℕ)
-    → h₁ ≡ p .starts .start1 / 256 → l₁ ≡ p .starts .start1 % 256
-    → h₂ ≡ p .starts .cursor / 256 → l₂ ≡ p .starts .cursor % 256
-    → h₃ ≡ p .starts .start2 / 256 → l₃ ≡ p .starts .start2 % 256
-    → (1 ∷ 0 ∷ 0 ∷ 128 ∷ 24 ∷ [])
-    ++ (tab 15 (λ i. getD (p .irs) i 0)
-    ++ (h₁ ∷ l₁ ∷ h₂ ∷ l₂ ∷ h₃ ∷ l₃ ∷ p .switches ∷ p .video .dots .0 ∷ p .video .strike ∷ []))
-    ≡ headOf p
-unfolding headOf
-head-is p n h₁ l₁ h₂ l₂ h₃ l₃ a b c d e f = rw (tab-all (p .irs) 15 n, a, b, c, d, e, f)
+-- the IRs and what stands behind them, put into 24 bytes
+pub bytes-put : (p : Page) → length (p .irs) ≡ 15 → (out : List ℕ) → length out ≡ 24
+    → {tail one two : List ℕ} → tail ≡ tailOf p → one ≡ putAt 0 (p .irs) out → two ≡ putAt 15 tail one → two ≡ pageBytes p
+bytes-put p n out all t e₁ e₂ =
+    let l₁ = put-on [] (p .irs) out 0 15 (laid-none out) n e₁ in
+    let l₂ = put-on (p .irs) (tailOf p) out 15 9 l₁ (tail-all p) (rw t at e₂) in
+    laid-all (pageBytes p) out 24 l₂ all
+
+pub bytes-all : (p : Page) → length (p .irs) ≡ 15 → length (pageBytes p) ≡ 24
+bytes-all p n = length-append (p .irs) (tailOf p) ∙ rw (n, tail-all p)
 
 pub head-all : (p : Page) → length (p .irs) ≡ 15 → length (headOf p) ≡ 29
 unfolding headOf
-head-all p n =
-    let all : length (p .irs ++ numbers) ≡ 24 = length-append (p .irs) numbers ∙ rw n in
-    length-append (1 ∷ 0 ∷ 0 ∷ 128 ∷ 24 ∷ []) (p .irs ++ numbers) ∙ rw all
-  where
-    numbers : List ℕ
-    numbers = bytesOf (p .starts .start1) ++ (bytesOf (p .starts .cursor) ++ (bytesOf (p .starts .start2) ++ (p .switches ∷ p .video .dots .0 ∷ p .video .strike ∷ [])))
+head-all p n = length-append pageHead (pageBytes p) ∙ rw (bytes-all p n)
 
 -- a page file put into a buffer part by part
 pub page-put : (p : Page) → length (p .irs) ≡ 15 → (chars attrs out : List ℕ) → length chars ≡ 16384 → length attrs ≡ 16384
-    → {head one two three : List ℕ} → head ≡ headOf p → one ≡ putAt 0 head out → two ≡ putAt 29 chars one → three ≡ putAt 16413 attrs two
-    → three ≡ fileOf p chars attrs ++ drop 32797 out
-unfolding fileOf
-page-put p n chars attrs out nc na h e₁ e₂ e₃ =
-    let l₁ = put-on [] (headOf p) out 0 29 (laid-none out) (head-all p n) (rw h at e₁) in
-    let l₂ = put-on (headOf p) chars out 29 16384 l₁ nc e₂ in
-    put-on (headOf p ++ chars) attrs out 16413 16384 l₂ na e₃ .1 ∙ rw (append-assoc (headOf p) chars attrs)
+    → {page one two three four : List ℕ} → page ≡ pageBytes p
+    → one ≡ putAt 0 pageHead out → two ≡ putAt 5 page one → three ≡ putAt 29 chars two → four ≡ putAt 16413 attrs three
+    → four ≡ fileOf p chars attrs ++ drop 32797 out
+unfolding fileOf headOf
+page-put p n chars attrs out nc na h e₁ e₂ e₃ e₄ =
+    let l₁ = put-on [] pageHead out 0 5 (laid-none out) refl e₁ in
+    let l₂ = put-on pageHead (pageBytes p) out 5 24 l₁ (bytes-all p n) (rw h at e₂) in
+    let l₃ = put-on (pageHead ++ pageBytes p) chars out 29 16384 l₂ nc e₃ in
+    put-on ((pageHead ++ pageBytes p) ++ chars) attrs out 16413 16384 l₃ na e₄ .1
+    ∙ ap (λ (x : List ℕ). x ++ drop 32797 out) (append-assoc (pageHead ++ pageBytes p) chars attrs)
 
 -- a write that nothing refuses
 pub write-passed : (b : Board) (chars attrs out : ℕ) → writeCheck b chars attrs out ≡ Done

@@ -1,6 +1,6 @@
 -- 01, "Files": what a page file holds between its length and its character memory.
-use Prim.Native.Nat.{ℕ, _+_, _*_}
-use mathlib.Core.List.{List}
+use Prim.Native.Nat.{ℕ, _+_, _*_, _/_, _%_}
+use mathlib.Core.List.{List, [], _∷_, _++_}
 use lib.ListN.{getD, take, drop}
 use Rattle.units.specs.Units.{dots}
 use Rattle.board.specs.declared.Starts.{Starts}
@@ -32,3 +32,21 @@ pageAt bytes at = record {
 -- a page read gives an active board at clock 0
 abbrev pub boardAt : List ℕ → ℕ → Board
 boardAt bytes at = boardOf (pageAt bytes at)
+
+-- ---- writing
+
+-- two bytes big-endian
+abbrev pub bytesOf : ℕ → List ℕ
+bytesOf x = (x / 256) ∷ (x % 256) ∷ []
+
+-- what stands behind the IRs: the three addresses, switches, dots, strike line
+unfoldable pub tailOf : Page → List ℕ
+tailOf p =
+    bytesOf (p .starts .start1)
+    ++ (bytesOf (p .starts .cursor)
+    ++ (bytesOf (p .starts .start2)
+    ++ (p .switches ∷ p .video .dots .0 ∷ p .video .strike ∷ [])))
+
+-- the page as it is written
+abbrev pub pageBytes : Page → List ℕ
+pageBytes p = p .irs ++ tailOf p

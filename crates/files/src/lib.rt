@@ -3,8 +3,8 @@ ghost use mathlib.Core.Path.{_≡_};
 ghost use Prim.Native.Nat.{_+_, _*_, _/_, _%_, _≤_};
 ghost use mathlib.Core.List.{_++_};
 ghost use lib.ListN.{length, take, drop};
-ghost use Rattle.files.specs.Page.{wordAt, startsAt, videoOf, pageAt, boardAt};
-ghost use Rattle.files.specs.File.{longAt, versionRefused, lengthRefused, fileCheck, readCheck, readPageOf, charsRead, attrsRead, headOf, fileOf, writeCheck, written};
+ghost use Rattle.files.specs.Page.{wordAt, startsAt, videoOf, pageAt, boardAt, tailOf, pageBytes};
+ghost use Rattle.files.specs.File.{longAt, versionRefused, lengthRefused, fileCheck, readCheck, readPageOf, charsRead, attrsRead, fileOf, writeCheck, written};
 ghost use Rattle.files.specs.FontFile.{wordsOf, byteOf, bytesIn, fontCheck, fontRead, fontFileOf, fontWriteCheck, fontWritten};
 ghost use Rattle.copies.specs.Put.{putAt};
 ghost use Rattle.board.specs.Range.{memoriesRefused};
@@ -180,34 +180,13 @@ fn low(x: u16) -> u8
     (x % 256) as u8
 }
 
-// The bytes before a page file's memories.
-fn head_of(p: board::Page) -> [u8; 29]
+// The nine bytes that stand behind the IRs.
+fn tail_of(p: board::Page) -> [u8; 9]
     requires { ⌜ p .video .dots .0 ≤ 12 ⌝ }
-    ensures { λ r. ⌜ r ≡ headOf p ⌝ }
+    ensures { λ r. ⌜ r ≡ tailOf p ⌝ }
 {
-    let irs = p.irs;
     let s = p.starts;
     [
-        1,
-        0,
-        0,
-        128,
-        24,
-        irs[0],
-        irs[1],
-        irs[2],
-        irs[3],
-        irs[4],
-        irs[5],
-        irs[6],
-        irs[7],
-        irs[8],
-        irs[9],
-        irs[10],
-        irs[11],
-        irs[12],
-        irs[13],
-        irs[14],
         high(s.start1),
         low(s.start1),
         high(s.cursor),
@@ -220,14 +199,29 @@ fn head_of(p: board::Page) -> [u8; 29]
     ]
 }
 
+// The 24 bytes that `page_at` reads.
+pub fn page_bytes(p: board::Page) -> [u8; 24]
+    requires { ⌜ p .video .dots .0 ≤ 12 ⌝ }
+    ensures { λ r. ⌜ r ≡ pageBytes p ⌝ }
+{
+    let irs = p.irs;
+    let tail = tail_of(p);
+    let mut bytes = [0u8; 24];
+    copies::put(&irs, 0, &mut bytes);
+    copies::put(&tail, 15, &mut bytes);
+    bytes
+}
+
 // A page's file into the front of out; bytes beyond it stay.
 fn put_file(p: board::Page, chars: &[u8], attrs: &[u8], out: &mut [u8])
     requires { ⌜ (p .video .dots .0 ≤ 12)
         × (length (now chars) ≡ 16384) × (length (now attrs) ≡ 16384) × (32797 ≤ length (now out)) ⌝ }
     ensures { λ _. ⌜ now (out .exit) ≡ fileOf p (now (chars .entry)) (now (attrs .entry)) ++ drop 32797 (now (out .entry)) ⌝ }
 {
-    let head = head_of(p);
+    let head = [1, 0, 0, 128, 24];
+    let page = page_bytes(p);
     copies::put(&head, 0, out);
+    copies::put(&page, 5, out);
     copies::put(chars, 29, out);
     copies::put(attrs, 16413, out);
 }

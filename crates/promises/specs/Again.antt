@@ -18,10 +18,10 @@ use Rattle.shape.specs.Font.{Font, fontOf, fontRefused}
 use Rattle.files.specs.File.{readCheck, charsRead, attrsRead, writeCheck, written}
 use Rattle.files.specs.FontFile.{fontCheck, fontRead, fontWriteCheck, fontWritten}
 use Rattle.files.specs.Round.{Bytes}
+use Rattle.numbers.specs.Numbers.{numbersRefused, numbersBoard}
+use Rattle.numbers.specs.Files.{numbersRead, pageWriteCheck, pageWritten}
 use Rattle.feldrime.specs.declared.Answer.{Answer}
-use Rattle.feldrime.specs.Numbers.{numbersRefused, numbersBoard}
 use Rattle.feldrime.specs.Answers.{answerOf}
-use Rattle.feldrime.specs.Pages.{numbersRead, pageWriteCheck, pageWritten}
 use Rattle.agreement.specs.Files.{font-same}
 use Rattle.agreement.specs.FilesFromC.{page-same-from-c}
 

@@ -6,15 +6,13 @@ use mathlib.Core.List.{List, [], _∷_, _++_, append-nil}
 use native.Mathlib.Omega.{arith}
 use borrow.Author.Tests.{eq-eqb, ne-eqb, eqb-true, not-false}
 use lib.Dec.{eqb}
-use lib.ListN.{length, getD, take, drop, replicate, length-append}
+use lib.ListN.{length, getD, take, drop, replicate}
 use lib.Seq.{take-all, take-at, drop-cons}
 use Rattle.lists.specs.Choice.{pick, neither}
-use Rattle.lists.specs.Tab.{tab, tab-part}
 use Rattle.refusal.specs.declared.Refusal.{Refusal}
 use Rattle.refusal.specs.declared.Refusal.the-variants.{Done, Size}
 use Rattle.refusal.specs.Number.{numberOf, doneOf}
 use Rattle.refusal.specs.Laws.{done-is, passed}
-use Rattle.board.specs.declared.Page.{Page}
 use Rattle.board.specs.Range.{memoriesRefused}
 use Rattle.board.specs.Laws.{memories-all}
 use Rattle.timing.specs.Check.{pageCheck, stateRefused, callCheck}
@@ -22,16 +20,17 @@ use Rattle.copies.specs.Put.{length-part}
 use Rattle.files.specs.declared.PageRead.{PageRead}
 use Rattle.files.specs.Page.{pageAt}
 use Rattle.files.specs.File.{fileCheck, readCheck, readPageOf, headOf, fileOf, writeCheck, written}
-use Rattle.files.specs.Laws.{file-passed, head-all}
-use Rattle.files.specs.Round.{Bytes, word-high, word-low}
+use Rattle.files.specs.Laws.{file-passed}
+use Rattle.files.specs.Round.{Bytes, bytes-again}
+use Rattle.numbers.specs.Numbers.{numbersRefused, numbersBoard, numbersIn, numbersCheck}
+use Rattle.numbers.specs.Files.{pageReadSize, numbersRead}
+use Rattle.numbers.specs.Laws.{numbers-all, numbers-passed}
 use Rattle.feldrime.specs.declared.Answer.{Answer}
 use Rattle.feldrime.specs.declared.BoardAnswer.{BoardAnswer}
-use Rattle.feldrime.specs.Numbers.{numbersRefused, numbersBoard, numbersIn}
 use Rattle.feldrime.specs.Answers.{answerOf}
-use Rattle.feldrime.specs.Pages.{numbersCheck, pageReadSize, numbersRead, boardFor}
-use Rattle.feldrime.specs.NumbersLaws.{numbers-all, numbers-passed}
+use Rattle.feldrime.specs.Pages.{boardFor}
 use Rattle.agreement.specs.Steps.{range-ok}
-use Rattle.agreement.specs.Files.{board-same}
+use Rattle.agreement.specs.Files.{length-file, board-same}
 use Rattle.promises.specs.Sizes.{made-done}
 
 -- the numbers' own answer, then 3 where a memory or the room for the numbers has another size
@@ -45,31 +44,20 @@ numbersAgain numbers chars attrs out = pick (doneOf (numbersAgainCheck numbers c
 
 -- ---- the numbers of a page's file are the page's numbers
 
-head-is : (xs : List ℕ) → Bytes xs → 25 ≤ length xs → headOf (pageAt xs 1) ≡ (1 ∷ 0 ∷ 0 ∷ 128 ∷ 24 ∷ []) ++ take 24 (drop 1 xs)
-unfolding headOf pageAt tab
-head-is xs fits l =
-    let irs = tab-part xs 1 15 (omega (arith, l)) in
-    let all : take 24 (drop 1 xs) ≡ tab 24 (λ i. getD xs (1 + i) 0) = sym (tab-part xs 1 24 (omega (arith, l))) in
-    rw (all, sym irs, word-high xs fits 16, word-low xs fits 16, word-high xs fits 18, word-low xs fits 18, word-high xs fits 20, word-low xs fits 20)
-
 numbers-of : (xs chars attrs : List ℕ) → Bytes xs → length xs ≡ 32 → getD xs 0 0 ≡ 1 → numbersIn (fileOf (pageAt xs 1) chars attrs) ≡ take 25 xs ++ replicate 7 0
-unfolding fileOf
+unfolding fileOf headOf
 numbers-of xs chars attrs fits n v = ap (λ (l : List ℕ). (1 ∷ l) ++ replicate 7 0) part ∙ ap (λ (l : List ℕ). l ++ replicate 7 0) (sym front)
   where
     rest : List ℕ
     rest = take 24 (drop 1 xs)
 
     part : take 24 (drop 5 (headOf (pageAt xs 1) ++ (chars ++ attrs))) ≡ rest
-    part = rw (head-is xs fits (omega (arith, n))) (take-at rest (chars ++ attrs) 24 (length-part xs 1 24 (omega (arith, n))))
+    part = rw (bytes-again xs fits 1 (omega (arith, n))) (take-at rest (chars ++ attrs) 24 (length-part xs 1 24 (omega (arith, n))))
 
     front : take 25 xs ≡ 1 ∷ rest
     front = ap (take 25) (drop-cons xs 0 0 (omega (arith, n))) ∙ rw v
 
 -- ---- the write, and the read of what was written
-
-file-long : (p : Page) (chars attrs : List ℕ) → length (p .irs) ≡ 15 → length chars ≡ 16384 → length attrs ≡ 16384 → length (fileOf p chars attrs) ≡ 32797
-unfolding fileOf
-file-long p chars attrs n c a = length-append (headOf p) (chars ++ attrs) ∙ rw (head-all p n, length-append chars attrs, c, a)
 
 -- as many zeros as a file has bytes
 abbrev zeros : List ℕ
@@ -141,7 +129,7 @@ module _ (numbers : List ℕ) (fits : Bytes numbers) (chars attrs out : List ℕ
       front : file ≡ take 32797 (written (numbersBoard numbers) chars attrs zeros)
       front =
           let c = memories-all (length chars) (length attrs) fine in
-          file-is ∙ rw laid-is (sym (take-all 32797 laid (omega (arith, file-long (numbersBoard numbers .page) chars attrs irs-all (c .0) (c .1)))))
+          file-is ∙ rw laid-is (sym (take-all 32797 laid (omega (arith, length-file (numbersBoard numbers .page) chars attrs irs-all (c .0) (c .1)))))
 
       read-done : readCheck file false ≡ Done
       unfolding readPageOf

@@ -12,11 +12,11 @@ use Rattle.refusal.specs.Number.{numberOf}
 use Rattle.fetch.specs.Run.{runCheck, spanOf, runOf}
 use Rattle.fetch.specs.Laws.{span-small, run-part, span-number}
 use Rattle.copies.specs.Put.{length-part}
+use Rattle.numbers.specs.Numbers.{numbersRefused, numbersBoard}
+use Rattle.numbers.specs.Laws.{numbers-passed}
 use Rattle.feldrime.specs.declared.RunAnswer.{RunAnswer}
 use Rattle.feldrime.specs.declared.BoardAnswer.{BoardAnswer}
-use Rattle.feldrime.specs.Numbers.{numbersRefused, numbersBoard}
 use Rattle.feldrime.specs.Pages.{runFor, boardFor}
-use Rattle.feldrime.specs.NumbersLaws.{numbers-passed}
 use Rattle.promises.specs.Sizes.{made-done}
 
 -- the run of the numbers' board; nothing where the numbers are refused

@@ -10,12 +10,12 @@ use Rattle.refusal.specs.Number.{numberOf, doneOf}
 use Rattle.refusal.specs.Laws.{done-is}
 use Rattle.timing.specs.Check.{pageCheck, sizeOf}
 use Rattle.files.specs.Page.{pageAt}
+use Rattle.numbers.specs.Numbers.{numbersRefused, numbersBoard, numbersCheck}
 use Rattle.feldrime.specs.declared.Answer.{Answer}
 use Rattle.feldrime.specs.declared.SizeAnswer.{SizeAnswer}
 use Rattle.feldrime.specs.declared.BoardAnswer.{BoardAnswer}
-use Rattle.feldrime.specs.Numbers.{numbersRefused, numbersBoard}
 use Rattle.feldrime.specs.Answers.{answerOf}
-use Rattle.feldrime.specs.Pages.{numbersCheck, sizeFor, boardFor}
+use Rattle.feldrime.specs.Pages.{sizeFor, boardFor}
 
 -- one number for all three, and beside a refusal no lines and no dots
 abbrev pub agreed : (refused size board lines dots : ℕ) → Bool

@@ -21,13 +21,13 @@ use Rattle.line.specs.Line.{lineLength, lineDots, drawCheck, drawnOf}
 use Rattle.video.specs.At.{lentRefused}
 use Rattle.step.specs.Step.{steppedOf, stepCheck, stepOf}
 use Rattle.files.specs.Page.{pageAt}
+use Rattle.numbers.specs.Numbers.{numbersRefused, numbersBoard, numbersCheck}
 use Rattle.feldrime.specs.declared.Answer.{Answer}
 use Rattle.feldrime.specs.declared.SizeAnswer.{SizeAnswer}
 use Rattle.feldrime.specs.declared.BoardAnswer.{BoardAnswer}
 use Rattle.feldrime.specs.declared.StepBy.{StepBy}
-use Rattle.feldrime.specs.Numbers.{numbersRefused, numbersBoard}
 use Rattle.feldrime.specs.Answers.{answerOf}
-use Rattle.feldrime.specs.Pages.{numbersCheck, sizeFor, boardFor}
+use Rattle.feldrime.specs.Pages.{sizeFor, boardFor}
 use Rattle.feldrime.specs.LineDraw.{lineDrawCheck, lineDrawn}
 use Rattle.feldrime.specs.Step.{numbered, stepNumbers}
 use Rattle.agreement.specs.Steps.{range-ok, call-ok}

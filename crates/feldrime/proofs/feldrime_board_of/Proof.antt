@@ -3,7 +3,7 @@ use native.Mathlib.Omega.{arith}
 use borrow.Author.Needs.{needs}
 use Rattle.refusal.specs.Laws.{done-is, checked}
 use Rattle.feldrime.specs.Pages.{boardFor}
-use Rattle.feldrime.specs.NumbersLaws.{numbers-all, numbers-passed}
+use Rattle.numbers.specs.Laws.{numbers-all, numbers-passed}
 use Rattle.feldrime.proofs.feldrime_board_of.Statement.{statement}
 use Rattle.feldrime.proofs.feldrime_board_of.Tie as tie
 

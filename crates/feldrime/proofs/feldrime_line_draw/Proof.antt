@@ -2,7 +2,7 @@ use mathlib.Core.Path.{sym, _∙_}
 use native.Mathlib.Omega.{arith}
 use borrow.Author.Needs.{needs}
 use Rattle.feldrime.specs.LineDraw.{lineDrawCheck, lineDrawn}
-use Rattle.feldrime.specs.NumbersLaws.{numbers-all}
+use Rattle.numbers.specs.Laws.{numbers-all}
 use Rattle.feldrime.specs.Laws.{three, taken}
 use Rattle.feldrime.proofs.feldrime_line_draw.Statement.{statement}
 use Rattle.feldrime.proofs.feldrime_line_draw.Tie as tie

@@ -1,9 +1,12 @@
-use mathlib.Core.Path.{refl, sym, _∙_}
+use mathlib.Core.Path.{refl, sym, ap, _∙_}
 use native.Mathlib.Omega.{arith}
 use borrow.Author.Needs.{needs}
 use Rattle.lists.specs.Choice.{stop, pass}
+use Rattle.refusal.specs.Number.{numberOf}
+use Rattle.timing.specs.Check.{sizeOf}
+use Rattle.timing.specs.declared.PageSize.{PageSize}
+use Rattle.numbers.specs.Laws.{numbers-all}
 use Rattle.feldrime.specs.Pages.{sizeFor}
-use Rattle.feldrime.specs.NumbersLaws.{numbers-all}
 use Rattle.feldrime.proofs.feldrime_page_size.Statement.{statement}
 use Rattle.feldrime.proofs.feldrime_page_size.Tie as tie
 
@@ -18,7 +21,9 @@ returns-2 : tie.Need-returns-2
 unfolding sizeFor
 returns-2 c =
     let left = c .before .before .before in
-    pass _ (sym (left .before .numbers-refused .ensures) ∙ left .if1 .left) cc
+    let size = c .before .page-size .ensures ∙ ap sizeOf (c .before .before .page-at .ensures) in
+    pass _ (sym (left .before .numbers-refused .ensures) ∙ left .if1 .left)
+    (λ i. record { refusal = (c .number .ensures ∙ ap (λ (x : PageSize). numberOf (x .refusal)) size) i; beside = 0; lines = size i .lines .0; dots = size i .dots .0 })
 
 pub feldrime-page-size-spec : {M : Type 1} → statement M
 feldrime-page-size-spec =

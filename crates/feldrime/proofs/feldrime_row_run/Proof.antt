@@ -1,9 +1,13 @@
-use mathlib.Core.Path.{refl, sym, _∙_}
+use mathlib.Core.Path.{refl, sym, ap, _∙_}
 use native.Mathlib.Omega.{arith}
 use borrow.Author.Needs.{needs}
 use Rattle.lists.specs.Choice.{stop, pass}
+use Rattle.refusal.specs.Number.{numberOf}
+use Rattle.board.specs.declared.Board.{Board}
+use Rattle.fetch.specs.Run.{spanOf}
+use Rattle.fetch.specs.declared.Span.{Span}
+use Rattle.numbers.specs.Laws.{numbers-all}
 use Rattle.feldrime.specs.Pages.{runFor}
-use Rattle.feldrime.specs.NumbersLaws.{numbers-all}
 use Rattle.feldrime.proofs.feldrime_row_run.Statement.{statement}
 use Rattle.feldrime.proofs.feldrime_row_run.Tie as tie
 
@@ -18,7 +22,10 @@ returns-2 : tie.Need-returns-2
 unfolding runFor
 returns-2 c =
     let left = c .before .before .before .before .before in
-    pass _ (sym (left .before .numbers-refused .ensures) ∙ left .if1 .left) cc
+    let args = left .before .before .before .before .args in
+    let span = c .before .before .before .span-of .ensures .0 ∙ ap (λ (b : Board). spanOf b (args .chars .now) (args .row)) (c .before .before .before .before .board-at .ensures) in
+    pass _ (sym (left .before .numbers-refused .ensures) ∙ left .if1 .left)
+    (λ i. record { refusal = (c .before .before .number .ensures ∙ ap (λ (x : Span). numberOf (x .refusal)) span) i; beside = 0; first = span i .start; count = span i .count })
 
 pub feldrime-row-run-spec : {M : Type 1} → statement M
 feldrime-row-run-spec =

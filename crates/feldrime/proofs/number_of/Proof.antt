@@ -5,7 +5,19 @@ use Rattle.feldrime.proofs.number_of.Tie as tie
 
 returns : tie.Need-returns
 unfolding numbered
-returns c = cc
+returns c =
+    let s = c .before .before .before .before .before .before .before .before .args .s in
+    λ i. record {
+      refusal = c .before .before .before .before .before .before .number .ensures i;
+      beside = 0;
+      hsync = c .before .before .before .before .before .bit .ensures i;
+      vsync = c .before .before .before .before .bit2 .ensures i;
+      blank = c .before .before .before .bit3 .ensures i;
+      cursor = c .before .before .bit4 .ensures i;
+      blink = c .before .bit5 .ensures i;
+      address = s .address;
+      dots = s .dots;
+    }
 
 pub number-of-spec : {M : Type 1} → statement M
 number-of-spec =

@@ -1,11 +1,21 @@
+use Prim.Native.Nat.{_+_}
 use borrow.Author.Needs.{needs}
+use lib.ListN.{getD}
 use Rattle.files.specs.Page.{pageAt}
 use Rattle.files.proofs.page_at.Statement.{statement}
 use Rattle.files.proofs.page_at.Tie as tie
 
 returns : tie.Need-returns
 unfolding pageAt
-returns c = cc
+returns c =
+    let bytes = c .before .before .before .before .before .before .before .args .bytes .now in
+    let at = c .before .before .before .before .before .before .before .args .at in
+    λ i. record {
+      irs = c .before .before .before .before .before .irs-at .ensures i;
+      starts = c .before .before .before .before .starts-at .ensures i;
+      switches = getD bytes (at + 21) 0;
+      video = c .video .ensures i;
+    }
 
 pub page-at-spec : {M : Type 1} → statement M
 page-at-spec =

@@ -10,14 +10,20 @@ irs-all c = search needs
 
 returns : tie.Need-returns
 returns c =
-    let start = c .before .before .before .before .before .before .before .before .before .before .before .before .before .before .before .before .before in
+    let three = c .before .before .before .before in
+    let two = three .before .before .before .before in
+    let one = two .before .before .before .before .before in
+    let made = one .before .before .before .before .before in
+    let start = made .before .before .before .before in
     page-put (start .args .p) (irs-all start) (start .args .chars .now) (start .args .attrs .now) (start .args .out .now) (start .pre .1) (start .pre .2)
-    (c .before .before .before .before .before .before .before .before .before .before .before .before .before .head-of .ensures) (c .before .before .before .before .before .before .before .before .before .before .put .ensures) (c .before .before .before .before .before .before .put2 .ensures) (c .before .before .put3 .ensures)
+    (made .page-bytes .ensures) (one .before .before .put .ensures) (two .before .before .put2 .ensures) (three .before .before .put3 .ensures) (c .before .before .put4 .ensures)
 
 pub put-file-spec : {M : Type 1} → statement M
 put-file-spec =
     tie.close
     (tie.spec
+    (λ c κs. search needs)
+    (λ c. search needs)
     (λ c κs. search needs)
     (λ c. search needs)
     (λ c κs. search needs)

@@ -1,7 +1,8 @@
+use Prim.Native.Nat.{ℕ}
 use mathlib.Core.Path.{_≡_, ap, _∙_}
 use native.Mathlib.Omega.{arith}
 use borrow.Author.Needs.{needs}
-use lib.ListN.{length}
+use lib.ListN.{length, take, drop}
 use Rattle.refusal.specs.Laws.{done-is, checked}
 use Rattle.shape.specs.Font.{Font, fontOf, fontRefused, Whole}
 use Rattle.files.specs.FontFile.{fontCheck}
@@ -44,10 +45,13 @@ returns : tie.Need-returns
 returns c =
     let then = c .before .before .before .before .before .before .before .before .before .before .before .before .before .before .before .before .before in
     let check = check-is (then .before .before) in
-    let k = fits then .1 in (
+    let k = fits then .1 in
+    let file = begin (then .before .before) .args .file .now in (
       check,
-      font-done _ (lent (begin (then .before .before))) (checked check (then .before .is-done .ensures) (then .if1 .taken)) k _ (c .before .before .before .before .before .before .before .before .before .before .before .before .before .before .read-words .ensures) _ _ _
-          (rw (k .flags-all) at (c .before .before .before .before .before .before .before .before .before .before .take-from .ensures)) (rw (k .unshifted-all) at (c .before .before .before .before .before .before .take-from2 .ensures)) (rw (k .shifted-all) at (c .before .before .take-from3 .ensures)),
+      font-done file (lent (begin (then .before .before))) (checked check (then .before .is-done .ensures) (then .if1 .taken)) k _ (c .before .before .before .before .before .before .before .before .before .before .before .before .before .before .read-words .ensures) _ _ _
+          (c .before .before .before .before .before .before .before .before .before .before .take-from .ensures ∙ ap (λ (n : ℕ). take n (drop 2309 file)) (k .flags-all))
+          (c .before .before .before .before .before .before .take-from2 .ensures ∙ ap (λ (n : ℕ). take n (drop 2437 file)) (k .unshifted-all))
+          (c .before .before .take-from3 .ensures ∙ ap (λ (n : ℕ). take n (drop 2446 file)) (k .shifted-all)),
     )
 
 returns-2 : tie.Need-returns-2

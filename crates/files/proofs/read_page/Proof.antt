@@ -1,7 +1,8 @@
+use Prim.Native.Nat.{ℕ}
 use mathlib.Core.Path.{_≡_, ap, _∙_}
 use native.Mathlib.Omega.{arith}
 use borrow.Author.Needs.{needs}
-use lib.ListN.{length}
+use lib.ListN.{length, take, drop}
 use Rattle.refusal.specs.Laws.{done-is, checked}
 use Rattle.board.specs.Range.{memoriesRefused}
 use Rattle.files.specs.File.{readCheck}
@@ -36,8 +37,10 @@ returns c =
     let then = c .before .before .before .before .before .before .before .before .before in
     let same = check (then .before .before) in
     let k = taken then in
-    read-done _ _ _ _ _ same (checked same (then .before .is-done .ensures) (then .if1 .taken)) _ (c .board-at .ensures) _ _
-    (rw (k .chars-all) at (c .before .before .before .before .before .before .before .take-from .ensures)) (rw (k .attrs-all) at (c .before .before .before .take-from2 .ensures))
+    let file = begin then .args .file .now in
+    read-done file _ (begin then .args .chars .now) (begin then .args .attrs .now) _ same (checked same (then .before .is-done .ensures) (then .if1 .taken)) _ (c .board-at .ensures) _ _
+    (c .before .before .before .before .before .before .before .take-from .ensures ∙ ap (λ (n : ℕ). take n (drop 29 file)) (k .chars-all))
+    (c .before .before .before .take-from2 .ensures ∙ ap (λ (n : ℕ). take n (drop 16413 file)) (k .attrs-all))
 
 returns-2 : tie.Need-returns-2
 returns-2 c =

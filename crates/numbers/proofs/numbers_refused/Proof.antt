@@ -1,8 +1,8 @@
 use borrow.Author.Tests.{eq-eqb, ne-eqb}
 use borrow.Author.Needs.{needs}
-use Rattle.feldrime.specs.Numbers.{numbersRefused}
-use Rattle.feldrime.proofs.numbers_refused.Statement.{statement}
-use Rattle.feldrime.proofs.numbers_refused.Tie as tie
+use Rattle.numbers.specs.Numbers.{numbersRefused}
+use Rattle.numbers.proofs.numbers_refused.Statement.{statement}
+use Rattle.numbers.proofs.numbers_refused.Tie as tie
 
 returns : tie.Need-returns
 unfolding numbersRefused

@@ -2,10 +2,10 @@ use mathlib.Core.Path.{refl, sym, _∙_}
 use native.Mathlib.Omega.{arith}
 use borrow.Author.Needs.{needs}
 use Rattle.lists.specs.Choice.{stop, pass}
-use Rattle.feldrime.specs.Pages.{numbersCheck}
-use Rattle.feldrime.specs.NumbersLaws.{numbers-all}
-use Rattle.feldrime.proofs.numbers_check.Statement.{statement}
-use Rattle.feldrime.proofs.numbers_check.Tie as tie
+use Rattle.numbers.specs.Numbers.{numbersCheck}
+use Rattle.numbers.specs.Laws.{numbers-all}
+use Rattle.numbers.proofs.numbers_check.Statement.{statement}
+use Rattle.numbers.proofs.numbers_check.Tie as tie
 
 returns : tie.Need-returns
 unfolding numbersCheck

@@ -1,0 +1,92 @@
+-- A page's numbers. Assumes nothing.
+--     numbers-put    version, page and zeros, put into a buffer part by part
+--     numbers-page   the numbers of a file are the file's page
+--     file-read, numbers-kept        what a read leaves
+use Prim.Native.Nat.{ℕ, _+_, _*_, _<_, _≤_}
+use mathlib.Core.Path.{_≡_, refl, sym, ap, _∙_}
+use mathlib.Core.Bool.{Bool, false, not}
+use mathlib.Core.List.{List, [], _∷_, _++_}
+use native.Mathlib.Omega.{arith}
+use borrow.Author.Tests.{eqb-true, not-false}
+use lib.Dec.{eqb}
+use lib.ListN.{length, getD, take, drop, replicate, List·getD-append}
+use lib.Seq.{take-append-le, take-take, getD-take, getD-drop}
+use Rattle.lists.specs.Choice.{neither}
+use Rattle.units.specs.Units.{dots}
+use Rattle.refusal.specs.declared.Refusal.the-variants.{Done, Size}
+use Rattle.refusal.specs.Number.{doneOf}
+use Rattle.refusal.specs.Laws.{passed}
+use Rattle.board.specs.Range.{memoriesRefused}
+use Rattle.timing.specs.Check.{pageCheck}
+use Rattle.copies.specs.Put.{length-part, putAt, laid-none, put-on, laid-all}
+use Rattle.files.specs.Page.{wordAt, pageAt}
+use Rattle.files.specs.File.{readCheck, charsRead, attrsRead}
+use Rattle.files.specs.Laws.{file-sized, FilePassed, file-passed}
+use Rattle.numbers.specs.Numbers.{numbersRefused, numbersCheck, numbersWith, numbersIn}
+use Rattle.numbers.specs.Files.{pageReadSize, numbersRead}
+
+pub numbers-all : (numbers : List ℕ) → numbersRefused numbers ≡ false → length numbers ≡ 32
+unfolding numbersRefused
+numbers-all numbers e = eqb-true _ _ (not-false _ (neither _ _ e .0))
+
+pub numbers-passed : (numbers : List ℕ) → numbersCheck numbers ≡ Done → numbersRefused numbers ≡ false
+unfolding numbersCheck
+numbers-passed numbers e = passed (numbersRefused numbers) Size _ refl e .0
+
+pub numbers-put : (page out : List ℕ) → length page ≡ 24 → length out ≡ 32 → {one two three : List ℕ}
+    → one ≡ putAt 0 (1 ∷ []) out → two ≡ putAt 1 page one → three ≡ putAt 25 (replicate 7 0) two → three ≡ numbersWith page
+numbers-put page out n all e₁ e₂ e₃ =
+    let l₁ = put-on [] (1 ∷ []) out 0 1 (laid-none out) refl e₁ in
+    let l₂ = put-on (1 ∷ []) page out 1 24 l₁ n e₂ in
+    laid-all (numbersWith page) out 32 (put-on (1 ∷ page) (replicate 7 0) out 25 7 l₂ refl e₃) all
+
+pub numbers-page : (file : List ℕ) → 29 ≤ length file → pageAt (numbersIn file) 1 ≡ pageAt file 5
+unfolding pageAt wordAt
+numbers-page file l = λ i. record {
+  irs = irs-same i;
+  starts = record { start1 = both 15 (omega arith) i; cursor = both 17 (omega arith) i; start2 = both 19 (omega arith) i };
+  switches = same 21 (omega arith) i;
+  video = record { dots = dots (same 22 (omega arith) i); strike = same 23 (omega arith) i };
+}
+  where
+    part : List ℕ
+    part = take 24 (drop 5 file)
+
+    all : length part ≡ 24
+    all = length-part file 5 24 (omega (arith, l))
+
+    same : (k : ℕ) → k < 24 → getD (part ++ replicate 7 0) k 0 ≡ getD file (5 + k) 0
+    same k h = List·getD-append part (replicate 7 0) 0 k (rw all h) ∙ getD-take 24 (drop 5 file) k 0 h ∙ getD-drop 5 file k 0
+
+    both : (k : ℕ) → k + 1 < 24 → getD (part ++ replicate 7 0) k 0 * 256 + getD (part ++ replicate 7 0) (k + 1) 0 ≡ getD file (5 + k) 0 * 256 + getD file (5 + (k + 1)) 0
+    both k h = rw (same k (omega (arith, h)), same (k + 1) h)
+
+    irs-same : take 15 (part ++ replicate 7 0) ≡ take 15 (drop 5 file)
+    irs-same = take-append-le 15 part (replicate 7 0) (omega (arith, all)) ∙ take-take 15 24 (drop 5 file) (omega arith)
+
+-- a page that is read: the sizes are right, and they are those that the memories are read by
+module _ (file : List ℕ) (n c a : ℕ) (ok : readCheck file (pageReadSize n c a) ≡ Done) where
+  read-passed : FilePassed file 32792 (pageReadSize n c a) (pageCheck (pageAt file 5))
+  unfolding readCheck
+  read-passed = file-passed file 32792 (pageReadSize n c a) (pageCheck (pageAt file 5)) ok
+
+  pub read-fits : (length file ≡ 32797) × (n ≡ 32)
+  read-fits =
+      (file-sized file 32792 (read-passed .length-ok), eqb-true _ _ (not-false _ (neither (memoriesRefused c a) (not (eqb n 32)) (read-passed .size-ok) .1)))
+
+  same-size : memoriesRefused c a ≡ pageReadSize n c a
+  same-size = neither (memoriesRefused c a) (not (eqb n 32)) (read-passed .size-ok) .0 ∙ sym (read-passed .size-ok)
+
+  -- what such a read leaves
+  pub file-read : (numbers₀ chars₀ attrs₀ : List ℕ) {numbers chars attrs : List ℕ} → numbers ≡ numbersIn file
+      → chars ≡ charsRead file (memoriesRefused c a) chars₀ → attrs ≡ attrsRead file (memoriesRefused c a) attrs₀
+      → (numbers ≡ numbersRead file (pageReadSize n c a) numbers₀)
+      × (chars ≡ charsRead file (pageReadSize n c a) chars₀)
+      × (attrs ≡ attrsRead file (pageReadSize n c a) attrs₀)
+  unfolding numbersRead
+  file-read numbers₀ chars₀ attrs₀ e f g =
+      (rw ok e, f ∙ ap (λ (s : Bool). charsRead file s chars₀) same-size, g ∙ ap (λ (s : Bool). attrsRead file s attrs₀) same-size)
+
+pub numbers-kept : (file : List ℕ) (size : Bool) (numbers₀ : List ℕ) → doneOf (readCheck file size) ≡ false → numbers₀ ≡ numbersRead file size numbers₀
+unfolding numbersRead
+numbers-kept file size numbers₀ t = rw t

@@ -1,0 +1,4 @@
+-- A page's numbers.
+pub mod Numbers
+pub mod Files
+pub mod Laws

@@ -1,0 +1,72 @@
+// A page's numbers as C has them: 32 bytes, the version first.
+ghost use mathlib.Core.Path.{_≡_};
+ghost use lib.ListN.{length};
+ghost use Rattle.files.specs.File.{readCheck, charsRead, attrsRead};
+ghost use Rattle.numbers.specs.Numbers.{numbersRefused, numbersWith, numbersCheck};
+ghost use Rattle.numbers.specs.Files.{pageReadSize, numbersRead, pageWriteCheck, pageWritten};
+
+// 3, for a page's numbers. The version is looked at only where there is one.
+pub fn numbers_refused(numbers: &[u8]) -> bool
+    ensures { λ r. ⌜ r ≡ numbersRefused (now (numbers .entry)) ⌝ }
+{
+    if numbers.len() != 32 {
+        return true;
+    }
+    numbers[0] != 1
+}
+
+// The page check: 3, 12, 4, 5, 6.
+pub fn numbers_check(numbers: &[u8]) -> refusal::Refusal
+    ensures { λ r. ⌜ r ≡ numbersCheck (now (numbers .entry)) ⌝ }
+{
+    if numbers_refused(numbers) {
+        return refusal::Refusal::Size;
+    }
+    timing::page_check(files::page_at(numbers, 1))
+}
+
+// The version, a page's 24 bytes, and zeros.
+fn put_numbers(page: &[u8], numbers: &mut [u8])
+    requires { ⌜ (length (now page) ≡ 24) × (length (now numbers) ≡ 32) ⌝ }
+    ensures { λ _. ⌜ now (numbers .exit) ≡ numbersWith (now (page .entry)) ⌝ }
+{
+    let version = [1];
+    let rest = [0u8; 7];
+    copies::put(&version, 0, numbers);
+    copies::put(page, 1, numbers);
+    copies::put(&rest, 25, numbers);
+}
+
+// Takes a page file apart: its numbers and the two memories. A refusal leaves them as they were.
+pub fn read_file(
+    file: &[u8],
+    numbers: &mut [u8],
+    chars: &mut [u8],
+    attrs: &mut [u8],
+) -> refusal::Refusal
+    ensures { λ r. let size = pageReadSize (length (now (numbers .entry))) (length (now (chars .entry))) (length (now (attrs .entry))) in
+        ⌜ (r ≡ readCheck (now (file .entry)) size)
+        × (now (numbers .exit) ≡ numbersRead (now (file .entry)) size (now (numbers .entry)))
+        × (now (chars .exit) ≡ charsRead (now (file .entry)) size (now (chars .entry)))
+        × (now (attrs .exit) ≡ attrsRead (now (file .entry)) size (now (attrs .entry))) ⌝ }
+{
+    let size = board::memories_refused(chars.len(), attrs.len()) | (numbers.len() != 32);
+    let judged = files::read_check(file, size);
+    if refusal::is_done(judged) {
+        files::read_page(file, chars, attrs);
+        put_numbers(&file[5..29], numbers);
+    }
+    judged
+}
+
+// Writes a page file at the front of out. A refusal leaves out as it was.
+pub fn write_file(numbers: &[u8], chars: &[u8], attrs: &[u8], out: &mut [u8]) -> refusal::Refusal
+    ensures { λ r.
+        ⌜ (r ≡ pageWriteCheck (now (numbers .entry)) (length (now (chars .entry))) (length (now (attrs .entry))) (length (now (out .entry))))
+        × (now (out .exit) ≡ pageWritten (now (numbers .entry)) (now (chars .entry)) (now (attrs .entry)) (now (out .entry))) ⌝ }
+{
+    if numbers_refused(numbers) {
+        return refusal::Refusal::Size;
+    }
+    files::write_page(files::board_at(numbers, 1), chars, attrs, out)
+}
