@@ -50,12 +50,18 @@ struct row {
 /* ---- once a picture ---- */
 
 /* Eight bits as eight bytes, 0 or FF hex, the lowest first. */
+#define BYTE(bits, k) ((uint64_t)((bits) >> (k) & 1) * 255 << 8 * (k))
+#define HALF(bits, k) (BYTE(bits, k) | BYTE(bits, k + 1) | BYTE(bits, k + 2) | BYTE(bits, k + 3))
+#define SPREAD(bits) (HALF(bits, 0) | HALF(bits, 4))
+#define SPREAD4(bits) SPREAD(bits), SPREAD((bits) + 1), SPREAD((bits) + 2), SPREAD((bits) + 3)
+#define SPREAD16(bits) SPREAD4(bits), SPREAD4((bits) + 4), SPREAD4((bits) + 8), SPREAD4((bits) + 12)
+#define SPREAD64(bits) SPREAD16(bits), SPREAD16((bits) + 16), SPREAD16((bits) + 32), SPREAD16((bits) + 48)
+
+static const uint64_t spreads[256] = { SPREAD64(0), SPREAD64(64), SPREAD64(128), SPREAD64(192) };
+
 static inline uint64_t spread(unsigned bits)
 {
-    uint64_t one = (bits & 255) * EVERY_BYTE & 0x8040201008040201u; /* bit k alone in byte k */
-    uint64_t top = (one + 0x00406070787C7E7Fu) & 128 * EVERY_BYTE;  /* moved up to bit 7 */
-
-    return top | (top - (top >> 7));
+    return spreads[bits & 255];
 }
 
 static void make_looks(struct plan *p, unsigned bkgnd, unsigned blink)
