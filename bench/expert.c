@@ -336,6 +336,13 @@ static void plan_page(struct plan *p, const uint8_t *numbers, uint8_t field)
     p->cursor_to = !gate ? 0 : last_line < p->lines ? last_line + 1 : p->lines;
 }
 
+static uint32_t sizes_refused(const uint8_t *numbers, const size_t counts[7])
+{
+    static const size_t right[] = { 32, MEMORY, MEMORY, CHARACTERS * LIST, CHARACTERS, LIST, LIST };
+
+    return memcmp(counts, right, sizeof right) != 0 || numbers[0] != 1 ? 3 : 0;
+}
+
 feldrime_answer expert_picture_draw(
     const uint8_t *numbers, size_t numbers_count,
     const uint8_t *chars, size_t chars_count,
@@ -347,30 +354,28 @@ feldrime_answer expert_picture_draw(
     uint8_t field,
     uint8_t *out, size_t out_count)
 {
-    struct plan p;
+    struct plan p; /* not cleared: its tables are large */
+    uint32_t refusal = sizes_refused(numbers, (const size_t[]){
+        numbers_count, chars_count, attrs_count, words_count, flags_count, unshifted_count, shifted_count });
 
-    if (numbers_count != 32 || numbers[0] != 1 || chars_count != MEMORY || attrs_count != MEMORY
-        || words_count != CHARACTERS * LIST || flags_count != CHARACTERS
-        || unshifted_count != LIST || shifted_count != LIST)
-        return (feldrime_answer){ 3, 0 };
-    uint32_t refusal = page_refused(numbers);
+    if (refusal == 0)
+        refusal = page_refused(numbers);
     if (refusal != 0)
         return (feldrime_answer){ refusal, 0 };
-
+    p.chars = chars;
+    p.attrs = attrs;
     plan_page(&p, numbers, field);
     size_t size = (size_t)p.rows * p.lines * p.width;
     unsigned switches = numbers[22], period = numbers[5] & 128 ? 128 : 64;
     if (out_count < size)
         return (feldrime_answer){ 8, 0 };
-    if (!(switches & DISPLAY)) {
+    if (switches & DISPLAY) {
+        make_looks(&p, (switches & BKGND) != 0, field % period >= period / 4 * 3);
+        make_lights(&p, numbers[8] & 15, numbers[24]);
+        make_shapes(&p, words, flags, unshifted, shifted);
+        draw_rows(&p, out);
+    } else {
         memset(out, switches & BKGND && !(switches & RBLANK) ? GRAY : BLACK, size);
-        return (feldrime_answer){ 0, 0 };
     }
-    p.chars = chars;
-    p.attrs = attrs;
-    make_looks(&p, (switches & BKGND) != 0, field % period >= period / 4 * 3);
-    make_lights(&p, numbers[8] & 15, numbers[24]);
-    make_shapes(&p, words, flags, unshifted, shifted);
-    draw_rows(&p, out);
     return (feldrime_answer){ 0, 0 };
 }
