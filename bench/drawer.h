@@ -1,12 +1,13 @@
-/* The C line drawers, which have the prototype of the library's. */
+/* The C drawers, which have the prototypes of the library's. */
 #ifndef DRAWER_H
 #define DRAWER_H
 
 #include "feldrime.h"
 
 typedef typeof(feldrime_line_draw) line_drawer;
+typedef typeof(feldrime_picture_draw) picture_drawer;
 
-line_drawer plain_line_draw;    /* plain.c */
-line_drawer unrolled_line_draw; /* unrolled.c */
+line_drawer plain_line_draw;         /* plain.c */
+picture_drawer expert_picture_draw;  /* expert.c */
 
 #endif

@@ -1,7 +1,8 @@
 /* The plain C line drawer, the measure for the others. */
-#include <stdint.h>
+#include <string.h>
 
-#define LINE_DRAW plain_line_draw
+#include "drawer.h"
+#include "rules.h"
 
 /* Writes one cell: a dot for each bit, the lowest first. */
 static void put_dots(uint8_t *out, unsigned dots, unsigned bits, uint8_t symbol, uint8_t surround)
@@ -12,4 +13,119 @@ static void put_dots(uint8_t *out, unsigned dots, unsigned bits, uint8_t symbol,
     }
 }
 
-#include "line.h"
+static feldrime_answer answer(uint32_t number)
+{
+    return (feldrime_answer){ number, 0 };
+}
+
+/* The address that k moves lead to. */
+static unsigned moved(unsigned at, unsigned k, unsigned first, unsigned last)
+{
+    unsigned to_last = (last - at) % MEMORY;
+    unsigned round = (last - first) % MEMORY + 1;
+
+    if (k <= to_last)
+        return (at + k) % MEMORY;
+    return (first + (k - to_last - 1) % round) % MEMORY;
+}
+
+feldrime_answer plain_line_draw(
+    const uint8_t *numbers, size_t numbers_count,
+    const uint8_t *chars, size_t chars_count,
+    const uint8_t *attrs, size_t attrs_count,
+    const uint16_t *words, size_t words_count,
+    const uint8_t *flags, size_t flags_count,
+    const uint8_t *unshifted, size_t unshifted_count,
+    const uint8_t *shifted, size_t shifted_count,
+    uint32_t line, uint8_t field,
+    uint8_t *out, size_t out_count)
+{
+    if (numbers_count != 32 || numbers[0] != 1 || chars_count != MEMORY || attrs_count != MEMORY
+        || words_count != CHARACTERS * LIST || flags_count != CHARACTERS
+        || unshifted_count != LIST || shifted_count != LIST)
+        return answer(3);
+
+    const uint8_t *ir = numbers + 1;
+    unsigned start1 = big_endian(numbers + 16);
+    unsigned cursor = big_endian(numbers + 18);
+    unsigned start2 = big_endian(numbers + 20);
+    unsigned switches = numbers[22];
+    unsigned dots = numbers[23];
+    unsigned strike = numbers[24];
+
+    if (start1 >= MEMORY || cursor >= MEMORY || start2 >= MEMORY || switches > 15 || strike > 15)
+        return answer(12);
+
+    if ((ir[0] | ir[1]) & 128)
+        return answer(4);
+
+    unsigned hact = ir[5] + 1u;
+    unsigned hsync = 2u * (ir[2] >> 3 & 15) + 2;
+    unsigned hbp_code = ir[2] & 7;
+    unsigned ht = 2u * ((ir[1] & 127) + 1 + 2 * hsync);
+    if (hbp_code == 0 || ht < hact + hsync + (4 * hbp_code - 1) + 2)
+        return answer(5);
+
+    if (dots < 6 || dots > 12)
+        return answer(6);
+
+    unsigned lines = (ir[0] >> 3 & 15) + 1u;
+    unsigned rows = (ir[4] & 127) + 1u;
+    if (line >= rows * lines)
+        return answer(7);
+
+    if (out_count < hact * dots)
+        return answer(8);
+
+    unsigned bkgnd = (switches & BKGND) != 0;
+    if (!(switches & DISPLAY)) {
+        memset(out, bkgnd && !(switches & RBLANK) ? GRAY : BLACK, hact * dots);
+        return answer(0);
+    }
+
+    unsigned row = line / lines;
+    unsigned scan = line % lines;
+    unsigned first = (ir[9] & 15u) * 256 + ir[8];
+    unsigned last = ((ir[9] >> 4) + 1u) * 1024 - 1;
+    unsigned entry = start2 + 2 * row;
+    unsigned at = ir[2] & 128
+        ? chars[entry % MEMORY] + (chars[(entry + 1) % MEMORY] & 63u) * 256
+        : moved(start1, row * hact, first, last);
+
+    unsigned unshifted_word = position(unshifted, scan);
+    unsigned shifted_word = position(shifted, scan);
+
+    unsigned blink_period = ir[4] & 128 ? 128 : 64;
+    unsigned cursor_period = ir[7] & 16 ? 64 : 32;
+    int blink = field % blink_period >= blink_period / 4 * 3;
+    int gate = switches & CURSOR && ir[6] >> 4 <= scan && scan <= (ir[6] & 15u)
+        && (!(ir[7] & 32) || field % cursor_period < cursor_period / 2);
+
+    /* The attributes that on this line light all of a cell, and those that hide its symbol. */
+    unsigned lights = ((ir[7] & 15u) == scan ? UNDERLINE : 0) | (strike == scan ? STRIKE : 0);
+    unsigned hides = BLANK | (blink ? BLINK : 0);
+
+    for (unsigned c = 0; c < hact; c++) {
+        unsigned code = chars[at];
+        unsigned attr = attrs[at] & AFLG ? attrs[at] : 0;
+
+        unsigned character = code & 127;
+        unsigned place = flags[character] ? shifted_word : unshifted_word;
+        unsigned bits = code & 128 && place < LIST ? words[character * LIST + place] & 1023 : 0;
+        if (dots > 10)
+            bits <<= 1; /* the zero before D0 */
+        if (attr & lights)
+            bits = 4095;
+
+        unsigned reverse = (attr & REVERSE) ^ (gate && at == cursor);
+        uint8_t tone = attr & HIGHLIGHT ? WHITE : GRAY;
+        uint8_t symbol = bkgnd ^ reverse ? BLACK : tone;
+        uint8_t surround = bkgnd ^ reverse ? tone : BLACK;
+        if (attr & hides)
+            symbol = surround;
+
+        put_dots(out + c * dots, dots, bits, symbol, surround);
+        at = at == last ? first : (at + 1) % MEMORY;
+    }
+    return answer(0);
+}

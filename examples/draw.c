@@ -77,22 +77,22 @@ static void read_font(const char *name)
 static void write_picture(const char *name, uint8_t field)
 {
     static const uint8_t brightness[] = { [FELDRIME_BLACK] = 0, [FELDRIME_GRAY] = 170, [FELDRIME_WHITE] = 255 };
-    uint8_t line[FELDRIME_LINE];
     feldrime_size size = feldrime_page_size(numbers, FELDRIME_NUMBERS);
+    size_t count = (size_t)size.lines * size.dots;
 
     judge(name, size.refusal);
-    printf("P5\n%u %u\n255\n", (unsigned)size.dots, (unsigned)size.lines);
-    for (uint32_t y = 0; y < size.lines; y++) {
-        judge(name, feldrime_line_draw(numbers, FELDRIME_NUMBERS, chars, FELDRIME_MEMORY, attrs, FELDRIME_MEMORY,
-                                       words, FELDRIME_WORDS, flags, FELDRIME_FLAGS, unshifted, FELDRIME_LIST,
-                                       shifted, FELDRIME_LIST, y, field, line, sizeof line).refusal);
-        for (uint32_t x = 0; x < size.dots; x++)
-            line[x] = brightness[line[x]];
-        if (fwrite(line, 1, size.dots, stdout) != size.dots)
-            fail("the picture");
-    }
-    if (fflush(stdout) != 0)
+    uint8_t *picture = malloc(count);
+    if (picture == NULL)
         fail("the picture");
+    judge(name, feldrime_picture_draw(numbers, FELDRIME_NUMBERS, chars, FELDRIME_MEMORY, attrs, FELDRIME_MEMORY,
+                                      words, FELDRIME_WORDS, flags, FELDRIME_FLAGS, unshifted, FELDRIME_LIST,
+                                      shifted, FELDRIME_LIST, field, picture, count).refusal);
+    for (size_t i = 0; i < count; i++)
+        picture[i] = brightness[picture[i]];
+    printf("P5\n%u %u\n255\n", (unsigned)size.dots, (unsigned)size.lines);
+    if (fwrite(picture, 1, count, stdout) != count || fflush(stdout) != 0)
+        fail("the picture");
+    free(picture);
 }
 
 int main(int count, char *arguments[])

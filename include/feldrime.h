@@ -2,20 +2,23 @@
 
    To draw a page: feldrime_page_read takes a page file apart into the page's numbers and its two memories,
    feldrime_font_read a font file into the font's four parts. feldrime_page_size tells how many lines the page shows and
-   how many dots a line has. feldrime_line_draw then draws a line at a time, from line 0 on, a byte for each dot, as it
-   looks in one field. What blinks goes by the field count, which is the frame's number modulo 256; a still picture is
-   field 0. examples/draw.c does just this.
+   how many dots a line has. feldrime_picture_draw then draws all lines, from line 0 on, a byte for each dot, as they look
+   in one field. What blinks goes by the field count, which is the frame's number modulo 256; a still picture is field 0.
+   examples/draw.c does just this. feldrime_line_draw draws a single line, and feldrime_row_cells tells which cells of the
+   memories a row shows.
 
    For every call:
-   - A slice is a pointer and a count of elements, not of bytes. The pointer is NULL only where the count is 0, and words
-     are aligned as uint16_t is. Each count is checked: one that is wrong for the call is refused.
+   - A slice is a pointer and a count of elements, not of bytes. The pointer is NULL only where the count is 0; words and
+     cells are aligned as uint16_t is. Each count is checked: one that is wrong for the call is refused.
    - A buffer that is written overlaps no other buffer of the call.
-   - A refused call leaves every lent buffer as it was. Bytes beyond a drawn line or a written file stay.
+   - A refused call leaves every lent buffer as it was. What stands beyond a drawn picture or line, a row's cells or a
+     written file stays.
    - An answer is a struct by value. It begins with refusal, 0 where all was done, else the first that holds of the
      numbers that stand at the call, in that order. beside is a number that belongs to some refusals, and so far to none:
      it is 0. On a refusal the results are 0, unless the call says otherwise.
    - The library keeps nothing between calls, and has no state of its own. Threads may call it at the same time, as long
-     as a buffer that is being written is used by one call at a time. */
+     as a buffer that is being written is used by one call at a time. feldrime_picture_draw needs at most 80 KB of stack,
+     the other calls little. */
 #ifndef FELDRIME_H
 #define FELDRIME_H
 
@@ -34,6 +37,7 @@ enum {
     FELDRIME_FLAGS = 128,       /* its shift flags */
     FELDRIME_LIST = 9,          /* its unshifted and its shifted list of line numbers */
     FELDRIME_LINE = 3072,       /* room for the longest line: 256 cells of 12 dots */
+    FELDRIME_CELLS = 256,       /* room for the cells of the longest row */
     FELDRIME_PAGE_FILE = 32797, /* a page file has exactly so many bytes */
     FELDRIME_FONT_FILE = 2455   /* and a font file so many */
 };
@@ -77,7 +81,7 @@ static inline const char *feldrime_meaning(uint32_t refusal)
     case FELDRIME_REFUSED_RANGE:
         return "a line, a row, or a board's line, clock, address, row start or IR pointer is out of range";
     case FELDRIME_REFUSED_ROOM:
-        return "the line buffer is too short";
+        return "the buffer for the line or the picture is too short";
     case FELDRIME_REFUSED_REGISTER:
         return "the register address is above 7";
     case FELDRIME_REFUSED_COMMAND:
@@ -142,6 +146,11 @@ typedef struct {
     uint32_t first, count; /* chars[first] to chars[first + count - 1] */
 } feldrime_run;
 
+typedef struct {
+    uint32_t refusal, beside;
+    uint32_t count; /* cells[0] to cells[count - 1] */
+} feldrime_cells;
+
 /* Could such a page be drawn? Refuses 3, 12, 4, 5, 6. */
 feldrime_answer feldrime_page_check(
     const uint8_t *numbers, size_t numbers_count);
@@ -174,8 +183,20 @@ feldrime_answer feldrime_font_read(
     uint8_t *unshifted, size_t unshifted_count,
     uint8_t *shifted, size_t shifted_count);
 
-/* Draws a visible line as it looks in a field, to the first dots bytes of out, where dots is as feldrime_page_size
-   gives it. Refuses 3, 12, 4, 5, 6, 7, 8. */
+/* Draws all visible lines as they look in a field, end to end, to the first lines x dots bytes of out, where lines and
+   dots are as feldrime_page_size gives them. Refuses 3, 12, 4, 5, 6, 8. */
+feldrime_answer feldrime_picture_draw(
+    const uint8_t *numbers, size_t numbers_count,
+    const uint8_t *chars, size_t chars_count,
+    const uint8_t *attrs, size_t attrs_count,
+    const uint16_t *words, size_t words_count,
+    const uint8_t *flags, size_t flags_count,
+    const uint8_t *unshifted, size_t unshifted_count,
+    const uint8_t *shifted, size_t shifted_count,
+    uint8_t field,
+    uint8_t *out, size_t out_count);
+
+/* Draws one of these lines, to the first dots bytes of out. Refuses 3, 12, 4, 5, 6, 7, 8. */
 feldrime_answer feldrime_line_draw(
     const uint8_t *numbers, size_t numbers_count,
     const uint8_t *chars, size_t chars_count,
@@ -193,6 +214,14 @@ feldrime_run feldrime_row_run(
     const uint8_t *numbers, size_t numbers_count,
     const uint8_t *chars, size_t chars_count,
     uint32_t row);
+
+/* All cells that a row shows: column c shows chars[cells[c]] and attrs[cells[c]]. Writes count elements, one for each
+   column; cells has FELDRIME_CELLS or more. Refuses 3, 12, 4, 5, 6, 7. */
+feldrime_cells feldrime_row_cells(
+    const uint8_t *numbers, size_t numbers_count,
+    const uint8_t *chars, size_t chars_count,
+    uint32_t row,
+    uint16_t *cells, size_t cells_count);
 
 /* The whole state of a board, for an editor that steps it clock by clock. Any numbers may be handed over: the calls judge
    them. Compare boards field by field, since there are unused bytes between the fields. */
@@ -243,6 +272,12 @@ feldrime_board feldrime_power(void);
    board after power. */
 feldrime_board_answer feldrime_board_of(
     const uint8_t *numbers, size_t numbers_count);
+
+/* The way back: a board's page as numbers, for feldrime_page_write and the calls that draw. Writes all of numbers. Place,
+   pointer and resets play no part. Refuses 3, 12, 4, 5, 6. */
+feldrime_answer feldrime_numbers_of(
+    feldrime_board board,
+    uint8_t *numbers, size_t numbers_count);
 
 /* The board with these dots in a cell, strike line, BKGND and RBLANK, of which any number but 0 is on. Refuses 12, 6;
    refused, it gives the old board. */

@@ -42,10 +42,10 @@ static uint32_t generator_next(uint32_t x)
 
 /* ---- lent buffers ---- */
 
-enum { NUMBERS, CHARS, ATTRS, WORDS, FLAGS, UNSHIFTED, SHIFTED, FILE_BYTES, OUT, BUFFERS, BOARD = BUFFERS, ALL };
+enum { NUMBERS, CHARS, ATTRS, WORDS, FLAGS, UNSHIFTED, SHIFTED, FILE_BYTES, OUT, CELLS, BUFFERS, BOARD = BUFFERS, ALL };
 
 static const char *const names[ALL] = {
-    "numbers", "chars", "attrs", "words", "flags", "unshifted", "shifted", "file", "out", "board"
+    "numbers", "chars", "attrs", "words", "flags", "unshifted", "shifted", "file", "out", "cells", "board"
 };
 
 static struct lent {
@@ -59,15 +59,21 @@ static struct lent {
 
 static enum { GUARDED, EXACT, EDGE } mode;
 
-/* Odd where the elements are bytes: the header asks for alignment of words alone. */
+/* The elements are uint16_t, not bytes. */
+static bool is_wide(int which)
+{
+    return which == WORDS || which == CELLS;
+}
+
+/* Odd where the elements are bytes: the header asks for alignment of words and cells alone. */
 static size_t guard_size(int which)
 {
-    return which == BOARD ? 64 : which == WORDS ? 62 : 61;
+    return which == BOARD ? 64 : is_wide(which) ? 62 : 61;
 }
 
 static size_t element_size(int which)
 {
-    return which == WORDS ? sizeof(uint16_t) : 1;
+    return is_wide(which) ? sizeof(uint16_t) : 1;
 }
 
 static uint8_t guard_byte(size_t place)
@@ -145,14 +151,14 @@ static uint32_t element(int which, size_t place)
 {
     const uint8_t *start = lent[which].start;
 
-    return which == WORDS ? ((const uint16_t *)(const void *)start)[place] : start[place];
+    return is_wide(which) ? ((const uint16_t *)(const void *)start)[place] : start[place];
 }
 
 static void set_element(int which, size_t place, uint32_t value)
 {
     uint8_t *start = lent[which].start;
 
-    if (which == WORDS)
+    if (is_wide(which))
         ((uint16_t *)(void *)start)[place] = (uint16_t)value;
     else
         start[place] = (uint8_t)value;
@@ -182,7 +188,7 @@ static uint64_t sum_of(int which)
 
 static void fill(int which, size_t count, uint32_t seed)
 {
-    unsigned shift = which == WORDS ? 16 : 24;
+    unsigned shift = is_wide(which) ? 16 : 24;
     uint32_t x = seed;
 
     allocate(which, count * element_size(which));
@@ -262,7 +268,7 @@ static void do_take(char **word)
     int which = buffer(word[1]), from = buffer(word[2]);
     size_t count = number(word[3]);
 
-    if (which == from || which == WORDS || from == WORDS || count > lent[from].bytes)
+    if (which == from || is_wide(which) || is_wide(from) || count > lent[from].bytes)
         fail("nothing to take");
     allocate(which, count);
     memcpy(lent[which].start, lent[from].start, count);
@@ -365,9 +371,10 @@ static char results[512]; /* of the call that is being reported, "" or beginning
 static const int of_nothing[] = { ALL };
 static const int of_numbers[] = { NUMBERS, ALL };
 static const int of_run[] = { NUMBERS, CHARS, ALL };
+static const int of_cells[] = { NUMBERS, CHARS, CELLS, ALL };
 static const int of_memories[] = { CHARS, ATTRS, ALL };
 static const int of_step[] = { CHARS, ATTRS, WORDS, FLAGS, UNSHIFTED, SHIFTED, ALL };
-static const int of_line[] = { NUMBERS, CHARS, ATTRS, WORDS, FLAGS, UNSHIFTED, SHIFTED, OUT, ALL };
+static const int of_drawing[] = { NUMBERS, CHARS, ATTRS, WORDS, FLAGS, UNSHIFTED, SHIFTED, OUT, ALL };
 static const int of_page_read[] = { FILE_BYTES, NUMBERS, CHARS, ATTRS, ALL };
 static const int of_page_write[] = { NUMBERS, CHARS, ATTRS, OUT, ALL };
 static const int of_font_read[] = { FILE_BYTES, WORDS, FLAGS, UNSHIFTED, SHIFTED, ALL };
@@ -447,7 +454,18 @@ static feldrime_answer line_draw(uint32_t line, uint8_t field)
 
 static void call_line_draw(char **word)
 {
-    report_answer("line_draw", line_draw(number(word[2]), small(word[3])), of_line);
+    report_answer("line_draw", line_draw(number(word[2]), small(word[3])), of_drawing);
+}
+
+static void picture_draw(uint8_t field)
+{
+    report_answer("picture_draw",
+                  feldrime_picture_draw(BYTES(NUMBERS), BYTES(CHARS), BYTES(ATTRS), FONT, field, BYTES(OUT)), of_drawing);
+}
+
+static void call_picture_draw(char **word)
+{
+    picture_draw(small(word[2]));
 }
 
 static void call_row_run(char **word)
@@ -456,6 +474,19 @@ static void call_row_run(char **word)
 
     RESULTS(" first %" PRIu32 " count %" PRIu32, run.first, run.count);
     report("row_run", "-", 1, run.refusal, run.beside, of_run);
+}
+
+static feldrime_cells row_cells(uint32_t row)
+{
+    return feldrime_row_cells(BYTES(NUMBERS), BYTES(CHARS), row, (uint16_t *)(void *)lent[CELLS].start, count_of(CELLS));
+}
+
+static void call_row_cells(char **word)
+{
+    feldrime_cells answer = row_cells(number(word[2]));
+
+    RESULTS(" count %" PRIu32, answer.count);
+    report("row_cells", "-", 1, answer.refusal, answer.beside, of_cells);
 }
 
 /* The board becomes the answer's. */
@@ -476,6 +507,15 @@ static void call_board_of(char **word)
 {
     (void)word;
     report_board("board_of", "-", feldrime_board_of(BYTES(NUMBERS)), of_numbers);
+}
+
+static void call_numbers_of(char **word)
+{
+    feldrime_answer answer = feldrime_numbers_of(*board, BYTES(NUMBERS));
+
+    (void)word;
+    RESULTS("%s", "");
+    report("numbers_of", power_state(), 1, answer.refusal, answer.beside, of_numbers);
 }
 
 static void call_set_video(char **word)
@@ -584,57 +624,110 @@ static void call_step(char **word)
 
 /* ---- a whole frame ---- */
 
-/* The dots of the frame's active clocks, row by row of `size`. */
-static void frame_by_steps(feldrime_size size, uint8_t *picture)
+/* What the steps showed on the active clocks, line by line. */
+static struct {
+    feldrime_size size;
+    uint32_t columns;
+    uint8_t *dots;
+    uint16_t *addresses;
+} frame;
+
+static void frame_by_steps(void)
 {
     begin_steps();
     do {
         uint64_t line = board->place.line, clock = board->place.clock, dots = board->page.video.dots;
         if (!step_once())
             break;
-        if (line < size.lines && (clock + 1) * dots <= size.dots && dots <= sizeof steps.last.dots)
-            memcpy(picture + line * size.dots + clock * dots, steps.last.dots, dots);
+        if (line < frame.size.lines && clock < frame.columns && (clock + 1) * dots <= frame.size.dots
+            && dots <= sizeof steps.last.dots) {
+            memcpy(frame.dots + line * frame.size.dots + clock * dots, steps.last.dots, dots);
+            frame.addresses[line * frame.columns + clock] = (uint16_t)steps.last.address;
+        }
     } while ((board->place.line != 0 || board->place.clock != 0) && steps.done != LONGEST_FRAME);
     report_steps();
 }
 
 /* True where each line is as the steps showed it. */
-static bool frame_by_lines(feldrime_size size, uint8_t field, const uint8_t *picture)
+static bool frame_by_lines(uint8_t field)
 {
     feldrime_answer answer = { 0, 0 };
     uint64_t sum = sum_start;
-    uint32_t done = 0;
+    uint32_t done = 0, dots = frame.size.dots;
     bool same = true;
 
-    fill(OUT, size.dots, 0);
-    while (done < size.lines && (answer = line_draw(done, field)).refusal == 0) {
-        for (uint32_t i = 0; i < size.dots; i++)
+    fill(OUT, dots, 0);
+    while (done < frame.size.lines && (answer = line_draw(done, field)).refusal == 0) {
+        for (uint32_t i = 0; i < dots; i++)
             sum = add(sum, lent[OUT].start[i]);
-        same = same && memcmp(lent[OUT].start, picture + (size_t)done * size.dots, size.dots) == 0;
+        same = same && memcmp(lent[OUT].start, frame.dots + (size_t)done * dots, dots) == 0;
         done++;
     }
     RESULTS(" sum %016" PRIx64, sum);
-    report("line_draw", "-", answer.refusal == 0 ? done : 1, answer.refusal, answer.beside, of_line);
-    return same && done == size.lines;
+    report("line_draw", "-", answer.refusal == 0 ? done : 1, answer.refusal, answer.beside, of_drawing);
+    return same && done == frame.size.lines;
+}
+
+/* True where the picture is as the steps showed it. */
+static bool frame_as_picture(uint8_t field)
+{
+    size_t size = (size_t)frame.size.lines * frame.size.dots;
+
+    fill(OUT, size, 0);
+    picture_draw(field);
+    return memcmp(lent[OUT].start, frame.dots, size) == 0;
+}
+
+/* True where the steps fetched these cells on each line of the row. */
+static bool row_was_fetched(uint32_t row, uint32_t lines, uint32_t count)
+{
+    bool same = count == frame.columns;
+
+    for (uint32_t line = row * lines; same && line < (row + 1) * lines; line++)
+        same = memcmp(lent[CELLS].start, frame.addresses + (size_t)line * count, count * sizeof *frame.addresses) == 0;
+    return same;
+}
+
+static bool frame_by_rows(void)
+{
+    feldrime_cells answer = { 0, 0, 0 };
+    uint32_t rows = (lent[NUMBERS].start[5] & 127u) + 1, done = 0;
+    uint64_t sum = sum_start;
+    bool same = true;
+
+    fill(CELLS, FELDRIME_CELLS, 1);
+    while (done < rows && (answer = row_cells(done)).refusal == 0) {
+        for (uint32_t i = 0; i < answer.count && i < FELDRIME_CELLS; i++)
+            sum = add(sum, element(CELLS, i));
+        same = same && row_was_fetched(done, frame.size.lines / rows, answer.count);
+        done++;
+    }
+    RESULTS(" sum %016" PRIx64, sum);
+    report("row_cells", "-", answer.refusal == 0 ? done : 1, answer.refusal, answer.beside, of_cells);
+    return same && done == rows;
 }
 
 static void do_frame(char **word)
 {
-    feldrime_size size = page_size();
     uint8_t field = board->place.field;
-    uint8_t *picture;
-    bool agree;
+    bool lines, picture, rows;
 
     (void)word;
-    if (size.refusal != 0)
+    frame.size = page_size();
+    if (frame.size.refusal != 0)
         return;
-    picture = calloc((size_t)size.lines + 1, (size_t)size.dots + 1);
-    if (picture == NULL)
+    frame.columns = lent[NUMBERS].start[6] + 1u;
+    frame.dots = calloc((size_t)frame.size.lines + 1, (size_t)frame.size.dots + 1);
+    frame.addresses = calloc((size_t)frame.size.lines + 1, ((size_t)frame.columns + 1) * sizeof *frame.addresses);
+    if (frame.dots == NULL || frame.addresses == NULL)
         fail("no memory for a picture");
-    frame_by_steps(size, picture);
-    agree = frame_by_lines(size, field, picture);
-    printf("frame %" PRIu32 " %s\n", steps.done, agree ? "agree" : "differ");
-    free(picture);
+    frame_by_steps();
+    lines = frame_by_lines(field);
+    picture = frame_as_picture(field);
+    rows = frame_by_rows();
+    printf("frame %" PRIu32 " %s\n", steps.done, lines && picture && rows ? "agree" : "differ");
+    free(frame.dots);
+    free(frame.addresses);
 }
 
 /* ---- scripts ---- */
@@ -677,9 +770,12 @@ static const struct {
     { "call page_write", 2, call_page_write },
     { "call font_read", 2, call_font_read },
     { "call line_draw", 4, call_line_draw },
+    { "call picture_draw", 3, call_picture_draw },
     { "call row_run", 3, call_row_run },
+    { "call row_cells", 3, call_row_cells },
     { "call power", 2, call_power },
     { "call board_of", 2, call_board_of },
+    { "call numbers_of", 2, call_numbers_of },
     { "call set_video", 6, call_set_video },
     { "call write", 4, call_write },
     { "call read", 3, call_read },

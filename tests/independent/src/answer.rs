@@ -67,6 +67,13 @@ struct Steps {
     last: Shown,
 }
 
+/// What the steps of a frame show on its active clocks, in order.
+struct Frame {
+    clocks: u32,
+    dots: Vec<u8>,
+    addresses: Vec<u16>,
+}
+
 impl<'a> Desk<'a> {
     fn new(output: &'a mut dyn Write) -> Desk<'a> {
         Desk { output, buffers: Buffers::default(), board: Board::default(), given: Board::default(), every: 0 }
@@ -116,9 +123,12 @@ impl<'a> Desk<'a> {
             ["page_write"] => self.page_write(),
             ["font_read"] => self.font_read(),
             ["line_draw", line, field] => self.line_draw(number(line)?, small(field)?),
+            ["picture_draw", field] => self.picture_draw(small(field)?).map(|_| ()),
             ["row_run", row] => self.row_run(number(row)?),
+            ["row_cells", row] => self.row_cells(number(row)?),
             ["power"] => self.power(),
             ["board_of"] => self.board_of(),
+            ["numbers_of"] => self.numbers_of(),
             ["set_video", dots, strike, bkgnd, rblank] => {
                 self.set_video(small(dots)?, small(strike)?, small(bkgnd)?, small(rblank)?)
             }
@@ -196,6 +206,29 @@ impl<'a> Desk<'a> {
         self.report_lines(1, refusal, "")
     }
 
+    fn picture_draw(&mut self, field: u8) -> Result<u32, String> {
+        let mut out = std::mem::take(&mut self.buffers.out);
+        let refusal = calls::picture_draw(&self.buffers.numbers, &self.buffers.lent(), field, &mut out);
+        self.buffers.out = out;
+        let lent = [&["numbers"], &FONT_AND_MEMORIES[..], &["out"]].concat();
+        self.report("picture_draw", "-", 1, refusal, "", &lent)?;
+        Ok(refusal)
+    }
+
+    fn cells(&mut self, row: u32) -> (u32, u32) {
+        let b = &mut self.buffers;
+        calls::row_cells(&b.numbers, &b.chars, row, &mut b.cells)
+    }
+
+    fn report_cells(&mut self, count: u32, refusal: u32, results: &str) -> Result<(), String> {
+        self.report("row_cells", "-", count, refusal, results, &["numbers", "chars", "cells"])
+    }
+
+    fn row_cells(&mut self, row: u32) -> Result<(), String> {
+        let (refusal, count) = self.cells(row);
+        self.report_cells(1, refusal, &format!("count {}", count))
+    }
+
     fn row_run(&mut self, row: u32) -> Result<(), String> {
         let (refusal, first, count) = calls::row_run(&self.buffers.numbers, &self.buffers.chars, row);
         self.report("row_run", "-", 1, refusal, &format!("first {} count {}", first, count), &["numbers", "chars"])
@@ -210,6 +243,11 @@ impl<'a> Desk<'a> {
         let (refusal, board) = calls::board_of(&self.buffers.numbers);
         self.board = board;
         self.report_board("board_of", "-", refusal, &["numbers"])
+    }
+
+    fn numbers_of(&mut self) -> Result<(), String> {
+        let refusal = calls::numbers_of(&self.board, &mut self.buffers.numbers);
+        self.report("numbers_of", power_state(&self.board), 1, refusal, "", &["numbers"])
     }
 
     fn set_video(&mut self, dots: u8, strike: u8, bkgnd: u8, rblank: u8) -> Result<(), String> {
@@ -267,21 +305,25 @@ impl<'a> Desk<'a> {
         self.report_steps(&steps)
     }
 
-    /// A whole frame by steps and all its lines by `line_draw`, and whether their dots are the same.
+    /// A whole frame by steps, by `line_draw` and by `picture_draw`, and all its rows' cells: whether the dots are the same, and
+    /// the cells those that the steps fetched on each line.
     fn frame(&mut self) -> Result<(), String> {
         let (refusal, lines, width) = self.page_size()?;
         if refusal != 0 {
             return Ok(());
         }
         let field = self.board.place.field;
-        let (clocks, stepped) = self.frame_by_steps(lines, width)?;
+        let stepped = self.frame_by_steps(lines, width)?;
         let drawn = self.frame_by_lines(lines, width, field)?;
-        let verdict = if stepped == drawn { "agree" } else { "differ" };
-        self.say(&format!("frame {} {}", clocks, verdict))
+        let picture = self.frame_as_picture(lines, width, field)?;
+        let cells = self.frame_by_rows(lines)?;
+        let agree = stepped.dots == drawn && stepped.dots == picture && stepped.addresses == cells;
+        self.say(&format!("frame {} {}", stepped.clocks, if agree { "agree" } else { "differ" }))
     }
 
-    fn frame_by_steps(&mut self, lines: u32, width: u32) -> Result<(u32, Vec<u8>), String> {
+    fn frame_by_steps(&mut self, lines: u32, width: u32) -> Result<Frame, String> {
         let mut picture = vec![0; lines as usize * width as usize];
+        let mut addresses = Vec::new();
         let mut steps = Steps { done: 0, sum: Sum::new(), refusal: 0, last: Shown::default() };
         loop {
             let (place, dots) = (self.board.place, self.board.page.dots);
@@ -292,13 +334,14 @@ impl<'a> Desk<'a> {
             if place.line < lines && (place.clock + 1) * dots <= width {
                 let at = (place.line * width + place.clock * dots) as usize;
                 picture[at..at + dots as usize].copy_from_slice(&steps.last.dots[..dots as usize]);
+                addresses.push(steps.last.address);
             }
             if (self.board.place.line, self.board.place.clock) == (0, 0) || steps.done == LONGEST_FRAME {
                 break;
             }
         }
         self.report_steps(&steps)?;
-        Ok((steps.done, picture))
+        Ok(Frame { clocks: steps.done, dots: picture, addresses })
     }
 
     fn frame_by_lines(&mut self, lines: u32, width: u32, field: u8) -> Result<Vec<u8>, String> {
@@ -315,6 +358,34 @@ impl<'a> Desk<'a> {
         let count = if refusal == 0 { done } else { 1 };
         self.report_lines(count, refusal, &format!("sum {:016x}", Sum::of(&picture).0))?;
         Ok(picture)
+    }
+
+    fn frame_as_picture(&mut self, lines: u32, width: u32, field: u8) -> Result<Vec<u8>, String> {
+        self.buffers.fill("out", lines as usize * width as usize, 0)?;
+        self.picture_draw(field)?;
+        Ok(self.buffers.out.clone())
+    }
+
+    /// The cells of each row, as often as it has lines.
+    fn frame_by_rows(&mut self, lines: u32) -> Result<Vec<u16>, String> {
+        // IR4[6:0] is rows, n+1
+        let rows = u32::from(self.buffers.numbers[5] & 0x7F) + 1;
+        self.buffers.fill("cells", 256, 1)?;
+        let (mut found, mut sum) = (Vec::new(), Sum::new());
+        let (mut done, mut refusal) = (0, 0);
+        while done < rows && refusal == 0 {
+            let (answer, count) = self.cells(done);
+            refusal = answer;
+            if refusal == 0 {
+                let row = &self.buffers.cells[..count as usize];
+                row.iter().for_each(|&address| sum.add(u32::from(address)));
+                (0..lines / rows).for_each(|_| found.extend(row));
+                done += 1;
+            }
+        }
+        let count = if refusal == 0 { done } else { 1 };
+        self.report_cells(count, refusal, &format!("sum {:016x}", sum.0))?;
+        Ok(found)
     }
 }
 

@@ -185,4 +185,8 @@ impl Page {
     pub fn line_dots(&self) -> usize {
         self.hact() as usize * self.dots as usize
     }
+    /// All visible lines, end to end.
+    pub fn picture_dots(&self) -> usize {
+        self.visible_lines() as usize * self.line_dots()
+    }
 }

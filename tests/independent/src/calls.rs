@@ -92,6 +92,25 @@ pub fn line_draw(numbers: &[u8], lent: &Lent, line: u32, field: u8, out: &mut [u
     refusal
 }
 
+/// "All visible lines, end to end, a byte a dot [..] at the front of `out`, bytes beyond stay."
+pub fn picture_draw(numbers: &[u8], lent: &Lent, field: u8, out: &mut [u8]) -> u32 {
+    let page = match page_of_numbers(numbers) {
+        Some(page) => page,
+        None => return 3,
+    };
+    let mut faults = lent_faults(lent);
+    faults.extend(judge::page(&page));
+    faults.push((8, out.len() < page.picture_dots()));
+    let refusal = judge::first(&faults);
+    if refusal == 0 {
+        for line in 0..page.visible_lines() {
+            let from = line as usize * page.line_dots();
+            out[from..from + page.line_dots()].copy_from_slice(&sheet::line(&page, lent, line, field));
+        }
+    }
+    refusal
+}
+
 /// The refusal, where the run begins, how many cells it has. "A refusal shows an empty part"
 pub fn row_run(numbers: &[u8], chars: &[u8], row: u32) -> (u32, u32, u32) {
     let page = match page_of_numbers(numbers) {
@@ -109,12 +128,43 @@ pub fn row_run(numbers: &[u8], chars: &[u8], row: u32) -> (u32, u32, u32) {
     }
 }
 
+/// "fewer than 256 elements, the most that a row can have"
+const MOST_CELLS: usize = 256;
+
+/// The refusal and how many cells the row fetches; their addresses stand in front, "elements beyond the row's cells stay".
+pub fn row_cells(numbers: &[u8], chars: &[u8], row: u32, cells: &mut [u16]) -> (u32, u32) {
+    let page = match page_of_numbers(numbers) {
+        Some(page) => page,
+        None => return (3, 0),
+    };
+    let mut faults = judge::page(&page);
+    faults.extend([judge::memory(chars), (3, cells.len() < MOST_CELLS), (7, row >= page.rows())]);
+    let refusal = judge::first(&faults);
+    if refusal != 0 {
+        return (refusal, 0);
+    }
+    let found = sheet::row_cells(&page, chars, row);
+    cells[..found.len()].copy_from_slice(&found);
+    (0, found.len() as u32)
+}
+
 /// A refused page gives the board that power gives.
 pub fn board_of(numbers: &[u8]) -> (u32, Board) {
     match (page_check(numbers), page_of_numbers(numbers)) {
         (0, Some(page)) => (0, Board::of_page(page)),
         (refusal, _) => (refusal, Board::default()),
     }
+}
+
+/// "A board's page as 32 numbers, the way back": of the board only its page is judged.
+pub fn numbers_of(board: &Board, numbers: &mut [u8]) -> u32 {
+    let mut faults = judge::page(&board.page);
+    faults.push((3, numbers.len() != files::NUMBERS));
+    let refusal = judge::first(&faults);
+    if refusal == 0 {
+        numbers.copy_from_slice(&files::numbers_of(&board.page));
+    }
+    refusal
 }
 
 /// "Drawing, stepping, states and runs give 3 to 8 and 12": what they judge of a board.

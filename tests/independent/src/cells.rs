@@ -25,7 +25,7 @@ const DRAWING: &str = "Drawing, stepping, states and runs give 3 to 8 and 12";
 const REGISTERS: &str = "Register calls give 12, 7 (for the pointer only), 9, 10";
 
 /// Every cell of the table that 01 allows. A page's numbers hold no place and no pointer, so that calls which
-/// take them have no 7 but for an asked line or row; 8 needs a line buffer.
+/// take them have no 7 but for an asked line or row; 8 needs a buffer for dots.
 const ALLOWED: &[Allowed] = &[
     Allowed { call: "page_check", powers: NO_BOARD, numbers: &[0, 3, 12, 4, 5, 6], words: FILES },
     Allowed { call: "page_size", powers: NO_BOARD, numbers: &[0, 3, 12, 4, 5, 6], words: FILES },
@@ -33,9 +33,12 @@ const ALLOWED: &[Allowed] = &[
     Allowed { call: "page_write", powers: NO_BOARD, numbers: &[0, 3, 12, 4, 5, 6], words: FILES },
     Allowed { call: "font_read", powers: NO_BOARD, numbers: &[0, 1, 2, 3], words: FILES },
     Allowed { call: "line_draw", powers: NO_BOARD, numbers: &[0, 3, 12, 4, 5, 6, 7, 8], words: DRAWING },
+    Allowed { call: "picture_draw", powers: NO_BOARD, numbers: &[0, 3, 12, 4, 5, 6, 8], words: DRAWING },
     Allowed { call: "row_run", powers: NO_BOARD, numbers: &[0, 3, 12, 4, 5, 6, 7], words: DRAWING },
+    Allowed { call: "row_cells", powers: NO_BOARD, numbers: &[0, 3, 12, 4, 5, 6, 7], words: DRAWING },
     Allowed { call: "power", powers: NO_BOARD, numbers: &[0], words: "Power gives zeros throughout" },
     Allowed { call: "board_of", powers: NO_BOARD, numbers: &[0, 3, 12, 4, 5, 6], words: FILES },
+    Allowed { call: "numbers_of", powers: EVERY_POWER, numbers: &[0, 3, 12, 4, 5, 6], words: FILES },
     Allowed { call: "set_video", powers: EVERY_POWER, numbers: &[0, 12, 6], words: "refusing 12, then 6" },
     Allowed { call: "write", powers: INACTIVE, numbers: &[0, 12, 7, 9], words: "after 9 an inactive board answers 0" },
     Allowed { call: "write", powers: ACTIVE, numbers: &[0, 12, 7, 9, 10], words: REGISTERS },
@@ -160,10 +163,10 @@ fn first_difference(ours: &Block, theirs: &Block) -> Option<String> {
     Some(format!("answer {} differs\n  first:  {}\n  second: {}", at + 1, a, b))
 }
 
-/// Both sides may agree that steps and lines show different dots: that is no agreement.
+/// Both sides may agree that steps, lines and picture show different dots, or steps and rows other cells: that is no agreement.
 fn frame_that_differs(block: &Block) -> Option<String> {
     let line = block.lines.iter().find(|line| line.starts_with("frame ") && line.ends_with(" differ"))?;
-    Some(format!("steps and lines differ on both sides: {}", line))
+    Some(format!("steps, lines, picture and cells differ on both sides: {}", line))
 }
 
 /// An answer's line begins "CALL POWER COUNT REFUSAL".
@@ -183,12 +186,12 @@ fn met(tally: &Tally, call: &str, power: &str, number: u32) -> u64 {
 /// Gives how many allowed cells are empty.
 fn print_table(tally: &Tally) -> u64 {
     let mut empty = 0;
-    print!("{:<11}{:<11}", "call", "power");
+    print!("{:<13}{:<11}", "call", "power");
     NUMBERS.iter().for_each(|number| print!("{:>9}", number));
     println!();
     for row in ALLOWED {
         for power in row.powers {
-            print!("{:<11}{:<11}", row.call, power);
+            print!("{:<13}{:<11}", row.call, power);
             for number in NUMBERS {
                 let count = met(tally, row.call, power, number);
                 let text = match (row.numbers.contains(&number), count) {

@@ -1,13 +1,14 @@
 //! The fixed scripts for 01's corners: each command byte, each width, the smallest and largest pages, its
-//! cases, phrases, tables at the end of memory, fields past 255, the last clocks, files, and nothing at all.
+//! cases, phrases, wraps, tables at the end of memory, fields past 255, the last clocks, rooms of every size, saved boards,
+//! files, and nothing at all.
 
 use crate::board::{Board, Page};
 use crate::cases;
 use crate::dice::{page, Dice, Shape};
-use crate::files::{bytes_of, FONT_FILE, PAGE_FILE};
+use crate::files::{bytes_of, page_of, FONT_FILE, PAGE_FILE};
 use crate::make::{Maker, Script};
 use crate::script::hex;
-use crate::stage::{cursor_in_sight, lines, set_up, show, states, table};
+use crate::stage::{cursor_in_sight, lines, rows, set_up, show, states, table};
 
 const POWERS: [u8; 4] = [0, 1, 2, 200];
 
@@ -26,9 +27,15 @@ pub fn all() -> Vec<Maker> {
         all.push(named(format!("off-{}", resets), move |script, dice| off(script, dice, resets)));
     }
     all.extend(pages());
+    for hact in [1, 2, 7, 256] {
+        all.push(named(format!("wraps-{}", hact), move |script, dice| wraps(script, dice, hact)));
+    }
     all.extend([
         named("fields", fields),
         named("last-clocks", last_clocks),
+        named("picture-rooms", picture_rooms),
+        named("cells-rooms", cells_rooms),
+        named("saved", saved),
         named("resets", resets_in_a_row),
         named("page-files", page_files),
         named("font-files", font_files),
@@ -174,7 +181,7 @@ fn address_cases(script: &mut Script, dice: &mut Dice) {
         page.cursor = first;
         page.switches = 3;
         set_up(script, dice, &page, 2);
-        (0..4).for_each(|row| script.say(format!("call row_run {}", row)));
+        rows(script, dice, &page);
         script.say("every 1");
         script.say(format!("call step {}", 2 * page.ht()));
         script.say("every 0");
@@ -225,7 +232,35 @@ fn phrases(script: &mut Script, dice: &mut Dice) {
         page.cursor = dice.pick(&[at_last, at_end, 0, page.first_address(), 16383]);
         set_up(script, dice, &page, 2);
         show(script, dice, &page);
-        (0..=5).for_each(|row| script.say(format!("call row_run {}", row)));
+        script.numbers(&page);
+        rows(script, dice, &page);
+    }
+}
+
+/// Rows that end before, at and past the last buffer address and 16383; of the buffers one has a single cell, and one ends
+/// before it begins. Row table off, and on with a row that begins at each end.
+fn wraps(script: &mut Script, dice: &mut Dice, hact: u32) {
+    let mut chars = script.chars(dice);
+    script.attrs(dice);
+    script.font(dice);
+    for (first, last) in [(0, 1023), (1023, 1023), (4095, 1023), (100, 16383)] {
+        for end in [last, 16383] {
+            for back in [0, 1, hact - 1, hact, hact + 1] {
+                let shape = Shape { hact, rows: 3, lines: 2, dots: dice.between(6, 12) };
+                let mut page = page(dice, shape);
+                page.irs[8] = (first % 256) as u8;
+                page.irs[9] = ((last / 1024) * 16 + first / 256) as u8;
+                page.start1 = (end - back) as u16;
+                page.start2 = 9000;
+                page.cursor = dice.pick(&[first, last, 16383, 0]) as u16;
+                page.irs[2] = page.irs[2] & 0x7F | u8::from(back == 1) << 7;
+                table(script, dice, &page, &mut chars, &[page.start1, last as u16, 16383]);
+                script.numbers(&page);
+                script.say("call board_of");
+                script.say("frame");
+                rows(script, dice, &page);
+            }
+        }
     }
 }
 
@@ -240,7 +275,71 @@ fn table_at_the_end(script: &mut Script, dice: &mut Dice) {
         cursor_in_sight(dice, &mut page, &chars);
         set_up(script, dice, &page, 2);
         show(script, dice, &page);
-        (0..4).for_each(|row| script.say(format!("call row_run {}", row)));
+        script.numbers(&page);
+        rows(script, dice, &page);
+    }
+}
+
+/// Room for nothing, for a line, for all but a dot, for all, and for more.
+fn picture_rooms(script: &mut Script, dice: &mut Dice) {
+    for (hact, rows, lines) in [(1, 1, 1), (5, 3, 4), (256, 1, 2), (3, 128, 1), (1, 2, 16)] {
+        let shape = Shape { hact, rows, lines, dots: dice.between(6, 12) };
+        let mut page = page(dice, shape);
+        page.irs[2] = page.irs[2] & 0x7F | dice.pick(&[0, 0x80]);
+        let chars = script.chars(dice);
+        cursor_in_sight(dice, &mut page, &chars);
+        set_up(script, dice, &page, 2);
+        let (line, all) = (page.line_dots(), page.picture_dots());
+        script.say("none out");
+        script.say("call picture_draw 0");
+        for room in [0, 1, line, all - line, all - 1, all, all + 1, all + line, 2 * all + 1, 1_000_000] {
+            script.say(format!("fill out {} {}", room, dice.seed()));
+            script.say(format!("call picture_draw {}", dice.byte()));
+        }
+    }
+}
+
+/// Room for nothing, for the row's own cells, for one less than any row can have, for any row, and for more.
+fn cells_rooms(script: &mut Script, dice: &mut Dice) {
+    for hact in [1, 2, 80, 255, 256] {
+        let page = page(dice, Shape { hact, rows: 2, lines: 1, dots: 8 });
+        script.chars(dice);
+        script.numbers(&page);
+        script.say("none cells");
+        script.say("call row_cells 0");
+        for room in [0, 1, hact, 128, 254, 255, 256, 257, 512, 65536, 1_000_000] {
+            for row in [0, 1, 2] {
+                script.say(format!("fill cells {} {}", room, dice.seed()));
+                script.say(format!("call row_cells {}", row));
+            }
+        }
+    }
+}
+
+/// A board is saved as numbers wherever it stands, and made again of them; every size of the numbers; then every page that
+/// differs in one of their bytes.
+fn saved(script: &mut Script, dice: &mut Dice) {
+    let page = Page { irs: [0x10, 34, 0x1A, 8, 1, 79, 3, 4, 5, 6, 7, 8, 9, 10, 11], ..some_page(dice) };
+    let mut board = Board { pointer: 255, ..Board::of_page(page) };
+    board.place.line = u32::MAX;
+    board.place.row_start = 65535;
+    script.board(&board);
+    script.say("none numbers");
+    script.say("call numbers_of");
+    for size in [0, 1, 24, 25, 31, 33, 64, 65536, 32] {
+        script.say(format!("fill numbers {} {}", size, dice.seed()));
+        script.say("call numbers_of");
+    }
+    script.say("call board_of");
+    script.say("call numbers_of");
+    for byte in 0..24 {
+        let mut bytes = bytes_of(&page);
+        bytes[byte] ^= 1;
+        script.board(&Board { resets: (byte % 4) as u8, ..Board::of_page(page_of(&bytes)) });
+        script.say(format!("fill numbers 32 {}", dice.seed()));
+        script.say("call numbers_of");
+        script.say("call page_check");
+        script.say("call board_of");
     }
 }
 
@@ -371,14 +470,19 @@ fn nothing(script: &mut Script, dice: &mut Dice) {
         "font_read",
         "line_draw 0 0",
         "line_draw 4294967295 255",
+        "picture_draw 0",
+        "picture_draw 255",
         "row_run 0",
         "row_run 4294967295",
+        "row_cells 0",
+        "row_cells 4294967295",
         "board_of",
+        "numbers_of",
         "state_at 0",
         "state_at 4294967295",
         "step 1",
     ];
-    let buffers = ["numbers", "chars", "attrs", "words", "flags", "unshifted", "shifted", "file", "out"];
+    let buffers = ["numbers", "chars", "attrs", "words", "flags", "unshifted", "shifted", "file", "out", "cells"];
     calls.iter().for_each(|call| script.say(format!("call {}", call)));
     buffers.iter().for_each(|buffer| script.say(format!("fill {} 0 1", buffer)));
     calls.iter().for_each(|call| script.say(format!("call {}", call)));

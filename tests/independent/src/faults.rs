@@ -6,7 +6,23 @@ use crate::files::{bytes_of, page_of, FONT_FILE, FONT_LENGTH, PAGE_FILE, PAGE_LE
 use crate::make::{Maker, Script};
 use crate::script::{board_text, hex};
 
-const BUFFERS: [&str; 9] = ["numbers", "chars", "attrs", "words", "flags", "unshifted", "shifted", "file", "out"];
+const BUFFERS: [&str; 10] =
+    ["numbers", "chars", "attrs", "words", "flags", "unshifted", "shifted", "file", "out", "cells"];
+
+/// The calls that take no board, and those that do.
+const ALONE: [&str; 10] = [
+    "page_check",
+    "page_size",
+    "board_of",
+    "page_read",
+    "page_write",
+    "font_read",
+    "line_draw",
+    "picture_draw",
+    "row_run",
+    "row_cells",
+];
+const WITH_BOARD: [&str; 6] = ["numbers_of", "set_video", "write", "read", "state_at", "step"];
 
 /// Everything that a call is handed. The board's page is also the page of the numbers and of the page file.
 #[derive(Clone)]
@@ -16,7 +32,7 @@ pub struct Case {
     file_version: u8,
     file_length: u32,
     /// Elements of each buffer; `None` is NULL.
-    sizes: [Option<usize>; 9],
+    sizes: [Option<usize>; 10],
     line: u32,
     row: u32,
     address: u8,
@@ -35,7 +51,12 @@ fn base(call: &str, resets: u8) -> Case {
     assert_eq!(page.hfp(), 3);
     let font_file = call == "font_read";
     let file = if font_file { FONT_FILE } else { PAGE_FILE };
-    let sizes = [32, 16384, 16384, 1152, 128, 9, 9, file, if call == "page_write" { PAGE_FILE } else { 48 }];
+    let out = match call {
+        "page_write" => PAGE_FILE,
+        "picture_draw" => page.picture_dots(),
+        _ => page.line_dots(),
+    };
+    let sizes = [32, 16384, 16384, 1152, 128, 9, 9, file, out, 256];
     Case {
         board: Board { page, resets, pointer: 3, ..Board::default() },
         version: 1,
@@ -55,18 +76,11 @@ fn fault(act: impl Fn(&mut Case) + 'static) -> Fault {
     Box::new(act)
 }
 
-/// NULL, none, one too few, one too many, far too many.
+/// NULL, none, one too few, one too many, far too many; the last two are right where more room than needed is taken.
 fn sizes(name: &'static str, right: usize) -> Vec<Fault> {
     let buffer = BUFFERS.iter().position(|&one| one == name).expect("a buffer's name");
     let wrong = [None, Some(0), Some(right - 1), Some(right + 1), Some(2 * right + 1)];
     wrong.iter().map(|&size| fault(move |case| case.sizes[buffer] = size)).collect()
-}
-
-/// For a buffer that may be larger than needed.
-fn too_short(name: &'static str, right: usize) -> Vec<Fault> {
-    let mut all = sizes(name, right);
-    all.truncate(3);
-    all
 }
 
 fn numbers_faults() -> Vec<Fault> {
@@ -212,14 +226,23 @@ fn faults_of(call: &str) -> Vec<Fault> {
     let parts: Vec<Vec<Fault>> = match call {
         "page_check" | "page_size" | "board_of" => vec![numbers_faults(), page_faults()],
         "page_read" => vec![of_file(call), sizes("numbers", 32), memory_faults()],
-        "page_write" => vec![numbers_faults(), memory_faults(), page_faults(), too_short("out", PAGE_FILE)],
+        "page_write" => vec![numbers_faults(), memory_faults(), page_faults(), sizes("out", PAGE_FILE)],
         "font_read" => vec![of_file(call), font_faults()],
         "line_draw" => {
             let lent = vec![numbers_faults(), memory_faults(), font_faults()];
-            let asked = vec![page_faults(), asked_faults(call), too_short("out", 48)];
+            let asked = vec![page_faults(), asked_faults(call), sizes("out", 48)];
             lent.into_iter().chain(asked).collect()
         }
+        "picture_draw" => {
+            vec![numbers_faults(), memory_faults(), font_faults(), page_faults(), sizes("out", 288)]
+        }
         "row_run" => vec![numbers_faults(), sizes("chars", 16384), page_faults(), asked_faults(call)],
+        "row_cells" => {
+            let lent = vec![numbers_faults(), sizes("chars", 16384), sizes("cells", 256)];
+            lent.into_iter().chain([page_faults(), asked_faults(call)]).collect()
+        }
+        // it judges neither place nor pointer, nor what the numbers held before
+        "numbers_of" => vec![numbers_faults(), page_faults(), pointer_faults(), place_faults()],
         // what these three do not judge stands here too: the place, 4, 5, and for the first the pointer
         "set_video" => {
             vec![address_faults(), video_faults(), strike_faults(), timing_faults(), pointer_faults(), place_faults()]
@@ -234,14 +257,27 @@ fn faults_of(call: &str) -> Vec<Fault> {
 /// Which buffers a call is lent.
 fn lent_to(call: &str) -> &'static [&'static str] {
     match call {
-        "page_check" | "page_size" | "board_of" => &BUFFERS[..1],
+        "page_check" | "page_size" | "board_of" | "numbers_of" => &BUFFERS[..1],
         "page_read" => &["file", "numbers", "chars", "attrs"],
         "page_write" => &["numbers", "chars", "attrs", "out"],
         "font_read" => &["file", "words", "flags", "unshifted", "shifted"],
-        "line_draw" => &["numbers", "chars", "attrs", "words", "flags", "unshifted", "shifted", "out"],
+        "line_draw" | "picture_draw" => &["numbers", "chars", "attrs", "words", "flags", "unshifted", "shifted", "out"],
         "row_run" => &BUFFERS[..2],
+        "row_cells" => &["numbers", "chars", "cells"],
         "state_at" => &BUFFERS[1..3],
         "step" => &BUFFERS[1..7],
+        _ => &[],
+    }
+}
+
+/// Which of them it writes.
+fn written_by(call: &str) -> &'static [&'static str] {
+    match call {
+        "page_read" => &["numbers", "chars", "attrs"],
+        "font_read" => &["words", "flags", "unshifted", "shifted"],
+        "page_write" | "line_draw" | "picture_draw" => &["out"],
+        "row_cells" => &["cells"],
+        "numbers_of" => &["numbers"],
         _ => &[],
     }
 }
@@ -249,7 +285,8 @@ fn lent_to(call: &str) -> &'static [&'static str] {
 fn arguments(call: &str, case: &Case) -> String {
     match call {
         "line_draw" => format!(" {} 7", case.line),
-        "row_run" => format!(" {}", case.row),
+        "picture_draw" => " 7".to_string(),
+        "row_run" | "row_cells" => format!(" {}", case.row),
         "set_video" => format!(" {} {} 255 0", case.dots, case.strike),
         "write" => format!(" {} {}", case.address, case.byte),
         "read" => format!(" {}", case.address),
@@ -275,6 +312,7 @@ fn buffer_lines(name: &str, call: &str, case: &Case) -> Vec<String> {
     };
     let mut lines = vec![format!("fill {} {} {}", name, size, 1_000_000_007 + index)];
     let head = match name {
+        "numbers" if call == "numbers_of" => vec![case.version],
         "numbers" if call != "page_read" => [vec![case.version], bytes_of(&case.board.page)].concat(),
         "file" => file_head(call, case),
         _ => Vec::new(),
@@ -297,13 +335,13 @@ impl<'a> Teller<'a> {
     fn tell(&mut self, case: &Case) {
         for (index, name) in lent_to(self.call).iter().enumerate() {
             let lines = buffer_lines(name, self.call, case);
-            // a buffer that an accepted call has written is made anew
-            if self.told[index] != lines || self.call.ends_with("_read") {
+            // what an accepted call may have written is made anew, so that a refused one that writes is seen
+            if self.told[index] != lines || written_by(self.call).contains(name) {
                 lines.iter().for_each(|line| self.script.say(line));
                 self.told[index] = lines;
             }
         }
-        if ["set_video", "write", "read", "state_at", "step"].contains(&self.call) {
+        if WITH_BOARD.contains(&self.call) {
             self.script.say(format!("board {}", board_text(&case.board)));
         }
         self.script.say(format!("call {}{}", self.call, arguments(self.call, case)));
@@ -328,10 +366,8 @@ fn every_pair(script: &mut Script, call: &'static str, resets: u8) {
 }
 
 pub fn all() -> Vec<Maker> {
-    let alone = ["page_check", "page_size", "board_of", "page_read", "page_write", "font_read", "line_draw", "row_run"];
-    let with_board = ["set_video", "write", "read", "state_at", "step"];
-    let mut cases: Vec<(&'static str, u8)> = alone.iter().map(|&call| (call, 2)).collect();
-    for call in with_board {
+    let mut cases: Vec<(&'static str, u8)> = ALONE.iter().map(|&call| (call, 2)).collect();
+    for call in WITH_BOARD {
         cases.extend([0, 1, 2, 200].map(|resets| (call, resets)));
     }
     let maker = |(call, resets): (&'static str, u8)| -> Maker {

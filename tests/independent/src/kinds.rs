@@ -5,7 +5,7 @@ use crate::dice::{page, place_cells, Dice, Shape};
 use crate::files::{bytes_of, FONT_FILE, PAGE_FILE};
 use crate::make::Script;
 use crate::script::hex;
-use crate::stage::{cursor_in_sight, lines, set_up, show, states, table};
+use crate::stage::{cells, cursor_in_sight, lines, pictures, set_up, show, states, table};
 
 pub type Kind = fn(&mut Script, &mut Dice);
 
@@ -93,6 +93,8 @@ fn boards(script: &mut Script, dice: &mut Dice) {
     for _ in 0..30 {
         let board = any_board(dice);
         script.board(&board);
+        script.say(format!("fill numbers 32 {}", dice.seed()));
+        script.say("call numbers_of");
         script.say(format!("call read {}", dice.between(0, 9)));
         script.say(format!("call write {} {}", dice.between(0, 9), dice.byte()));
         script.say("board");
@@ -229,6 +231,11 @@ fn live(script: &mut Script, dice: &mut Dice) {
         }
         script.say(format!("call step {}", dice.between(1, page.ht() * 3)));
     }
+    // what the editor shows is saved and drawn
+    script.say(format!("fill numbers 32 {}", dice.seed()));
+    script.say("call numbers_of");
+    script.say(format!("fill out {} {}", page.picture_dots(), dice.seed()));
+    script.say(format!("call picture_draw {}", dice.byte()));
 }
 
 /// Page and font files with a few bytes disturbed, read and then drawn.
@@ -275,7 +282,9 @@ fn sizes(script: &mut Script, dice: &mut Dice) {
         script.say("call step 2");
         script.say(format!("call state_at {}", dice.seed()));
         script.say(format!("call row_run {}", dice.between(0, page.rows())));
+        cells(script, dice, &page);
         lines(script, dice, &page);
+        pictures(script, dice, &page);
         script.say(format!("fill {} {} {}", buffer, size, dice.seed()));
     }
 }

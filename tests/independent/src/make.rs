@@ -93,7 +93,7 @@ impl Script {
         }
     }
 
-    /// One frame by steps and by lines, beginning with this field of all since clock 0.
+    /// One frame by steps, lines, picture and rows, beginning with this field of all since clock 0.
     pub fn frame_of(&mut self, page: &Page, field: u32) {
         self.say(format!("call state_at {}", field * page.frame_clocks()));
         self.say("frame");

@@ -14,7 +14,7 @@ impl Generator {
     }
 }
 
-/// A byte of a buffer, or a word of the font's words.
+/// A byte of a buffer, or 16 bits of the font's words and of a row's cells.
 pub trait Element: Copy {
     const BITS: u32;
     fn of(number: u32) -> Self;
@@ -133,9 +133,19 @@ pub struct Buffers {
     pub shifted: Vec<u8>,
     pub file: Vec<u8>,
     pub out: Vec<u8>,
+    pub cells: Vec<u16>,
 }
 
 impl Buffers {
+    /// A buffer whose elements are 16 bits wide.
+    fn wide(&mut self, name: &str) -> Option<&mut Vec<u16>> {
+        match name {
+            "words" => Some(&mut self.words),
+            "cells" => Some(&mut self.cells),
+            _ => None,
+        }
+    }
+
     fn bytes(&mut self, name: &str) -> Result<&mut Vec<u8>, String> {
         Ok(match name {
             "numbers" => &mut self.numbers,
@@ -169,25 +179,25 @@ impl Buffers {
     }
 
     pub fn fill(&mut self, name: &str, count: usize, seed: u32) -> Result<(), String> {
-        match name {
-            "words" => self.words = filled(count, seed),
-            _ => *self.bytes(name)? = filled(count, seed),
+        match self.wide(name) {
+            Some(elements) => *elements = filled(count, seed),
+            None => *self.bytes(name)? = filled(count, seed),
         }
         Ok(())
     }
 
     fn set(&mut self, name: &str, at: usize, text: &str) -> Result<(), String> {
-        match name {
-            "words" => put(&mut self.words, at, text),
-            _ => put(self.bytes(name)?, at, text),
+        match self.wide(name) {
+            Some(elements) => put(elements, at, text),
+            None => put(self.bytes(name)?, at, text),
         }
     }
 
     fn mask(&mut self, name: &str, text: &str) -> Result<(), String> {
         let bits = u32::from_str_radix(text, 16).map_err(|_| format!("no hex mask: {}", text))?;
-        match name {
-            "words" => keep(&mut self.words, bits),
-            _ => keep(self.bytes(name)?, bits),
+        match self.wide(name) {
+            Some(elements) => keep(elements, bits),
+            None => keep(self.bytes(name)?, bits),
         }
         Ok(())
     }
@@ -202,9 +212,9 @@ impl Buffers {
     pub fn report(&mut self, names: &[&str]) -> Result<String, String> {
         let mut text = String::new();
         for &name in names {
-            let (count, sum) = match name {
-                "words" => (self.words.len(), Sum::of(&self.words)),
-                _ => {
+            let (count, sum) = match self.wide(name) {
+                Some(elements) => (elements.len(), Sum::of(elements)),
+                None => {
                     let bytes = self.bytes(name)?;
                     (bytes.len(), Sum::of(bytes))
                 }

@@ -44,6 +44,12 @@ pub fn run(page: &Page, chars: &[u8], row: u32) -> (u16, u32) {
     (first, count)
 }
 
+/// "The addresses of all cells that a row fetches, column by column, wraps included"
+pub fn row_cells(page: &Page, chars: &[u8], row: u32) -> Vec<u16> {
+    let first = row_start(page, chars, row);
+    (0..page.hact()).map(|column| moved(page, first, column)).collect()
+}
+
 /// What clock n shows.
 #[derive(PartialEq, Eq, Debug)]
 pub struct Moment {

@@ -47,15 +47,21 @@ pub fn set_up(script: &mut Script, dice: &mut Dice, page: &Page, resets: u8) {
     }
 }
 
-/// A whole frame, then runs, lines, states and steps here and there.
+/// A whole frame, then runs, cells, lines, pictures, states and steps here and there. Where the board then stands its page is
+/// saved as numbers, and drawn once more from these.
 pub fn show(script: &mut Script, dice: &mut Dice, page: &Page) {
     let field = dice.pick(&FIELDS);
     script.frame_of(page, field);
     for _ in 0..3 {
         script.say(format!("call row_run {}", dice.between(0, page.rows())));
     }
+    cells(script, dice, page);
     lines(script, dice, page);
+    pictures(script, dice, page);
     states(script, dice, page);
+    script.say(format!("fill numbers 32 {}", dice.seed()));
+    script.say("call numbers_of");
+    script.say(format!("call picture_draw {}", dice.byte()));
 }
 
 /// Lines into buffers that are just long enough, longer, and too short.
@@ -65,6 +71,31 @@ pub fn lines(script: &mut Script, dice: &mut Dice, page: &Page) {
         script.say(format!("fill out {} {}", room, dice.seed()));
         let line = dice.between(0, page.visible_lines() - 1);
         script.say(format!("call line_draw {} {}", line, dice.byte()));
+    }
+}
+
+/// Pictures into buffers that are just long enough, longer, and too short.
+pub fn pictures(script: &mut Script, dice: &mut Dice, page: &Page) {
+    for extra in [-1, 0, dice.between(1, 3000) as i32] {
+        script.say(format!("fill out {} {}", page.picture_dots() as i32 + extra, dice.seed()));
+        script.say(format!("call picture_draw {}", dice.byte()));
+    }
+}
+
+/// The cells of rows, into buffers that are too short, just long enough, and longer.
+pub fn cells(script: &mut Script, dice: &mut Dice, page: &Page) {
+    for room in [dice.between(0, 255), 256, dice.between(257, 600)] {
+        script.say(format!("fill cells {} {}", room, dice.seed()));
+        script.say(format!("call row_cells {}", dice.between(0, page.rows())));
+    }
+}
+
+/// Run and cells of every row, and of the row after the last.
+pub fn rows(script: &mut Script, dice: &mut Dice, page: &Page) {
+    script.say(format!("fill cells {} {}", dice.between(256, 300), dice.seed()));
+    for row in 0..=page.rows() {
+        script.say(format!("call row_run {}", row));
+        script.say(format!("call row_cells {}", row));
     }
 }
 

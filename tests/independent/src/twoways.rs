@@ -2,6 +2,7 @@
 
 use crate::board::{Board, Font, Lent};
 use crate::dice::{page, place_cells, Dice, Shape};
+use crate::files::{numbers_of, page_of_numbers};
 use crate::script::filled;
 use crate::{machine, sheet};
 
@@ -36,6 +37,9 @@ fn one_page(dice: &mut Dice, compared: &mut Compared) -> Result<(), String> {
     let lent = Lent { chars: &chars, attrs: &attrs, font };
     page.cursor = sheet::row_start(&page, &chars, dice.between(0, page.rows() - 1));
     let board = Board { resets: dice.pick(&[0, 1, 2, 2, 2, 200]), ..Board::of_page(page) };
+    if page_of_numbers(&numbers_of(&page)) != Some(page) {
+        return Err("numbers there and back".to_string());
+    }
     whole_frame(dice, &board, &lent, compared)?;
     far_states(dice, &board, &lent, compared)
 }
@@ -45,7 +49,7 @@ fn whole_frame(dice: &mut Dice, board: &Board, lent: &Lent, compared: &mut Compa
     let begin = dice.between(0, 300) * page.frame_clocks();
     let mut walked = machine::state_at(board, lent.chars, begin);
     let field = walked.place.field;
-    let mut dots = Vec::new();
+    let (mut dots, mut fetched) = (Vec::new(), Vec::new());
     for n in begin..begin + page.frame_clocks() {
         let visible = walked.place.line < page.visible_lines() && walked.place.clock < page.hact();
         let shown = machine::step(&mut walked, lent);
@@ -60,8 +64,13 @@ fn whole_frame(dice: &mut Dice, board: &Board, lent: &Lent, compared: &mut Compa
         }
         if visible {
             dots.extend(&stepped.dots);
+            fetched.push(stepped.address);
         }
         compared.clocks += 1;
+    }
+    let row_of = |line: u32| sheet::row_cells(page, lent.chars, line / page.lines_per_row());
+    if (0..page.visible_lines()).flat_map(row_of).collect::<Vec<u16>>() != fetched {
+        return Err("cells of the rows".to_string());
     }
     if !board.active() {
         return Ok(());

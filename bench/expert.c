@@ -1,0 +1,381 @@
+/* The whole picture in C as someone draws it who knows the machine: the mark beyond plain C.
+ *
+ * - A cell is fetched once a row and drawn on all the row's lines before the next one: its look stays in registers.
+ * - Shapes are spread to a byte a dot once a picture, levels are worked out once a picture by attribute.
+ * - Sixteen dots are stored at once, or eight with 6 and 7 dots. What a store writes past its cell is written again by the
+ *   cell to the right, so that only a row's last cell needs care.
+ * - No branch goes by what a cell holds. Lines that can be lit, and the cursor, are drawn over.
+ *
+ * Bytes of a number stand in memory lowest first, as on x86-64 and on Arm. */
+#include <string.h>
+
+#include "drawer.h"
+#include "rules.h"
+
+#define MOST_LINES 16u
+#define MOST_CELLS 256u
+#define NO_CHARACTER CHARACTERS /* the glyph of a code that shows none */
+#define LOOKS 32u               /* reverse, blank, blink, underline and highlight are the low five bits */
+#define EVERY_BYTE 0x0101010101010101u
+
+/* Two numbers of eight dots, a byte each. */
+typedef uint64_t pair __attribute__((vector_size(16)));
+
+/* A cell's levels: the surround's in every byte, and what makes the symbol's of it. */
+struct look {
+    uint64_t surround, change;
+};
+
+struct plan {
+    const uint8_t *chars, *attrs;
+    unsigned hact, lines, rows, dots, width; /* width is of a line, in dots */
+    unsigned first, last, start1, start2, table;
+    unsigned cursor, cursor_from, cursor_to; /* the cursor's address; its lines are from .. to - 1, or none */
+    unsigned lit[2], lit_count;              /* the lines that an attribute can light */
+    uint8_t lights[MOST_LINES];              /* by which attributes */
+    struct look looks[LOOKS];
+    union {
+        uint64_t narrow[(CHARACTERS + 1) * MOST_LINES];
+        pair wide[(CHARACTERS + 1) * MOST_LINES];
+    } shapes; /* a glyph's lines after one another, FF hex for a dot of the symbol */
+};
+
+struct row {
+    unsigned cursors;            /* how many cells the cursor is at, */
+    uint8_t at[MOST_CELLS];      /* and their columns */
+    uint8_t codes[MOST_CELLS];
+    uint8_t attrs[MOST_CELLS];
+};
+
+/* ---- once a picture ---- */
+
+/* Eight bits as eight bytes, 0 or FF hex, the lowest first. */
+#define BYTE(bits, k) ((uint64_t)((bits) >> (k) & 1) * 255 << 8 * (k))
+#define HALF(bits, k) (BYTE(bits, k) | BYTE(bits, k + 1) | BYTE(bits, k + 2) | BYTE(bits, k + 3))
+#define SPREAD(bits) (HALF(bits, 0) | HALF(bits, 4))
+#define SPREAD4(bits) SPREAD(bits), SPREAD((bits) + 1), SPREAD((bits) + 2), SPREAD((bits) + 3)
+#define SPREAD16(bits) SPREAD4(bits), SPREAD4((bits) + 4), SPREAD4((bits) + 8), SPREAD4((bits) + 12)
+#define SPREAD64(bits) SPREAD16(bits), SPREAD16((bits) + 16), SPREAD16((bits) + 32), SPREAD16((bits) + 48)
+
+static const uint64_t spreads[256] = { SPREAD64(0), SPREAD64(64), SPREAD64(128), SPREAD64(192) };
+
+static inline uint64_t spread(unsigned bits)
+{
+    return spreads[bits & 255];
+}
+
+static void make_looks(struct plan *p, unsigned bkgnd, unsigned blink)
+{
+    unsigned hides = BLANK | (blink ? BLINK : 0);
+
+    for (unsigned mark = 0; mark < LOOKS; mark++) {
+        unsigned tone = mark & HIGHLIGHT ? WHITE : GRAY;
+        unsigned swapped = bkgnd ^ (mark & REVERSE);
+        unsigned symbol = swapped ? BLACK : tone;
+        unsigned surround = swapped ? tone : BLACK;
+
+        if (mark & hides)
+            symbol = surround;
+        p->looks[mark].surround = surround * EVERY_BYTE;
+        p->looks[mark].change = (surround ^ symbol) * EVERY_BYTE;
+    }
+}
+
+static void make_lights(struct plan *p, unsigned underline, unsigned strike)
+{
+    memset(p->lights, 0, sizeof p->lights);
+    p->lights[underline] |= UNDERLINE;
+    p->lights[strike] |= STRIKE;
+    p->lit_count = 0;
+    for (unsigned line = 0; line < p->lines; line++)
+        if (p->lights[line])
+            p->lit[p->lit_count++] = line;
+}
+
+static void make_shapes(
+    struct plan *p, const uint16_t *words, const uint8_t *flags, const uint8_t *unshifted, const uint8_t *shifted)
+{
+    unsigned lines = p->lines, dots = p->dots, filler = dots > 10;
+    uint8_t places[2][MOST_LINES];
+    uint16_t glyph[LIST + 1] = { 0 }; /* its words, and zero at the place of none */
+
+    for (unsigned line = 0; line < lines; line++) {
+        places[0][line] = position(unshifted, line);
+        places[1][line] = position(shifted, line);
+    }
+    for (unsigned g = 0; g <= NO_CHARACTER; g++) {
+        const uint8_t *place = places[g < NO_CHARACTER && flags[g]];
+
+        if (g < NO_CHARACTER)
+            memcpy(glyph, words + g * LIST, LIST * sizeof *words);
+        else
+            memset(glyph, 0, sizeof glyph);
+        for (unsigned line = 0; line < lines; line++) {
+            unsigned bits = (glyph[place[line]] & 1023u) << filler;
+
+            if (dots > 8)
+                p->shapes.wide[g * lines + line] = (pair){ spread(bits), spread(bits >> 8) };
+            else
+                p->shapes.narrow[g * lines + line] = spread(bits);
+        }
+    }
+}
+
+/* ---- once a row ---- */
+
+/* Copies the row's cells, stretch by stretch, and gives the address after them. */
+static unsigned fetch_row(const struct plan *p, unsigned at, struct row *row)
+{
+    unsigned column = 0;
+
+    row->cursors = 0;
+    while (column < p->hact) {
+        unsigned end = at <= p->last ? p->last + 1 : MEMORY;
+        unsigned count = end - at < p->hact - column ? end - at : p->hact - column;
+
+        memcpy(row->codes + column, p->chars + at, count);
+        memcpy(row->attrs + column, p->attrs + at, count);
+        if (p->cursor - at < count)
+            row->at[row->cursors++] = column + (p->cursor - at);
+        column += count;
+        at += count;
+        if (at == p->last + 1)
+            at = p->first;
+        else if (at == MEMORY)
+            at = 0;
+    }
+    return at;
+}
+
+static inline unsigned glyph_of(unsigned code)
+{
+    unsigned character = code ^ 128;
+
+    return character < NO_CHARACTER ? character : NO_CHARACTER;
+}
+
+/* The attribute byte, 0 without AFLG. */
+static inline unsigned mark_of(unsigned attr)
+{
+    return attr & (0u - (attr >> 7));
+}
+
+static inline uint64_t all_if(unsigned bits)
+{
+    return 0 - (uint64_t)(bits != 0);
+}
+
+/* A cell on the lines from .. to - 1, and not a byte beside it. */
+static void draw_cell(const struct plan *p, uint8_t *out, unsigned glyph, unsigned mark, unsigned from, unsigned to)
+{
+    struct look look = p->looks[mark % LOOKS];
+    unsigned dots = p->dots;
+
+    for (unsigned line = from; line < to; line++) {
+        uint8_t *at = out + line * p->width;
+        uint64_t lit = all_if(mark & p->lights[line]);
+
+        if (dots > 8) {
+            pair shape = p->shapes.wide[glyph * p->lines + line];
+            uint64_t low = look.surround ^ ((shape[0] | lit) & look.change);
+            uint64_t high = look.surround ^ ((shape[1] | lit) & look.change);
+            uint64_t end = low >> 8 * (dots - 8) | high << 8 * (16 - dots); /* its last eight dots */
+
+            memcpy(at, &low, 8);
+            memcpy(at + dots - 8, &end, 8);
+        } else {
+            uint64_t value = look.surround ^ ((p->shapes.narrow[glyph * p->lines + line] | lit) & look.change);
+            uint32_t begin = value, end = value >> 8 * (dots - 4);
+
+            memcpy(at, &begin, 4);
+            memcpy(at + dots - 4, &end, 4);
+        }
+    }
+}
+
+/* Two cells of up to eight dots, the left one first. */
+static inline void put_pair(uint8_t *at, unsigned dots, pair value)
+{
+    if (dots == 8) {
+        memcpy(at, &value, 16);
+    } else {
+        memcpy(at, &value, 8);
+        memcpy(at + dots, (const uint8_t *)&value + 8, 8);
+    }
+}
+
+/* The row's cells but the last one or two, two by two. Gives how many. */
+static inline __attribute__((always_inline)) unsigned narrow_cells(
+    const struct plan *p, const struct row *row, uint8_t *out, unsigned dots)
+{
+    unsigned lines = p->lines, width = p->width, column = 0;
+
+    for (; column + 2 < p->hact; column += 2) {
+        unsigned mark_a = mark_of(row->attrs[column]), mark_b = mark_of(row->attrs[column + 1]);
+        struct look a = p->looks[mark_a % LOOKS], b = p->looks[mark_b % LOOKS];
+        const uint64_t *shape_a = p->shapes.narrow + glyph_of(row->codes[column]) * lines;
+        const uint64_t *shape_b = p->shapes.narrow + glyph_of(row->codes[column + 1]) * lines;
+        pair surround = { a.surround, b.surround }, change = { a.change, b.change };
+        uint8_t *at = out + column * dots;
+
+        for (unsigned line = 0; line < lines; line++) {
+            pair shape = { shape_a[line], shape_b[line] };
+
+            put_pair(at, dots, surround ^ (shape & change));
+            at += width;
+        }
+        for (unsigned i = 0; i < p->lit_count; i++) {
+            unsigned line = p->lit[i], lights = p->lights[line];
+            pair lit = { shape_a[line] | all_if(mark_a & lights), shape_b[line] | all_if(mark_b & lights) };
+
+            put_pair(out + column * dots + line * width, dots, surround ^ (lit & change));
+        }
+    }
+    return column;
+}
+
+/* The row's cells but the last. Gives how many. */
+static unsigned wide_cells(const struct plan *p, const struct row *row, uint8_t *out)
+{
+    unsigned lines = p->lines, width = p->width, dots = p->dots, column = 0;
+
+    for (; column + 1 < p->hact; column++) {
+        unsigned mark = mark_of(row->attrs[column]);
+        struct look look = p->looks[mark % LOOKS];
+        const pair *shape = p->shapes.wide + glyph_of(row->codes[column]) * lines;
+        pair surround = { look.surround, look.surround }, change = { look.change, look.change };
+        uint8_t *at = out + column * dots;
+
+        for (unsigned line = 0; line < lines; line++) {
+            pair value = surround ^ (shape[line] & change);
+
+            memcpy(at, &value, 16);
+            at += width;
+        }
+        for (unsigned i = 0; i < p->lit_count; i++) {
+            unsigned line = p->lit[i];
+            uint64_t lit = all_if(mark & p->lights[line]);
+            pair value = surround ^ ((shape[line] | (pair){ lit, lit }) & change);
+
+            memcpy(out + column * dots + line * width, &value, 16);
+        }
+    }
+    return column;
+}
+
+static void draw_row(const struct plan *p, const struct row *row, uint8_t *out)
+{
+    unsigned column = p->dots == 6 ? narrow_cells(p, row, out, 6)
+        : p->dots == 7 ? narrow_cells(p, row, out, 7)
+        : p->dots == 8 ? narrow_cells(p, row, out, 8)
+        : wide_cells(p, row, out);
+
+    for (; column < p->hact; column++)
+        draw_cell(p, out + column * p->dots, glyph_of(row->codes[column]), mark_of(row->attrs[column]), 0, p->lines);
+    for (unsigned i = 0; i < row->cursors; i++) {
+        unsigned c = row->at[i];
+
+        draw_cell(p, out + c * p->dots, glyph_of(row->codes[c]), mark_of(row->attrs[c]) ^ REVERSE,
+            p->cursor_from, p->cursor_to);
+    }
+}
+
+static void draw_rows(const struct plan *p, uint8_t *out)
+{
+    unsigned at = p->start1;
+
+    for (unsigned r = 0; r < p->rows; r++) {
+        unsigned entry = p->start2 + 2 * r;
+        struct row row;
+
+        if (p->table)
+            at = p->chars[entry % MEMORY] + (p->chars[(entry + 1) % MEMORY] & 63u) * 256;
+        at = fetch_row(p, at, &row);
+        draw_row(p, &row, out + (size_t)r * p->lines * p->width);
+    }
+}
+
+/* ---- the call ---- */
+
+/* What a page's numbers are refused for: 12, 4, 5, 6. */
+static uint32_t page_refused(const uint8_t *numbers)
+{
+    const uint8_t *ir = numbers + 1;
+    unsigned hsync = 2u * (ir[2] >> 3 & 15) + 2;
+    unsigned ht = 2u * ((ir[1] & 127) + 1 + 2 * hsync);
+
+    if (big_endian(numbers + 16) >= MEMORY || big_endian(numbers + 18) >= MEMORY || big_endian(numbers + 20) >= MEMORY
+        || numbers[22] > 15 || numbers[24] > 15)
+        return 12;
+    if ((ir[0] | ir[1]) & 128)
+        return 4;
+    if ((ir[2] & 7) == 0 || ht < ir[5] + 1u + hsync + (4u * (ir[2] & 7) - 1) + 2)
+        return 5;
+    return numbers[23] < 6 || numbers[23] > 12 ? 6 : 0;
+}
+
+static void plan_page(struct plan *p, const uint8_t *numbers, uint8_t field)
+{
+    const uint8_t *ir = numbers + 1;
+    unsigned cursor_period = ir[7] & 16 ? 64 : 32;
+    unsigned last_line = ir[6] & 15;
+    int gate = numbers[22] & CURSOR && (!(ir[7] & 32) || field % cursor_period < cursor_period / 2);
+
+    p->hact = ir[5] + 1u;
+    p->lines = (ir[0] >> 3 & 15) + 1u;
+    p->rows = (ir[4] & 127) + 1u;
+    p->dots = numbers[23];
+    p->width = p->hact * p->dots;
+    p->first = (ir[9] & 15u) * 256 + ir[8];
+    p->last = ((ir[9] >> 4) + 1u) * 1024 - 1;
+    p->start1 = big_endian(numbers + 16);
+    p->cursor = big_endian(numbers + 18);
+    p->start2 = big_endian(numbers + 20);
+    p->table = ir[2] & 128;
+    p->cursor_from = ir[6] >> 4;
+    p->cursor_to = !gate ? 0 : last_line < p->lines ? last_line + 1 : p->lines;
+}
+
+static uint32_t sizes_refused(const uint8_t *numbers, const size_t counts[7])
+{
+    static const size_t right[] = { 32, MEMORY, MEMORY, CHARACTERS * LIST, CHARACTERS, LIST, LIST };
+
+    return memcmp(counts, right, sizeof right) != 0 || numbers[0] != 1 ? 3 : 0;
+}
+
+feldrime_answer expert_picture_draw(
+    const uint8_t *numbers, size_t numbers_count,
+    const uint8_t *chars, size_t chars_count,
+    const uint8_t *attrs, size_t attrs_count,
+    const uint16_t *words, size_t words_count,
+    const uint8_t *flags, size_t flags_count,
+    const uint8_t *unshifted, size_t unshifted_count,
+    const uint8_t *shifted, size_t shifted_count,
+    uint8_t field,
+    uint8_t *out, size_t out_count)
+{
+    struct plan p; /* not cleared: its tables are large */
+    uint32_t refusal = sizes_refused(numbers, (const size_t[]){
+        numbers_count, chars_count, attrs_count, words_count, flags_count, unshifted_count, shifted_count });
+
+    if (refusal == 0)
+        refusal = page_refused(numbers);
+    if (refusal != 0)
+        return (feldrime_answer){ refusal, 0 };
+    p.chars = chars;
+    p.attrs = attrs;
+    plan_page(&p, numbers, field);
+    size_t size = (size_t)p.rows * p.lines * p.width;
+    unsigned switches = numbers[22], period = numbers[5] & 128 ? 128 : 64;
+    if (out_count < size)
+        return (feldrime_answer){ 8, 0 };
+    if (switches & DISPLAY) {
+        make_looks(&p, (switches & BKGND) != 0, field % period >= period / 4 * 3);
+        make_lights(&p, numbers[8] & 15, numbers[24]);
+        make_shapes(&p, words, flags, unshifted, shifted);
+        draw_rows(&p, out);
+    } else {
+        memset(out, switches & BKGND && !(switches & RBLANK) ? GRAY : BLACK, size);
+    }
+    return (feldrime_answer){ 0, 0 };
+}

@@ -1,0 +1,68 @@
+/* The pages that are drawn and stepped, and how they are handed to the drawers. */
+#ifndef PAGES_H
+#define PAGES_H
+
+#include "drawer.h"
+#include "stepper.h"
+
+#define COUNT(a) (sizeof(a) / sizeof(a)[0])
+
+struct font {
+    uint16_t words[FELDRIME_WORDS];
+    uint8_t flags[FELDRIME_FLAGS], unshifted[FELDRIME_LIST], shifted[FELDRIME_LIST];
+};
+
+struct page {
+    const struct font *font;
+    uint8_t numbers[FELDRIME_NUMBERS], chars[FELDRIME_MEMORY], attrs[FELDRIME_MEMORY];
+    uint32_t lines, width; /* of its picture, in lines and dots */
+};
+
+/* Pages that are measured together, so many times. */
+struct set {
+    const char *name;
+    struct page pages[8];
+    size_t count;
+    unsigned times;
+};
+
+#define MEMORIES(page) (page)->chars, FELDRIME_MEMORY, (page)->attrs, FELDRIME_MEMORY
+#define FONT(page) \
+    (page)->font->words, FELDRIME_WORDS, (page)->font->flags, FELDRIME_FLAGS, \
+    (page)->font->unshifted, FELDRIME_LIST, (page)->font->shifted, FELDRIME_LIST
+
+/* Two sheets of random text, row table off and on. */
+void make_sheets(struct set *set, const char *name, uint8_t rows, uint8_t columns, uint8_t dots, uint8_t switches);
+
+/* The pages in these files, with the font in the first. 0 where one cannot be read. */
+int read_samples(struct set *set, char *const names[], size_t count);
+
+/* Draws all visible lines end to end, and gives the first refusal met. */
+typedef uint32_t painter(const struct page *page, uint8_t field, uint8_t *out);
+
+painter plain_lines, library_lines, library_picture, expert_picture;
+
+static const uint8_t fields[] = { 0, 20, 50, 112, 255 };
+
+/* 0, and a word about it, where two drawers or steps differ on a set's pages. */
+int same_pictures(const struct set *set);
+int same_steps(const struct set *set);
+int states_answer(const struct set *set);
+
+#define FAR 4294967295u
+
+/* An active board at the page's clock 0, in a field. */
+feldrime_board board_at(const struct page *page, uint8_t field);
+uint32_t clocks_of(const struct page *page);
+
+static inline feldrime_step_answer step_once(stepper *step, const struct page *page, feldrime_board *board)
+{
+    return step(board, MEMORIES(page), FONT(page));
+}
+
+static inline feldrime_board_answer state_at(const struct page *page, feldrime_board board, uint32_t n)
+{
+    return feldrime_state_at(board, MEMORIES(page), n);
+}
+
+#endif
