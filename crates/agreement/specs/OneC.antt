@@ -16,10 +16,12 @@ use Rattle.place.specs.State.{stateOf}
 use Rattle.files.specs.File.{readCheck, charsRead, attrsRead}
 use Rattle.files.specs.FontFile.{fontCheck, fontRead}
 use Rattle.feldrime.specs.declared.Answer.{Answer}
+use Rattle.feldrime.specs.declared.CellsAnswer.{CellsAnswer}
 use Rattle.feldrime.specs.declared.StepAnswer.{StepAnswer}
 use Rattle.feldrime.specs.Answers.{answerOf, boardAnswer, byteAnswer}
 use Rattle.feldrime.specs.Pages.{numbersCheck, sizeFor, pageReadSize, numbersRead, pageWriteCheck, pageWritten, runFor, boardFor}
 use Rattle.feldrime.specs.LineDraw.{lineDrawCheck, lineDrawn}
+use Rattle.feldrime.specs.RowCells.{cellsFor, cellsPutFor}
 use Rattle.feldrime.specs.Step.{stepNumbers}
 
 pub page-check-for-c-one : (numbers : List ℕ) → OneAnswer (λ r. r ≡ answerOf (numbersCheck numbers))
@@ -57,6 +59,11 @@ line-draw-one numbers chars attrs f line field out =
 
 pub row-run-for-c-one : (numbers chars : List ℕ) (row : ℕ) → OneAnswer (λ r. r ≡ runFor numbers chars row)
 row-run-for-c-one numbers chars row = only (runFor numbers chars row)
+
+-- the answer and the buffer
+pub row-cells-for-c-one : (numbers chars : List ℕ) (row : ℕ) (cells : List ℕ)
+    → OneAnswer (λ (r : CellsAnswer × List ℕ). (r .0 ≡ cellsFor numbers chars row (length cells)) × (r .1 ≡ cellsPutFor numbers chars row cells))
+row-cells-for-c-one numbers chars row cells = only-both (cellsFor numbers chars row (length cells)) (cellsPutFor numbers chars row cells)
 
 pub board-of-one : (numbers : List ℕ) → OneAnswer (λ r. r ≡ boardFor numbers)
 board-of-one numbers = only (boardFor numbers)

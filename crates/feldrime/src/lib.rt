@@ -18,6 +18,7 @@ ghost use Rattle.feldrime.specs.Numbers.{numbersRefused, numberAt};
 ghost use Rattle.feldrime.specs.Answers.{answerOf, boardAnswer, byteAnswer};
 ghost use Rattle.feldrime.specs.Pages.{numbersCheck, sizeFor, pageReadSize, numbersRead, pageWriteCheck, pageWritten, runFor, boardFor};
 ghost use Rattle.feldrime.specs.LineDraw.{lineDrawCheck, lineDrawn};
+ghost use Rattle.feldrime.specs.RowCells.{cellsFor, cellsPutFor};
 ghost use Rattle.feldrime.specs.Step.{numbered, stepNumbers};
 
 // The refusal's number, and a number beside it, which no refusal has yet.
@@ -247,6 +248,41 @@ pub extern "C" fn feldrime_row_run(numbers: &[u8], chars: &[u8], row: u32) -> Ru
         beside: 0,
         first: s.start as u32,
         count: s.count as u32,
+    }
+}
+
+// How many cells a row has; their addresses are put into a lent buffer.
+#[repr(C)]
+pub struct CellsAnswer {
+    pub refusal: u32,
+    pub beside: u32,
+    pub count: u32,
+}
+
+// The addresses of all cells that a row fetches, column by column, at the front of cells.
+#[no_mangle]
+pub extern "C" fn feldrime_row_cells(
+    numbers: &[u8],
+    chars: &[u8],
+    row: u32,
+    cells: &mut [u16],
+) -> CellsAnswer
+    ensures { λ r. ⌜ (r ≡ cellsFor (now (numbers .entry)) (now (chars .entry)) row (length (now (cells .entry))))
+        × (now (cells .exit) ≡ cellsPutFor (now (numbers .entry)) (now (chars .entry)) row (now (cells .entry))) ⌝ }
+{
+    if numbers_refused(numbers) {
+        return CellsAnswer {
+            refusal: 3,
+            beside: 0,
+            count: 0,
+        };
+    }
+    let given = fetch::row_cells(files::board_at(numbers, 1), chars, row, cells);
+    let refused = given.refusal;
+    CellsAnswer {
+        refusal: refusal::number(refused),
+        beside: 0,
+        count: given.count as u32,
     }
 }
 
