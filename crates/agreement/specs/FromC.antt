@@ -8,8 +8,9 @@ use mathlib.Core.List.{List, _++_}
 use borrow.Author.Tests.{eq-eqb}
 use lib.Arith.{digits-lt}
 use lib.Dec.{ltb, leb}
-use lib.ListN.{length, take, drop}
+use lib.ListN.{length, getD, take, drop}
 use Rattle.lists.specs.Join.{joined, same-joined}
+use Rattle.lists.specs.Tab.{tab, same-tab}
 use Rattle.refusal.specs.declared.Refusal.{Refusal}
 use Rattle.refusal.specs.declared.Refusal.the-variants.{Done, Size}
 use Rattle.refusal.specs.Number.{numberOf, doneOf}
@@ -20,6 +21,7 @@ use Rattle.timing.specs.Check.{pageCheck, sizeOf}
 use Rattle.timing.specs.Laws.{call-passed}
 use Rattle.fetch.specs.Rows.{entryOf}
 use Rattle.fetch.specs.Run.{spanOf}
+use Rattle.fetch.specs.RowCells.{cellsPut}
 use Rattle.fetch.specs.Laws.{span-number}
 use Rattle.shape.specs.Font.{Font, fontOf}
 use Rattle.line.specs.Line.{lineLength, drawCheck, drawnOf}
@@ -32,14 +34,15 @@ use Rattle.numbers.specs.Laws.{numbers-passed}
 use Rattle.feldrime.specs.declared.StepAnswer.{StepAnswer}
 use Rattle.feldrime.specs.declared.BoardAnswer.{BoardAnswer}
 use Rattle.feldrime.specs.declared.Answer.{Answer}
-use Rattle.feldrime.specs.Answers.{answerOf, sizeAnswer, runAnswer, boardAnswer}
+use Rattle.feldrime.specs.Answers.{answerOf, sizeAnswer, runAnswer, cellsAnswer, boardAnswer}
 use Rattle.feldrime.specs.Pages.{sizeFor, runFor, boardFor}
 use Rattle.feldrime.specs.LineDraw.{lineDrawCheck, lineDrawn}
+use Rattle.feldrime.specs.RowCells.{cellsFor, cellsPutFor}
 use Rattle.feldrime.specs.Step.{numbered, stepNumbers}
 use Rattle.agreement.specs.Steps.{call-ok, call-page, after, step-answers, at-once-anywhere}
 use Rattle.agreement.specs.Files.{zero-ok}
-use Rattle.agreement.specs.Lines.{clockOf, draw-answers, same-line}
-use Rattle.agreement.specs.Rows.{lineOf, follows, Shown, row-from-table, row-from-start, run-answers, run-shown}
+use Rattle.agreement.specs.Lines.{clockOf, DrawnFrom, draw-answers, same-line}
+use Rattle.agreement.specs.Rows.{lineOf, follows, Shown, row-from-table, row-from-start, run-answers, run-shown, CellsShown, cells-shown}
 
 -- a refusal whose number is 0 is none
 pub zero-done : (r : Refusal) → numberOf r ≡ 0 → r ≡ Done
@@ -178,15 +181,21 @@ module _ (numbers chars attrs words flags unshifted shifted : List ℕ) where
 
     -- ---- the cells of a row
 
-    -- line l of row r, where the row's cells follow from an address: the addresses that feldrime_step answers in every frame, and in every field the cells whose
-    -- dots feldrime_line_draw puts end to end
+    -- what feldrime_line_draw puts of a line, in every field and into any buffer that has room, is the dots of the cells at these addresses, end to end
+    abbrev pub DrawnFromC : (line : ℕ) → (address : ℕ → ℕ) → Type 0
+    DrawnFromC line address = (field : ℕ) (out : List ℕ) → sizeFor numbers .dots ≤ length out
+        → drawnC line field out
+        ≡ joined 0 (hactOf (b .page .irs)) (λ c. dotsAt b chars attrs f (scanOf (line % linesOf (b .page .irs))) field (address c)) ++ drop (sizeFor numbers .dots) out
+
+    drawn-from-c : (line : ℕ) (address : ℕ → ℕ) → DrawnFrom b chars attrs f line address → DrawnFromC line address
+    drawn-from-c line address d field out room = drawn-is line field out ∙ rw size-from-c (d field out (room-in (length out) room))
+
+    -- line l of row r, where the row's cells follow from an address: the addresses that feldrime_step answers in every frame, and the cells whose dots
+    -- feldrime_line_draw puts
     pub record ShownC (r l start : ℕ) : Type 0 where
       pub stepped : (k c : ℕ) → c < hactOf (b .page .irs) → stepC (clockOf b k (lineOf b r l) c) .address ≡ follows b start c
       pub draw-done : (room : ℕ) → sizeFor numbers .dots ≤ room → drawC (lineOf b r l) room ≡ answerOf Done
-      pub drawn : (field : ℕ) (out : List ℕ) → sizeFor numbers .dots ≤ length out
-          → drawnC (lineOf b r l) field out
-          ≡ joined 0 (hactOf (b .page .irs)) (λ c. dotsAt b chars attrs f (scanOf (lineOf b r l % linesOf (b .page .irs))) field (follows b start c))
-          ++ drop (sizeFor numbers .dots) out
+      pub drawn : DrawnFromC (lineOf b r l) (follows b start)
 
     module _ (r l : ℕ) (hr : r < rowsOf (b .page .irs)) (hl : l < linesOf (b .page .irs)) where
       shown-from-c : (start : ℕ) → Shown b chars attrs f step-ok r l hr hl start → ShownC r l start
@@ -194,7 +203,7 @@ module _ (numbers chars attrs words flags unshifted shifted : List ℕ) where
       shown-from-c start s = record {
         stepped = λ k c h. rw (steps-from-c (clockOf b k (lineOf b r l) c)) (s .stepped k c h);
         draw-done = draw-answers-from-c (lineOf b r l) (rw size-from-c (digits-lt hr hl));
-        drawn = λ field out room. drawn-is (lineOf b r l) field out ∙ rw size-from-c (s .drawn field out (room-in (length out) room));
+        drawn = drawn-from-c (lineOf b r l) (follows b start) (s .drawn);
       }
 
       -- with the row table on they follow from the row's own entry, whatever the rest of memory holds
@@ -217,3 +226,30 @@ module _ (numbers chars attrs words flags unshifted shifted : List ℕ) where
           × ((k c : ℕ) → c < runFor numbers chars r .count → stepC (clockOf b k (lineOf b r l) c) .address ≡ runFor numbers chars r .first + c)
       unfolding numbered
       run-from-c = rw run-is (refl, λ k c h. rw (steps-from-c (clockOf b k (lineOf b r l) c)) (run-shown b chars attrs f step-ok r l hr hl k c h))
+
+      -- a buffer with room for any row: what feldrime_row_cells leaves there are, column by column, the addresses that feldrime_step answers on the line's active
+      -- clocks in every frame, and elements beyond stay; at these addresses are the cells whose dots feldrime_line_draw puts; the first of them are the run that
+      -- feldrime_row_run answers
+      pub record CellsShownC (cells : List ℕ) : Type 0 where
+        pub answered : cellsFor numbers chars r (length cells) ≡ cellsAnswer Done (hactOf (b .page .irs))
+        pub stepped : (k : ℕ) → cellsPutFor numbers chars r cells
+            ≡ tab (hactOf (b .page .irs)) (λ c. stepC (clockOf b k (lineOf b r l) c) .address) ++ drop (hactOf (b .page .irs)) cells
+        pub drawn : DrawnFromC (lineOf b r l) (λ c. getD (cellsPutFor numbers chars r cells) c 0)
+        pub begun : (c : ℕ) → c < runFor numbers chars r .count → getD (cellsPutFor numbers chars r cells) c 0 ≡ runFor numbers chars r .first + c
+
+      cells-are : (cells : List ℕ) → cellsPutFor numbers chars r cells ≡ cellsPut b chars r cells
+      unfolding cellsPutFor
+      cells-are cells = rw (numbers-passed numbers check-ok)
+
+      pub cells-from-c : (cells : List ℕ) → 256 ≤ length cells → CellsShownC cells
+      unfolding cellsFor numbered
+      cells-from-c cells room =
+          let s = cells-shown b chars attrs f step-ok r l hr hl cells room in
+          record {
+            answered = rw (numbers-passed numbers check-ok, s .answered);
+            stepped = λ k. cells-are cells ∙ s .stepped k
+                ∙ ap (λ (x : List ℕ). x ++ drop (hactOf (b .page .irs)) cells)
+                (same-tab (hactOf (b .page .irs)) _ _ (λ c h. ap (λ (x : Board). stepOf x chars attrs f .address) (sym (steps-from-c (clockOf b k (lineOf b r l) c)))));
+            drawn = rw (cells-are cells) (drawn-from-c (lineOf b r l) _ (s .drawn));
+            begun = rw (cells-are cells, run-is) (s .begun);
+          }

@@ -18,10 +18,12 @@ use Rattle.files.specs.FontFile.{fontCheck, fontRead}
 use Rattle.numbers.specs.Numbers.{numbersCheck}
 use Rattle.numbers.specs.Files.{pageReadSize, numbersRead, pageWriteCheck, pageWritten}
 use Rattle.feldrime.specs.declared.Answer.{Answer}
+use Rattle.feldrime.specs.declared.CellsAnswer.{CellsAnswer}
 use Rattle.feldrime.specs.declared.StepAnswer.{StepAnswer}
 use Rattle.feldrime.specs.Answers.{answerOf, boardAnswer, byteAnswer}
 use Rattle.feldrime.specs.Pages.{sizeFor, runFor, boardFor}
 use Rattle.feldrime.specs.LineDraw.{lineDrawCheck, lineDrawn}
+use Rattle.feldrime.specs.RowCells.{cellsFor, cellsPutFor}
 use Rattle.feldrime.specs.Step.{stepNumbers}
 
 pub page-check-for-c-one : (numbers : List ℕ) → OneAnswer (λ r. r ≡ answerOf (numbersCheck numbers))
@@ -59,6 +61,11 @@ line-draw-one numbers chars attrs f line field out =
 
 pub row-run-for-c-one : (numbers chars : List ℕ) (row : ℕ) → OneAnswer (λ r. r ≡ runFor numbers chars row)
 row-run-for-c-one numbers chars row = only (runFor numbers chars row)
+
+-- the answer and the buffer
+pub row-cells-for-c-one : (numbers chars : List ℕ) (row : ℕ) (cells : List ℕ)
+    → OneAnswer (λ (r : CellsAnswer × List ℕ). (r .0 ≡ cellsFor numbers chars row (length cells)) × (r .1 ≡ cellsPutFor numbers chars row cells))
+row-cells-for-c-one numbers chars row cells = only-both (cellsFor numbers chars row (length cells)) (cellsPutFor numbers chars row cells)
 
 pub board-of-one : (numbers : List ℕ) → OneAnswer (λ r. r ≡ boardFor numbers)
 board-of-one numbers = only (boardFor numbers)

@@ -14,7 +14,9 @@ use Rattle.raster.specs.Moves.{cell}
 use Rattle.board.specs.declared.Page.{Page}
 use Rattle.board.specs.declared.Place.{Place}
 use Rattle.board.specs.declared.Board.{Board}
+use Rattle.fetch.specs.declared.RowCells.{RowCells}
 use Rattle.fetch.specs.Run.{runCheck, spanOf, runOf}
+use Rattle.fetch.specs.RowCells.{cellsGiven, cellsPut}
 use Rattle.fetch.specs.Laws.{span-fits}
 use Rattle.fetch.specs.Rows.{entryOf, rowStart, cellAt}
 use Rattle.shape.specs.Font.{Font, fontRefused, positionOf, wordBy, wordOf}
@@ -48,6 +50,11 @@ run-length b chars row = length-take-le _ _ (rw length-drop (omega (arith, span-
 
 pub span-of-one : (b : Board) (chars : List ℕ) (row : ℕ) → OneAnswer (λ r. r ≡ spanOf b chars row)
 span-of-one b chars row = only (spanOf b chars row)
+
+-- the refusal and the count, and the buffer
+pub row-cells-one : (b : Board) (chars : List ℕ) (row : ℕ) (cells : List ℕ)
+    → OneAnswer (λ (r : RowCells × List ℕ). (r .0 ≡ cellsGiven b (length chars) row (length cells)) × (r .1 ≡ cellsPut b chars row cells))
+row-cells-one b chars row cells = only-both (cellsGiven b (length chars) row (length cells)) (cellsPut b chars row cells)
 
 pub entry-one : (p : Page) (chars : List ℕ) (row : ℕ) → OneAnswer (λ r. r ≡ cell (entryOf p chars row))
 entry-one p chars row = only (cell (entryOf p chars row))

@@ -1,22 +1,25 @@
 -- The sentence for which the project exists. With the row table on, on every line of row r the addresses that `step` puts out, and the cells whose dots
 -- `draw_line` writes, are those that follow from the row's own table entry, whatever the rest of memory holds; with it off, those that follow from screen
--- start 1. The run that `row_run` gives is the first of them. Assumes nothing.
-use Prim.Native.Nat.{ℕ, min, _+_, _*_, _/_, _<_}
-use mathlib.Core.Path.{_≡_, refl, sym, _∙_}
+-- start 1. They are the cells that `row_cells` gives, and the run that `row_run` gives is the first of them. Assumes nothing.
+use Prim.Native.Nat.{ℕ, min, _+_, _*_, _/_, _≤_, _<_}
+use mathlib.Core.Path.{_≡_, sym, ap, _∙_}
 use mathlib.Core.Bool.{true, false}
-use mathlib.Core.List.{List}
+use mathlib.Core.List.{List, _++_}
 use native.Mathlib.Omega.{arith}
 use borrow.Author.Tests.{lt-leb, eq-eqb}
 use lib.Arith.{digits-div, digits-lt}
-use lib.ListN.{length}
+use lib.ListN.{length, getD, drop}
+use Rattle.lists.specs.Tab.{tab, same-tab}
 use Rattle.refusal.specs.declared.Refusal.the-variants.{Done}
-use Rattle.raster.specs.Moves.{advanceBy, by-near}
+use Rattle.raster.specs.Moves.{advanceBy}
 use Rattle.board.specs.declared.Board.{Board}
 use Rattle.board.specs.Range.{memoryRefused}
 use Rattle.timing.specs.Fields.{hactOf, linesOf, rowsOf, visibleOf, tableOf, bufferOf}
 use Rattle.fetch.specs.Rows.{entryOf, rowStart, cellAt}
-use Rattle.fetch.specs.Run.{runCheck, runCount, spanOf}
+use Rattle.fetch.specs.Run.{runCheck, spanOf}
+use Rattle.fetch.specs.RowCells.{cellsOf, cellsCheck, rowOf, cellsGiven, cellsPut}
 use Rattle.fetch.specs.Laws.{cell-moved, start-table, start-sheet}
+use Rattle.fetch.specs.RowLaws.{cells-as-run, cells-at, run-at}
 use Rattle.shape.specs.Font.{Font}
 use Rattle.step.specs.Step.{stepCheck}
 use Rattle.agreement.specs.Steps.{range-ok, call-ok, fits, page-ok}
@@ -42,6 +45,10 @@ module _ (b : Board) (chars attrs : List ℕ) (f : Font) (ok : stepCheck b chars
   from-start : (c : ℕ) → c < hactOf (b .page .irs) → cellAt (b .page) chars r c ≡ follows b (rowStart (b .page) chars r) c
   from-start c h = let m : min c (hactOf (b .page .irs)) ≡ c = omega arith in sym (rw m at (cell-moved (b .page) chars r c))
 
+  -- what `step` puts out on line l of row r
+  fetched : (k c : ℕ) → c < hactOf (b .page .irs) → addressAt b chars attrs f k (lineOf b r l) c ≡ cellAt (b .page) chars r c
+  fetched k c h = address-is b chars attrs f ok k (lineOf b r l) c line-visible h ∙ rw row-is
+
   -- what `step` puts out and what `draw_line` writes on line l of row r, where the row's cells follow from an address
   pub record Shown (start : ℕ) : Type 0 where
     pub stepped : (k c : ℕ) → c < hactOf (b .page .irs) → addressAt b chars attrs f k (lineOf b r l) c ≡ follows b start c
@@ -49,7 +56,7 @@ module _ (b : Board) (chars attrs : List ℕ) (f : Font) (ok : stepCheck b chars
 
   shown : (start : ℕ) → start ≡ rowStart (b .page) chars r → Shown start
   shown start begins = record {
-    stepped = λ k c h. address-is b chars attrs f ok k (lineOf b r l) c line-visible h ∙ rw (row-is, begins) (from-start c h);
+    stepped = λ k c h. fetched k c h ∙ rw begins (from-start c h);
     drawn = drawn-from b chars attrs f ok (lineOf b r l) line-visible (follows b start) (λ c h. rw (row-is, begins) (sym (from-start c h)));
   }
 
@@ -70,13 +77,39 @@ module _ (b : Board) (chars attrs : List ℕ) (f : Font) (ok : stepCheck b chars
       (call-ok b (memoryRefused (length chars)) (rw (eq-eqb _ _ (fits b chars attrs f ok .chars-all))) (page-ok b chars attrs f ok)
       (range-ok b (fits b chars attrs f ok .state)))
 
-  in-run : (start c : ℕ) → c < runCount (b .page) start → (c < hactOf (b .page .irs)) × (follows b start c ≡ start + c)
-  unfolding runCount
-  in-run start c h = (omega arith, by-near (bufferOf (b .page .irs)) c start (omega arith) ∙ omega arith)
-
   -- the run that `row_run` gives is what the row's first columns fetch, on every line of the row, cell after cell
   pub run-shown : (k c : ℕ) → c < spanOf b chars r .count → addressAt b chars attrs f k (lineOf b r l) c ≡ spanOf b chars r .start + c
-  unfolding spanOf
-  run-shown k c h =
-      let near = in-run (rowStart (b .page) chars r) c (rw run-answers at h) in
-      rw run-answers (shown (rowStart (b .page) chars r) refl .stepped k c (near .0) ∙ near .1)
+  run-shown k c h = let s = run-at b chars r c h in fetched k c (s .0) ∙ s .1
+
+  -- ---- the row's cells
+
+  -- a buffer with room for any row: `row_cells` leaves there, column by column, the addresses that `step` puts out on the line's active clocks in every frame, and
+  -- elements beyond stay; at these addresses are the cells whose dots `draw_line` writes; the first of them are the run that `row_run` gives
+  pub record CellsShown (cells : List ℕ) : Type 0 where
+    pub answered : cellsGiven b (length chars) r (length cells) ≡ rowOf Done (hactOf (b .page .irs))
+    pub stepped : (k : ℕ) → cellsPut b chars r cells ≡ tab (hactOf (b .page .irs)) (addressAt b chars attrs f k (lineOf b r l)) ++ drop (hactOf (b .page .irs)) cells
+    pub drawn : DrawnFrom b chars attrs f (lineOf b r l) (λ c. getD (cellsPut b chars r cells) c 0)
+    pub begun : (c : ℕ) → c < spanOf b chars r .count → getD (cellsPut b chars r cells) c 0 ≡ spanOf b chars r .start + c
+
+  module _ (cells : List ℕ) (room : 256 ≤ length cells) where
+    cells-answer : cellsCheck b (length chars) r (length cells) ≡ Done
+    cells-answer = cells-as-run b (length chars) r (length cells) room ∙ run-answers
+
+    given : cellsGiven b (length chars) r (length cells) ≡ rowOf Done (hactOf (b .page .irs))
+    unfolding cellsGiven
+    given = rw cells-answer
+
+    put : cellsPut b chars r cells ≡ tab (hactOf (b .page .irs)) (cellAt (b .page) chars r) ++ drop (hactOf (b .page .irs)) cells
+    unfolding cellsPut cellsOf
+    put = rw cells-answer
+
+    at-column : (c : ℕ) → c < hactOf (b .page .irs) → getD (cellsPut b chars r cells) c 0 ≡ cellAt (b .page) chars r c
+    at-column c h = cells-at b chars r cells c (rw given h)
+
+    pub cells-shown : CellsShown cells
+    cells-shown = record {
+      answered = given;
+      stepped = λ k. put ∙ ap (λ (l : List ℕ). l ++ drop (hactOf (b .page .irs)) cells) (same-tab (hactOf (b .page .irs)) _ _ (λ c h. sym (fetched k c h)));
+      drawn = drawn-from b chars attrs f ok (lineOf b r l) line-visible _ (λ c h. rw row-is (at-column c h));
+      begun = λ c h. let s = run-at b chars r c h in at-column c (s .0) ∙ s .1;
+    }

@@ -6,6 +6,7 @@ use Rattle.board.specs.declared.Board.{Board}
 use Rattle.feldrime.specs.declared.Answer.{Answer}
 use Rattle.feldrime.specs.declared.SizeAnswer.{SizeAnswer}
 use Rattle.feldrime.specs.declared.RunAnswer.{RunAnswer}
+use Rattle.feldrime.specs.declared.CellsAnswer.{CellsAnswer}
 use Rattle.feldrime.specs.declared.BoardAnswer.{BoardAnswer}
 use Rattle.feldrime.specs.declared.ByteAnswer.{ByteAnswer}
 
@@ -17,6 +18,9 @@ sizeAnswer r l d = record { refusal = numberOf r; beside = 0; lines = l; dots = 
 
 abbrev pub runAnswer : Refusal → (first count : ℕ) → RunAnswer
 runAnswer r f n = record { refusal = numberOf r; beside = 0; first = f; count = n }
+
+abbrev pub cellsAnswer : Refusal → ℕ → CellsAnswer
+cellsAnswer r n = record { refusal = numberOf r; beside = 0; count = n }
 
 abbrev pub boardAnswer : Refusal → Board → BoardAnswer
 boardAnswer r b = record { refusal = numberOf r; beside = 0; board = b }

@@ -2,5 +2,7 @@
 pub mod Answers
 pub mod Pages
 pub mod LineDraw
+pub mod PictureDraw
+pub mod RowCells
 pub mod Laws
 pub mod Step

@@ -18,6 +18,8 @@ ghost use Rattle.numbers.specs.Files.{pageReadSize, numbersRead, pageWriteCheck
 ghost use Rattle.feldrime.specs.Answers.{answerOf, boardAnswer, byteAnswer};
 ghost use Rattle.feldrime.specs.Pages.{sizeFor, runFor, boardFor};
 ghost use Rattle.feldrime.specs.LineDraw.{lineDrawCheck, lineDrawn};
+ghost use Rattle.feldrime.specs.PictureDraw.{pictureDrawCheck, pictureDrawn};
+ghost use Rattle.feldrime.specs.RowCells.{cellsFor, cellsPutFor};
 ghost use Rattle.feldrime.specs.Step.{numbered, stepNumbers};
 
 // The refusal's number, and a number beside it, which no refusal has yet.
@@ -162,6 +164,41 @@ pub extern "C" fn feldrime_line_draw(
     answered(refused)
 }
 
+// Draws all visible lines as they look in a field, end to end at the front of out.
+#[no_mangle]
+pub extern "C" fn feldrime_picture_draw(
+    numbers: &[u8],
+    chars: &[u8],
+    attrs: &[u8],
+    words: &[u16],
+    flags: &[u8],
+    unshifted: &[u8],
+    shifted: &[u8],
+    field: u8,
+    out: &mut [u8],
+) -> Answer
+    ensures { λ r. let f = lentFont words flags unshifted shifted in
+        ⌜ (r ≡ answerOf (pictureDrawCheck (now (numbers .entry)) (now (chars .entry)) (now (attrs .entry)) f (length (now (out .entry)))))
+        × (now (out .exit) ≡ pictureDrawn (now (numbers .entry)) (now (chars .entry)) (now (attrs .entry)) f field (now (out .entry))) ⌝ }
+{
+    if numbers::numbers_refused(numbers) {
+        return answered(refusal::Refusal::Size);
+    }
+    let b = files::board_at(numbers, 1);
+    let refused = picture::draw_picture(
+        b,
+        chars,
+        attrs,
+        words,
+        flags,
+        unshifted,
+        shifted,
+        field,
+        out,
+    );
+    answered(refused)
+}
+
 // A row's first run of cells: from an address on, so many.
 #[repr(C)]
 pub struct RunAnswer {
@@ -190,6 +227,41 @@ pub extern "C" fn feldrime_row_run(numbers: &[u8], chars: &[u8], row: u32) -> Ru
         beside: 0,
         first: s.start as u32,
         count: s.count as u32,
+    }
+}
+
+// How many cells a row has; their addresses are put into a lent buffer.
+#[repr(C)]
+pub struct CellsAnswer {
+    pub refusal: u32,
+    pub beside: u32,
+    pub count: u32,
+}
+
+// The addresses of all cells that a row fetches, column by column, at the front of cells.
+#[no_mangle]
+pub extern "C" fn feldrime_row_cells(
+    numbers: &[u8],
+    chars: &[u8],
+    row: u32,
+    cells: &mut [u16],
+) -> CellsAnswer
+    ensures { λ r. ⌜ (r ≡ cellsFor (now (numbers .entry)) (now (chars .entry)) row (length (now (cells .entry))))
+        × (now (cells .exit) ≡ cellsPutFor (now (numbers .entry)) (now (chars .entry)) row (now (cells .entry))) ⌝ }
+{
+    if numbers::numbers_refused(numbers) {
+        return CellsAnswer {
+            refusal: 3,
+            beside: 0,
+            count: 0,
+        };
+    }
+    let given = fetch::row_cells(files::board_at(numbers, 1), chars, row, cells);
+    let refused = given.refusal;
+    CellsAnswer {
+        refusal: refusal::number(refused),
+        beside: 0,
+        count: given.count as u32,
     }
 }
 

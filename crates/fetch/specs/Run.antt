@@ -1,6 +1,6 @@
 -- 01: the row's first run of cells, from the row start to the row's end, the last buffer address or 16383, whichever is first met.
 use Prim.Native.Nat.{ℕ, min, _+_, _-_}
-use mathlib.Core.Bool.{false}
+use mathlib.Core.Bool.{Bool, false}
 use mathlib.Core.List.{List}
 use lib.Dec.{leb}
 use lib.ListN.{length, take, drop}
@@ -16,9 +16,13 @@ use Rattle.timing.specs.Check.{callCheck}
 use Rattle.fetch.specs.declared.Span.{Span}
 use Rattle.fetch.specs.Rows.{rowStart}
 
--- 3 for a character memory of n cells, 12, 4, 5, 6, 7
+-- a call that asks for a row: 3 where a lent part has a wrong size, 12, 4, 5, 6, 7
+abbrev pub rowCheck : Board → (size : Bool) → (row : ℕ) → Refusal
+rowCheck b size row = callCheck b size (leb (rowsOf (b .page .irs)) row) false
+
+-- 3 for a character memory of n cells
 unfoldable pub runCheck : Board → (n row : ℕ) → Refusal
-runCheck b n row = callCheck b (memoryRefused n) (leb (rowsOf (b .page .irs)) row) false
+runCheck b n row = rowCheck b (memoryRefused n) row
 
 -- HACT cells to the row's end, so many to the last buffer address, so many to 16383
 unfoldable pub runCount : Page → ℕ → ℕ

@@ -1,18 +1,28 @@
-// Which cell is fetched: the row table, a row's start, the cell at a column, and a row's first run.
+// Which cell is fetched: the row table, a row's start, the cell at a column, a row's first run, and all of a row's cells.
 ghost use mathlib.Core.Path.{_≡_};
+ghost use mathlib.Core.List.{_++_};
 ghost use Prim.Native.Nat.{_<_, _≤_, _+_};
 ghost use denote.Ref.{ptr};
-ghost use lib.ListN.{length};
+ghost use lib.ListN.{length, drop};
+ghost use Rattle.lists.specs.Tab.{tab};
 ghost use Rattle.units.specs.Units.{clocks};
-ghost use Rattle.raster.specs.Moves.{cell};
+ghost use Rattle.raster.specs.Moves.{cell, Bounded};
 ghost use Rattle.refusal.specs.Number.{numberOf};
 ghost use Rattle.fetch.specs.Rows.{entryOf, rowStart, cellAt};
-ghost use Rattle.fetch.specs.Run.{runCheck, runCount, spanOf, runOf};
+ghost use Rattle.fetch.specs.Run.{rowCheck, runCheck, runCount, spanOf, runOf};
+ghost use Rattle.fetch.specs.RowCells.{cellsCheck, cellsGiven, cellsPut};
+ghost use Rattle.fetch.specs.RowLaws.{columnBy};
 
 // A row's first run: from a cell on, so many.
 pub struct Span {
     pub refusal: refusal::Refusal,
     pub start: usize,
+    pub count: usize,
+}
+
+// How many cells a row has; their addresses are put into a lent buffer.
+pub struct RowCells {
+    pub refusal: refusal::Refusal,
     pub count: usize,
 }
 
@@ -80,12 +90,19 @@ fn run_count(p: board::Page, start: u16) -> units::Clocks
         .least(units::Clocks(to_last + 1).least(to_top))
 }
 
-fn run_check(b: board::Board, n: usize, row: u32) -> refusal::Refusal
-    ensures { λ r. ⌜ r ≡ runCheck b n row ⌝ }
+// What a call that asks for a row asks beside: whether a lent part has a wrong size.
+fn row_check(b: board::Board, size: bool, row: u32) -> refusal::Refusal
+    ensures { λ r. ⌜ r ≡ rowCheck b size row ⌝ }
 {
     let irs = b.page.irs;
     let t = timing::timing_of(irs);
-    timing::call_check(b, n != 16384, t.counts.rows <= row, false)
+    timing::call_check(b, size, t.counts.rows <= row, false)
+}
+
+fn run_check(b: board::Board, n: usize, row: u32) -> refusal::Refusal
+    ensures { λ r. ⌜ r ≡ runCheck b n row ⌝ }
+{
+    row_check(b, n != 16384, row)
 }
 
 pub fn span_of(b: board::Board, chars: &[u8], row: u32) -> Span
@@ -124,4 +141,48 @@ pub fn row_run<'a>(b: board::Board, chars: &'a [u8], row: u32, refusal: &mut u32
     let from = s.start;
     let to = from + s.count;
     &chars[from..to]
+}
+
+fn cells_check(b: board::Board, n: usize, row: u32, room: usize) -> refusal::Refusal
+    ensures { λ r. ⌜ r ≡ cellsCheck b n row room ⌝ }
+{
+    row_check(b, (n != 16384) | (room < 256), row)
+}
+
+// Puts the addresses of n cells at the front of cells, from a row's start on.
+fn put_cells(cells: &mut [u16], buffer: raster::Buffer, start: raster::Cell, n: usize)
+    requires { ⌜ Bounded buffer × (start .address < 16384) × (n ≤ length (now cells)) ⌝ }
+    ensures { λ _. ⌜ now (cells .exit) ≡ tab n (columnBy buffer (start .address)) ++ drop n (now (cells .entry)) ⌝ }
+{
+    let mut cell = start;
+    let mut c = 0;
+    while c < n {
+        cells[c] = cell.address;
+        cell = raster::advance_one(buffer, cell);
+        c += 1;
+    }
+}
+
+// The addresses of all cells that a row fetches, column by column, at the front of cells.
+pub fn row_cells(b: board::Board, chars: &[u8], row: u32, cells: &mut [u16]) -> RowCells
+    ensures { λ r. ⌜ (r ≡ cellsGiven b (length (now (chars .entry))) row (length (now (cells .entry))))
+        × (now (cells .exit) ≡ cellsPut b (now (chars .entry)) row (now (cells .entry))) ⌝ }
+{
+    let page = b.page;
+    let irs = page.irs;
+    let refused = cells_check(b, chars.len(), row, cells.len());
+    if refusal::is_done(refused) {
+        let t = timing::timing_of(irs);
+        let count = t.counts.hact.0 as usize;
+        let start = row_start(page, chars, row);
+        put_cells(cells, timing::buffer_of(irs), start, count);
+        return RowCells {
+            refusal: refused,
+            count,
+        };
+    }
+    RowCells {
+        refusal: refused,
+        count: 0,
+    }
 }

@@ -24,9 +24,9 @@ use Rattle.fetch.specs.Rows.{rowStart}
 use Rattle.shape.specs.Font.{Font, Whole, fontRefused}
 use Rattle.shape.specs.Laws.{font-whole}
 use Rattle.video.specs.At.{Content, lentRefused, contentAt, scanDots}
-use Rattle.tables.specs.Tables.{markOf, numberFor, cellBy, spreadBy, spreadsAt, levelsAt}
+use Rattle.tables.specs.Tables.{markOf, numberFor, cellBy, spreadBy, spreadsAt, lastSpreads, levelsAt}
 use Rattle.tables.specs.Marks.{mark-lt}
-use Rattle.tables.specs.Laws.{levels-at, spread-at, spread-small, code-of, mark-of, by-spreads}
+use Rattle.tables.specs.Laws.{levels-at, spread-at, spread-small, code-of, mark-of, by-spreads, last-is}
 use Rattle.line.specs.Line.{lineDots, lineLength}
 use Rattle.line.specs.Length.{length-line}
 use Rattle.line.specs.Walk.{Drawn, column-content}
@@ -174,15 +174,15 @@ module _ (p : Plan) (page : Page) (q : p ≡ planOf page) where
       let l : linesOf (page .irs) ≤ 16 = omega arith in
       rw q (mul-le-mul r (mul-le-mul l (dots-bound page a)), visible-bound (page .irs), mul-le-mul r h)
 
-pub made-of : (b : Board) (f : Font) (field : ℕ) (low high looks lows highs rest : List ℕ) (p : Plan) → p ≡ planOf (b .page)
-    → low ≡ joined 0 (p .lines .0) (spreadsAt f (p .dots .0) 0) ++ lows → (8 < p .dots .0 → high ≡ joined 0 (p .lines .0) (spreadsAt f (p .dots .0) (p .dots .0 - 8)) ++ highs)
+pub made-of : (b : Board) (f : Font) (field : ℕ) (low high looks lows high₀ rest : List ℕ) (p : Plan) → p ≡ planOf (b .page)
+    → low ≡ joined 0 (p .lines .0) (spreadsAt f (p .dots .0) 0) ++ lows → high ≡ lastSpreads f (p .lines .0) (p .dots .0) high₀
     → looks ≡ joined 0 (p .lines .0) (levelsAt b field) ++ rest → Made b f field low high looks
 unfolding planOf
-made-of b f field low high looks lows highs rest p q e1 e2 e3 = record {
+made-of b f field low high looks lows high₀ rest p q e1 e2 e3 = record {
   lows = lows;
   low-is = rw q at e1;
-  highs = highs;
-  high-is = rw q at e2;
+  highs = drop (linesOf (b .page .irs) * 256) high₀;
+  high-is = λ h. (rw q at e2) ∙ last-is f (linesOf (b .page .irs)) (b .page .video .dots .0) high₀ h;
   rest = rest;
   looks-is = rw q at e3;
 }

@@ -3,4 +3,5 @@ pub mod Sizes
 pub mod Again
 pub mod Registers
 pub mod Runs
+pub mod Texts
 pub mod Numbers

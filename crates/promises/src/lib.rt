@@ -4,3 +4,4 @@ pub mod again;
 pub mod kept;
 pub mod runs;
 pub mod sizes;
+pub mod texts;

@@ -5,7 +5,8 @@ use mathlib.Core.Bool.{Bool, _&&_}
 use mathlib.Core.List.{List, _++_}
 use native.Mathlib.Nat.{div-one}
 use native.Mathlib.Omega.{arith}
-use lib.ListN.{length, getD, List·getD-append}
+use borrow.Author.Tests.{lt-ltb}
+use lib.ListN.{length, getD, drop, List·getD-append}
 use Rattle.lists.specs.Join.{joined, join-element}
 use Rattle.lists.specs.Tab.{tab, length-tab, getD-tab}
 use Rattle.raster.specs.declared.Buffer.{Buffer}
@@ -24,7 +25,7 @@ use Rattle.dots.specs.Stores.{underOf, wideOf, spreadOf, dotsBy}
 use Rattle.dots.specs.Width.{shades, cell-shades}
 use Rattle.dots.specs.Bytes.{spread-ones}
 use Rattle.dots.specs.Spread.{dots-shades}
-use Rattle.tables.specs.Tables.{markOf, numberFor, cellBy, levelsBy, levelsOf, levelsAt, partOf, spreadBy, spreadsAt}
+use Rattle.tables.specs.Tables.{markOf, numberFor, cellBy, levelsBy, levelsOf, levelsAt, partOf, spreadBy, spreadsAt, lastSpreads}
 use Rattle.tables.specs.Marks.{mark-look, mark-lt, symbol-byte, under-byte, symbol-of, under-of}
 
 pub length-spreads : (f : Font) (d from s : ℕ) → length (spreadsAt f d from s) ≡ 256
@@ -119,3 +120,7 @@ module _ (b : Board) (f : Font) (scan field : ℕ) (a : Accepted (b .page)) (k :
     where
       by-word-again : shades (look .symbol) (underOf look) d (wideOf word d) ≡ scanDots b f scan field k
       by-word-again = rw (levelled, symbol-of b scan field (k .attributes) here, under-of b scan field (k .attributes) here) at by-word
+
+pub last-is : (f : Font) (n d : ℕ) (table : List ℕ) → 8 < d → lastSpreads f n d table ≡ joined 0 n (spreadsAt f d (d - 8)) ++ drop (n * 256) table
+unfolding lastSpreads
+last-is f n d table h = rw (lt-ltb 8 d h)

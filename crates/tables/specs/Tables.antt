@@ -1,8 +1,10 @@
 -- A row's cells as numbers, and the tables by mark and by code. Assumes nothing.
-use Prim.Native.Nat.{ℕ, _+_, _*_, _/_, _%_, _^_}
+use Prim.Native.Nat.{ℕ, _+_, _-_, _*_, _/_, _%_, _^_}
 use mathlib.Core.Bool.{Bool, _&&_}
-use mathlib.Core.List.{List}
-use lib.Dec.{eqb}
+use mathlib.Core.List.{List, _++_}
+use lib.Dec.{eqb, ltb}
+use lib.ListN.{drop}
+use Rattle.lists.specs.Join.{joined}
 use Rattle.lists.specs.Choice.{pick}
 use Rattle.lists.specs.Tab.{tab}
 use Rattle.raster.specs.declared.Buffer.{Buffer}
@@ -51,3 +53,7 @@ spreadBy words flags plain moved d from code = spreadOf 8 (partOf (wordBy words 
 
 unfoldable pub spreadsAt : Font → (d from scan : ℕ) → List ℕ
 spreadsAt f d from scan = tab 256 (spreadBy (f .words) (f .flags) (positionOf (f .unshifted) scan) (positionOf (f .shifted) scan) d from)
+
+-- a table afterwards that has the last eight dots, where a cell has more than eight, for n scan lines, and else stays
+unfoldable pub lastSpreads : Font → (n d : ℕ) → List ℕ → List ℕ
+lastSpreads f n d table = pick (ltb 8 d) (joined 0 n (spreadsAt f d (d - 8)) ++ drop (n * 256) table) table

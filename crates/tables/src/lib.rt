@@ -8,7 +8,7 @@ ghost use Rattle.lists.specs.Tab.{tab};
 ghost use Rattle.raster.specs.Moves.{Bounded};
 ghost use Rattle.shape.specs.Font.{lentFont};
 ghost use Rattle.dots.specs.Stores.{spreadOf};
-ghost use Rattle.tables.specs.Tables.{cellNumber, cellBy, levelsOf, levelsAt, partOf, spreadBy, spreadsAt};
+ghost use Rattle.tables.specs.Tables.{cellNumber, cellBy, levelsOf, levelsAt, partOf, spreadBy, spreadsAt, lastSpreads};
 
 // A cell's code, and 256 times its mark: the six attributes, and 64 where the cursor's address is the cell's.
 fn cell_number(code: u8, attributes: u8, here: bool) -> u16
@@ -150,8 +150,8 @@ pub fn fill_last(
     d: usize,
 )
     requires { ⌜ (length (now words) ≡ 1152) × (length (now flags) ≡ 128) × (d ≤ 12) × (n .0 ≤ 16) × (n .0 * 256 ≤ length (now table)) ⌝ }
-    ensures { λ _. ⌜ (8 < d → now (table .exit)
-        ≡ joined 0 (n .0) (spreadsAt (lentFont words flags unshifted shifted) d (d - 8)) ++ drop (n .0 * 256) (now (table .entry))) ⌝ }
+    ensures { λ _. ⌜ now (table .exit)
+        ≡ lastSpreads (lentFont words flags unshifted shifted) (n .0) d (now (table .entry)) ⌝ }
 {
     if 8 < d {
         fill_spreads(table, words, flags, unshifted, shifted, n, d, d - 8);

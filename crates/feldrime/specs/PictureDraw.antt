@@ -1,0 +1,20 @@
+-- A whole picture, drawn from a page's numbers.
+use Prim.Native.Nat.{ℕ}
+use mathlib.Core.List.{List}
+use Rattle.lists.specs.Choice.{pick}
+use Rattle.refusal.specs.declared.Refusal.{Refusal}
+use Rattle.refusal.specs.declared.Refusal.the-variants.{Size}
+use Rattle.shape.specs.Font.{Font}
+use Rattle.video.specs.At.{lentRefused}
+use Rattle.picture.specs.Picture.{pictureCheck, picturedOf}
+use Rattle.numbers.specs.Numbers.{numbersRefused, numbersBoard}
+
+-- 3 for the numbers, then the picture's own refusals
+unfoldable pub pictureDrawCheck : (numbers chars attrs : List ℕ) → Font → (room : ℕ) → Refusal
+pictureDrawCheck numbers chars attrs f room =
+    pick (numbersRefused numbers) Size (pictureCheck (numbersBoard numbers) (lentRefused chars attrs f) room)
+
+-- the buffer afterwards, which stays where the numbers are refused
+unfoldable pub pictureDrawn : (numbers chars attrs : List ℕ) → Font → (field : ℕ) → List ℕ → List ℕ
+pictureDrawn numbers chars attrs f field out =
+    pick (numbersRefused numbers) out (picturedOf (numbersBoard numbers) chars attrs f field out)

@@ -1,0 +1,39 @@
+-- All cells that a row fetches, column by column, as they are given to a caller.
+use Prim.Native.Nat.{ℕ}
+use mathlib.Core.Bool.{_||_}
+use mathlib.Core.List.{List, _++_}
+use lib.Dec.{ltb}
+use lib.ListN.{length, drop}
+use Rattle.lists.specs.Choice.{pick}
+use Rattle.lists.specs.Tab.{tab}
+use Rattle.refusal.specs.declared.Refusal.{Refusal}
+use Rattle.refusal.specs.Number.{doneOf}
+use Rattle.board.specs.declared.Page.{Page}
+use Rattle.board.specs.declared.Board.{Board}
+use Rattle.board.specs.Range.{memoryRefused}
+use Rattle.timing.specs.Fields.{hactOf}
+use Rattle.fetch.specs.declared.RowCells.{RowCells}
+use Rattle.fetch.specs.Rows.{cellAt}
+use Rattle.fetch.specs.Run.{rowCheck}
+
+-- the addresses of a row's cells
+unfoldable pub cellsOf : Page → List ℕ → ℕ → List ℕ
+cellsOf p chars row = tab (hactOf (p .irs)) (cellAt p chars row)
+
+-- 3 for a character memory of n cells, or room for fewer than 256, the most that a row can have; then 12, 4, 5, 6, 7
+unfoldable pub cellsCheck : Board → (n row room : ℕ) → Refusal
+cellsCheck b n row room = rowCheck b (memoryRefused n || ltb room 256) row
+
+abbrev pub rowOf : Refusal → ℕ → RowCells
+rowOf r n = record { refusal = r; count = n }
+
+-- how many there are, none on a refusal
+unfoldable pub cellsGiven : Board → (n row room : ℕ) → RowCells
+cellsGiven b n row room = rowOf (cellsCheck b n row room) (pick (doneOf (cellsCheck b n row room)) (hactOf (b .page .irs)) 0)
+
+-- the buffer afterwards: elements beyond the row's cells stay, and all of it on a refusal
+unfoldable pub cellsPut : Board → (chars : List ℕ) → ℕ → List ℕ → List ℕ
+cellsPut b chars row cells =
+    pick (doneOf (cellsCheck b (length chars) row (length cells)))
+    (cellsOf (b .page) chars row ++ drop (hactOf (b .page .irs)) cells)
+    cells

@@ -1,0 +1,132 @@
+-- What the proofs and callers use of a row's cells. Assumes nothing.
+--     columnBy         the cell of a column as the walk along the row comes to it
+--     cells-passed     a call that is not refused: the row's run is not refused either, and there is room for any row
+--     cells-as-run     with such room the two are refused alike
+--     cells-walked     the walk from the row's start gives the row's cells
+--     cells-some       where there are cells, nothing was refused
+--     cells-at         each element of the buffer that is counted is its column's cell
+--     run-at           the first of these are the row's run
+--     run-least        which has no more cells than the row
+use Prim.Native.Nat.{ℕ, min, _+_, _≤_, _<_}
+use mathlib.Core.Path.{_≡_, refl, sym, ap, _∙_}
+use mathlib.Core.Bool.{Bool, true, false, _||_, or-false}
+use mathlib.Core.List.{List, _++_}
+use native.Mathlib.Omega.{arith}
+use borrow.Author.Tests.{ltb-false, le-ltb}
+use lib.Dec.{ltb, leb}
+use lib.ListN.{length, getD, drop, List·getD-append}
+use Rattle.lists.specs.Choice.{pick, neither, pick-le}
+use Rattle.lists.specs.Tab.{tab, same-tab, length-tab, getD-tab}
+use Rattle.refusal.specs.declared.Refusal.the-variants.{Done}
+use Rattle.refusal.specs.Number.{doneOf}
+use Rattle.refusal.specs.Laws.{done-is}
+use Rattle.raster.specs.declared.Buffer.{Buffer}
+use Rattle.raster.specs.Moves.{advanceBy, by-near}
+use Rattle.board.specs.declared.Page.{Page}
+use Rattle.board.specs.declared.Board.{Board}
+use Rattle.board.specs.Range.{memoryRefused}
+use Rattle.timing.specs.Fields.{rowsOf, hactOf, bufferOf}
+use Rattle.timing.specs.Check.{callCheck}
+use Rattle.timing.specs.Laws.{call-passed}
+use Rattle.fetch.specs.declared.RowCells.{RowCells}
+use Rattle.fetch.specs.Rows.{rowStart, cellAt}
+use Rattle.fetch.specs.Run.{runCheck, runCount, spanOf}
+use Rattle.fetch.specs.RowCells.{cellsOf, cellsCheck, rowOf, cellsGiven, cellsPut}
+use Rattle.fetch.specs.Laws.{cell-moved}
+
+-- the cell c moves from the row's start
+unfoldable pub columnBy : Buffer → (start c : ℕ) → ℕ
+columnBy b start c = advanceBy b c start
+
+pub cells-passed : (b : Board) (n row room : ℕ) → cellsCheck b n row room ≡ Done → (runCheck b n row ≡ Done) × (256 ≤ room)
+unfolding cellsCheck runCheck
+cells-passed b n row room e =
+    let asked = leb (rowsOf (b .page .irs)) row in
+    let sized = call-passed b (memoryRefused n || ltb room 256) asked false e .sized in
+    let s = neither (memoryRefused n) (ltb room 256) sized in
+    (ap (λ (t : Bool). callCheck b t asked false) (s .0 ∙ sym sized) ∙ e, ltb-false _ _ (s .1))
+
+pub cells-as-run : (b : Board) (n row room : ℕ) → 256 ≤ room → cellsCheck b n row room ≡ runCheck b n row
+unfolding cellsCheck runCheck
+cells-as-run b n row room h = rw (le-ltb room 256 h, or-false (memoryRefused n))
+
+module _ (p : Page) (chars : List ℕ) (row : ℕ) where
+  same-column : (c : ℕ) → c < hactOf (p .irs) → columnBy (bufferOf (p .irs)) (rowStart p chars row) c ≡ cellAt p chars row c
+  unfolding columnBy
+  same-column c h = let k : min c (hactOf (p .irs)) ≡ c = omega arith in rw k at (cell-moved p chars row c)
+
+  pub cells-walked : tab (hactOf (p .irs)) (columnBy (bufferOf (p .irs)) (rowStart p chars row)) ≡ cellsOf p chars row
+  unfolding cellsOf
+  cells-walked = same-tab (hactOf (p .irs)) _ _ same-column
+
+-- ---- what the call answers and leaves
+
+module _ (b : Board) (chars : List ℕ) (row : ℕ) (cells₀ : List ℕ) where
+  abbrev Left : RowCells → List ℕ → Type 0
+  Left r cells = (r ≡ cellsGiven b (length chars) row (length cells₀)) × (cells ≡ cellsPut b chars row cells₀)
+
+  abbrev done : Bool
+  done = doneOf (cellsCheck b (length chars) row (length cells₀))
+
+  pub cells-given : done ≡ true → {r : RowCells} {cells : List ℕ}
+      → r ≡ rowOf (cellsCheck b (length chars) row (length cells₀)) (hactOf (b .page .irs))
+      → cells ≡ tab (hactOf (b .page .irs)) (columnBy (bufferOf (b .page .irs)) (rowStart (b .page) chars row)) ++ drop (hactOf (b .page .irs)) cells₀
+      → Left r cells
+  unfolding cellsGiven cellsPut
+  cells-given t e q = (rw t e, rw t (q ∙ ap (λ (l : List ℕ). l ++ drop (hactOf (b .page .irs)) cells₀) (cells-walked (b .page) chars row)))
+
+  pub cells-refused : done ≡ false → {r : RowCells} → r ≡ rowOf (cellsCheck b (length chars) row (length cells₀)) 0 → Left r cells₀
+  unfolding cellsGiven cellsPut
+  cells-refused t e = (rw t e, rw t)
+
+-- ---- what a caller knows of the count and of each cell
+
+module _ (b : Board) (n row room : ℕ) where
+  pub count-small : cellsGiven b n row room .count ≤ 256
+  unfolding cellsGiven
+  count-small = pick-le 256 (doneOf (cellsCheck b n row room)) (hactOf (b .page .irs)) 0 (omega arith) (omega arith)
+
+  pub cells-some : (c : ℕ) → c < cellsGiven b n row room .count → cellsCheck b n row room ≡ Done
+  unfolding cellsGiven
+  cells-some c h = go (doneOf (cellsCheck b n row room)) refl
+    where
+      go : (t : Bool) → doneOf (cellsCheck b n row room) ≡ t → cellsCheck b n row room ≡ Done
+      go true t = done-is _ t
+      go false t = let none : c < 0 = rw t at h in absurd (omega (arith, none))
+
+pub cells-at : (b : Board) (chars : List ℕ) (row : ℕ) (cells₀ : List ℕ) (c : ℕ)
+    → c < cellsGiven b (length chars) row (length cells₀) .count → getD (cellsPut b chars row cells₀) c 0 ≡ cellAt (b .page) chars row c
+unfolding cellsGiven cellsPut cellsOf
+cells-at b chars row cells₀ c h =
+    let n = hactOf (b .page .irs) in
+    let f = cellAt (b .page) chars row in
+    let ok = cells-some b (length chars) row (length cells₀) c h in
+    let in-row : c < n = rw ok at h in
+    rw ok (List·getD-append (tab n f) (drop n cells₀) 0 c (rw (length-tab n f) in-row) ∙ getD-tab n f c in-row)
+
+-- ---- the run
+
+side-by-side : (p : Page) (start c : ℕ) → c < runCount p start → (c < hactOf (p .irs)) × (columnBy (bufferOf (p .irs)) start c ≡ start + c)
+unfolding runCount columnBy
+side-by-side p start c h = (omega arith, by-near (bufferOf (p .irs)) c start (omega arith) ∙ omega arith)
+
+pub run-at : (b : Board) (chars : List ℕ) (row c : ℕ) → c < spanOf b chars row .count
+    → (c < hactOf (b .page .irs)) × (cellAt (b .page) chars row c ≡ spanOf b chars row .start + c)
+unfolding spanOf
+run-at b chars row c h = go (doneOf (runCheck b (length chars) row)) refl
+  where
+    go : (t : Bool) → doneOf (runCheck b (length chars) row) ≡ t
+        → (c < hactOf (b .page .irs)) × (cellAt (b .page) chars row c ≡ spanOf b chars row .start + c)
+    go true t =
+        let near = side-by-side (b .page) (rowStart (b .page) chars row) c (rw t at h) in
+        rw t (near .0, sym (same-column (b .page) chars row c (near .0)) ∙ near .1)
+    go false t = let none : c < 0 = rw t at h in absurd (omega (arith, none))
+
+pub run-least : (b : Board) (chars : List ℕ) (row room : ℕ) → 256 ≤ room → spanOf b chars row .count ≤ cellsGiven b (length chars) row room .count
+unfolding spanOf runCount cellsGiven
+run-least b chars row room h = rw (cells-as-run b (length chars) row room h) (go (doneOf (runCheck b (length chars) row)) refl)
+  where
+    go : (t : Bool) → doneOf (runCheck b (length chars) row) ≡ t
+        → spanOf b chars row .count ≤ pick (doneOf (runCheck b (length chars) row)) (hactOf (b .page .irs)) 0
+    go true t = rw t (omega arith)
+    go false t = rw t (omega arith)
