@@ -25,6 +25,7 @@ use Rattle.fetch.specs.RowCells.{cellsPut}
 use Rattle.fetch.specs.Laws.{span-number}
 use Rattle.shape.specs.Font.{Font, fontOf}
 use Rattle.line.specs.Line.{lineLength, drawCheck, drawnOf}
+use Rattle.picture.specs.Picture.{picturedOf}
 use Rattle.video.specs.At.{scanOf, dotsAt, lentRefused}
 use Rattle.step.specs.Step.{steppedOf, stepCheck, stepOf}
 use Rattle.place.specs.State.{stateOf}
@@ -37,11 +38,13 @@ use Rattle.feldrime.specs.declared.Answer.{Answer}
 use Rattle.feldrime.specs.Answers.{answerOf, sizeAnswer, runAnswer, cellsAnswer, boardAnswer}
 use Rattle.feldrime.specs.Pages.{sizeFor, runFor, boardFor}
 use Rattle.feldrime.specs.LineDraw.{lineDrawCheck, lineDrawn}
+use Rattle.feldrime.specs.PictureDraw.{pictureDrawCheck, pictureDrawn}
 use Rattle.feldrime.specs.RowCells.{cellsFor, cellsPutFor}
 use Rattle.feldrime.specs.Step.{numbered, stepNumbers}
 use Rattle.agreement.specs.Steps.{call-ok, call-page, after, step-answers, at-once-anywhere}
 use Rattle.agreement.specs.Files.{zero-ok}
 use Rattle.agreement.specs.Lines.{clockOf, DrawnFrom, draw-answers, same-line}
+use Rattle.agreement.specs.Pictures.{picture-answers, picture-by-lines, picture-by-steps}
 use Rattle.agreement.specs.Rows.{lineOf, follows, Shown, row-from-table, row-from-start, run-answers, run-shown, CellsShown, cells-shown}
 
 -- a refusal whose number is 0 is none
@@ -84,6 +87,13 @@ module _ (numbers chars attrs words flags unshifted shifted : List ℕ) where
 
   abbrev pub drawnC : (line field : ℕ) → List ℕ → List ℕ
   drawnC line field out = lineDrawn numbers chars attrs f line field out
+
+  -- what feldrime_picture_draw answers, and what it leaves in the buffer
+  abbrev pub pictureC : (room : ℕ) → Answer
+  pictureC room = answerOf (pictureDrawCheck numbers chars attrs f room)
+
+  abbrev pub picturedC : (field : ℕ) → List ℕ → List ℕ
+  picturedC field out = pictureDrawn numbers chars attrs f field out
 
   -- ---- both are refused together
 
@@ -178,6 +188,43 @@ module _ (numbers chars attrs words flags unshifted shifted : List ℕ) where
           (same-joined 0 (hactOf (b .page .irs)) _ _
           (λ c _ h. ap (λ (x : Board). take (b .page .video .dots .0) (stepOf x chars attrs f .dots)) (sym (steps-from-c (clockOf b k l c)))))),
     )
+
+    -- ---- the picture
+
+    -- feldrime_picture_draw answers 0 for any buffer with room for the page's lines
+    pub picture-answers-from-c : (room : ℕ) → sizeFor numbers .lines * sizeFor numbers .dots ≤ room → pictureC room ≡ answerOf Done
+    unfolding pictureDrawCheck
+    picture-answers-from-c room h = rw (numbers-passed numbers check-ok, picture-answers b chars attrs f step-ok room (rw size-from-c at h))
+
+    pictured-is : (field : ℕ) (out : List ℕ) → picturedC field out ≡ picturedOf b chars attrs f field out
+    unfolding pictureDrawn
+    pictured-is field out = rw (numbers-passed numbers check-ok)
+
+    -- and the buffer begins with what feldrime_line_draw writes of line 0, 1, .. into a buffer that has room, end to end; bytes beyond stay
+    pub picture-by-lines-from-c : (field : ℕ) (out part : List ℕ) → sizeFor numbers .lines * sizeFor numbers .dots ≤ length out → sizeFor numbers .dots ≤ length part
+        → picturedC field out
+        ≡ joined 0 (sizeFor numbers .lines) (λ l. take (sizeFor numbers .dots) (drawnC l field part)) ++ drop (sizeFor numbers .lines * sizeFor numbers .dots) out
+    picture-by-lines-from-c field out part room enough =
+        pictured-is field out
+        ∙ picture-by-lines b chars attrs f step-ok field out part (rw size-from-c at room) (rw size-from-c at enough)
+        ∙ rw size-from-c
+        (ap (λ (d : List ℕ). d ++ drop (visibleOf (b .page .irs) .0 * lineLength b) out)
+        (same-joined 0 (visibleOf (b .page .irs) .0) _ _ (λ l _ h. ap (take (lineLength b)) (sym (drawn-is l field part)))))
+
+    -- frame k, with field count k modulo 256: the dots of all its active clocks as feldrime_step answers them, in order
+    pub picture-by-steps-from-c : (k : ℕ) (out : List ℕ) → sizeFor numbers .lines * sizeFor numbers .dots ≤ length out
+        → picturedC (k % 256) out
+        ≡ joined 0 (sizeFor numbers .lines) (λ l. joined 0 (hactOf (b .page .irs)) (λ c. take (b .page .video .dots .0) (stepC (clockOf b k l c) .dots)))
+        ++ drop (sizeFor numbers .lines * sizeFor numbers .dots) out
+    unfolding numbered
+    picture-by-steps-from-c k out room =
+        pictured-is (k % 256) out
+        ∙ picture-by-steps b chars attrs f step-ok k out (rw size-from-c at room)
+        ∙ rw size-from-c
+        (ap (λ (d : List ℕ). d ++ drop (visibleOf (b .page .irs) .0 * lineLength b) out)
+        (same-joined 0 (visibleOf (b .page .irs) .0) _ _ (λ l _ _.
+        same-joined 0 (hactOf (b .page .irs)) _ _
+        (λ c _ h. ap (λ (x : Board). take (b .page .video .dots .0) (stepOf x chars attrs f .dots)) (sym (steps-from-c (clockOf b k l c)))))))
 
     -- ---- the cells of a row
 

@@ -7,6 +7,7 @@ pub mod OneFiles
 pub mod OneC
 pub mod Steps
 pub mod Lines
+pub mod Pictures
 pub mod Frames
 pub mod Rows
 pub mod FromC

@@ -26,7 +26,7 @@ use Rattle.shape.specs.Font.{Font}
 use Rattle.video.specs.Scene.{sceneOf}
 use Rattle.line.specs.Length.{length-dots}
 use Rattle.line.specs.Line.{columnDots, lineDots, lineLength, drawCheck, drawnOf}
-use Rattle.video.specs.At.{scanOf, dotsAt, lentRefused}
+use Rattle.video.specs.At.{scanOf, scanDots, dotsAt, lentRefused}
 use Rattle.place.specs.declared.Carried.{Carried}
 use Rattle.place.specs.Place.{countsIn, carrierIn, rowsIn, carriedOf, activeAt, loadedIn, placeAt}
 use Rattle.step.specs.Signals.{padded, clockDots}
@@ -106,7 +106,7 @@ module _ (b : Board) (chars attrs : List ℕ) (f : Font) (ok : stepCheck b chars
 
     pub dots-are : stepOf (after b chars attrs f (clockOf b k l c)) chars attrs f .dots
         ≡ padded (columnDots b chars attrs f l (k % 256) c) (b .page .video .dots .0)
-    unfolding steppedOf clockDots columnDots dotsAt sceneOf placeAt scanAt countsOf
+    unfolding steppedOf clockDots columnDots dotsAt scanDots sceneOf placeAt scanAt countsOf
     dots-are =
         let n = clockOf b k l c in
         rw (steps-are b chars attrs f ok n, step-is b chars attrs f ok n, active, fetched-at n (rw line-is hl), line-is, clock-is, frame-is)

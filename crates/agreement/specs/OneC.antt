@@ -23,6 +23,7 @@ use Rattle.feldrime.specs.declared.StepAnswer.{StepAnswer}
 use Rattle.feldrime.specs.Answers.{answerOf, boardAnswer, byteAnswer}
 use Rattle.feldrime.specs.Pages.{sizeFor, runFor, boardFor}
 use Rattle.feldrime.specs.LineDraw.{lineDrawCheck, lineDrawn}
+use Rattle.feldrime.specs.PictureDraw.{pictureDrawCheck, pictureDrawn}
 use Rattle.feldrime.specs.RowCells.{cellsFor, cellsPutFor}
 use Rattle.feldrime.specs.Step.{stepNumbers}
 
@@ -58,6 +59,12 @@ pub line-draw-one : (numbers chars attrs : List ℕ) (f : Font) (line field : �
     × (r .1 ≡ lineDrawn numbers chars attrs f line field out))
 line-draw-one numbers chars attrs f line field out =
     only-both (answerOf (lineDrawCheck numbers chars attrs f line (length out))) (lineDrawn numbers chars attrs f line field out)
+
+pub picture-draw-one : (numbers chars attrs : List ℕ) (f : Font) (field : ℕ) (out : List ℕ)
+    → OneAnswer (λ (r : Answer × List ℕ). (r .0 ≡ answerOf (pictureDrawCheck numbers chars attrs f (length out)))
+    × (r .1 ≡ pictureDrawn numbers chars attrs f field out))
+picture-draw-one numbers chars attrs f field out =
+    only-both (answerOf (pictureDrawCheck numbers chars attrs f (length out))) (pictureDrawn numbers chars attrs f field out)
 
 pub row-run-for-c-one : (numbers chars : List ℕ) (row : ℕ) → OneAnswer (λ r. r ≡ runFor numbers chars row)
 row-run-for-c-one numbers chars row = only (runFor numbers chars row)

@@ -1,5 +1,6 @@
--- No second answer meets the contract of a public function of `fetch`, `shape`, `video`, `line`, `place` or `step`: it names its answer, so each of these is `only`.
-use Prim.Native.Nat.{ℕ, _+_}
+-- No second answer meets the contract of a public function of `fetch`, `shape`, `video`, `dots`, `tables`, `line`, `picture`, `place` or `step`: it names its answer,
+-- so each of these is `only`.
+use Prim.Native.Nat.{ℕ, _+_, _*_}
 use mathlib.Core.Path.{_≡_}
 use mathlib.Core.Bool.{Bool}
 use mathlib.Core.List.{List, _++_}
@@ -7,9 +8,12 @@ use native.Mathlib.Omega.{arith}
 use lib.ListN.{length, drop, length-drop}
 use lib.Seq.{length-take-le}
 use Rattle.lists.specs.Answer.{OneAnswer, only, only-both, only-four}
+use Rattle.lists.specs.Join.{joined}
+use Rattle.lists.specs.Tab.{tab}
 use Rattle.units.specs.declared.Dots.{Dots}
 use Rattle.refusal.specs.declared.Refusal.{Refusal}
 use Rattle.refusal.specs.Number.{numberOf}
+use Rattle.raster.specs.declared.Buffer.{Buffer}
 use Rattle.raster.specs.Moves.{cell}
 use Rattle.board.specs.declared.Page.{Page}
 use Rattle.board.specs.declared.Place.{Place}
@@ -23,9 +27,13 @@ use Rattle.shape.specs.Font.{Font, fontRefused, positionOf, wordBy, wordOf}
 use Rattle.video.specs.declared.Scene.{Scene}
 use Rattle.video.specs.declared.Look.{Look}
 use Rattle.video.specs.Scene.{sceneOf, cursorAt}
-use Rattle.video.specs.Look.{effective, lookWith, lookOf}
+use Rattle.video.specs.Look.{effective, lookOf}
 use Rattle.video.specs.Cell.{cellDots}
-use Rattle.line.specs.Line.{drawCheck, drawnOf}
+use Rattle.dots.specs.Stores.{spreadOf, wideOf, underOf, dotsBy}
+use Rattle.dots.specs.Width.{shades}
+use Rattle.tables.specs.Tables.{cellBy, levelsOf, levelsAt, spreadsAt, lastSpreads}
+use Rattle.line.specs.Line.{lineDots, lineLength, drawCheck, drawnOf}
+use Rattle.picture.specs.Picture.{pictureCheck, picturedOf}
 use Rattle.video.specs.At.{lentRefused}
 use Rattle.step.specs.Step.{stepOf}
 use Rattle.place.specs.declared.Carried.{Carried}
@@ -93,17 +101,51 @@ effective-of-one byte = only (effective byte)
 pub look-of-one : (s : Scene) (attributes : ℕ) (cursor : Bool) → OneAnswer (λ r. r ≡ lookOf s attributes cursor)
 look-of-one s attributes cursor = only (lookOf s attributes cursor)
 
--- the buffer
-pub write-cell-one : (lit : Bool) (symbol surround word d : ℕ) (out : List ℕ) → OneAnswer (λ r. r ≡ cellDots (lookWith lit symbol surround) word d ++ drop d out)
-write-cell-one lit symbol surround word d out = only (cellDots (lookWith lit symbol surround) word d ++ drop d out)
+pub lent-refused-one : (chars attrs : List ℕ) (f : Font) → OneAnswer (λ r. r ≡ lentRefused chars attrs f)
+lent-refused-one chars attrs f = only (lentRefused chars attrs f)
+
+-- ---- `dots`: a number, or the buffer
+
+pub spread-one : (w : ℕ) → OneAnswer (λ r. r ≡ spreadOf 8 w)
+spread-one w = only (spreadOf 8 w)
+
+pub wide-one : (word d : ℕ) → OneAnswer (λ r. r ≡ wideOf word d)
+wide-one word d = only (wideOf word d)
+
+pub under-one : (look : Look) → OneAnswer (λ r. r ≡ underOf look)
+under-one look = only (underOf look)
+
+pub put-cell-one : (low high symbol surround d : ℕ) (out : List ℕ) → OneAnswer (λ r. r ≡ dotsBy low high symbol surround d ++ drop d out)
+put-cell-one low high symbol surround d out = only (dotsBy low high symbol surround d ++ drop d out)
+
+pub write-cell-one : (symbol surround word d : ℕ) (out : List ℕ) → OneAnswer (λ r. r ≡ shades symbol surround d (wideOf word d) ++ drop d out)
+write-cell-one symbol surround word d out = only (shades symbol surround d (wideOf word d) ++ drop d out)
 
 pub draw-cell-one : (look : Look) (word : ℕ) (width : Dots) (out : List ℕ) → OneAnswer (λ r. r ≡ cellDots look word (width .0) ++ drop (width .0) out)
 draw-cell-one look word width out = only (cellDots look word (width .0) ++ drop (width .0) out)
 
+-- ---- `tables`: the lent table
+
+pub gather-one : (chars attrs : List ℕ) (buffer : Buffer) (cursor start n : ℕ) (cells : List ℕ) → OneAnswer (λ r. r ≡ tab n (cellBy chars attrs buffer cursor start) ++ drop n cells)
+gather-one chars attrs buffer cursor start n cells = only (tab n (cellBy chars attrs buffer cursor start) ++ drop n cells)
+
+pub looks-one : (s : Scene) (table : List ℕ) → OneAnswer (λ r. r ≡ tab 128 (levelsOf s) ++ drop 128 table)
+looks-one s table = only (tab 128 (levelsOf s) ++ drop 128 table)
+
+pub fill-looks-one : (b : Board) (field n : ℕ) (table : List ℕ) → OneAnswer (λ r. r ≡ joined 0 n (levelsAt b field) ++ drop (n * 128) table)
+fill-looks-one b field n table = only (joined 0 n (levelsAt b field) ++ drop (n * 128) table)
+
+pub fill-spreads-one : (f : Font) (n d from : ℕ) (table : List ℕ) → OneAnswer (λ r. r ≡ joined 0 n (spreadsAt f d from) ++ drop (n * 256) table)
+fill-spreads-one f n d from table = only (joined 0 n (spreadsAt f d from) ++ drop (n * 256) table)
+
+pub fill-last-one : (f : Font) (n d : ℕ) (table : List ℕ) → OneAnswer (λ r. r ≡ lastSpreads f n d table)
+fill-last-one f n d table = only (lastSpreads f n d table)
+
 -- ---- `line`
 
-pub lent-refused-one : (chars attrs : List ℕ) (f : Font) → OneAnswer (λ r. r ≡ lentRefused chars attrs f)
-lent-refused-one chars attrs f = only (lentRefused chars attrs f)
+pub whole-line-one : (b : Board) (chars attrs : List ℕ) (f : Font) (line field : ℕ) (out : List ℕ)
+    → OneAnswer (λ r. r ≡ lineDots b chars attrs f line field ++ drop (lineLength b) out)
+whole-line-one b chars attrs f line field out = only (lineDots b chars attrs f line field ++ drop (lineLength b) out)
 
 -- the refusal and the buffer
 pub draw-line-one : (b : Board) (chars attrs : List ℕ) (f : Font) (line field : ℕ) (out : List ℕ)
@@ -111,6 +153,14 @@ pub draw-line-one : (b : Board) (chars attrs : List ℕ) (f : Font) (line field 
     × (r .1 ≡ drawnOf b chars attrs f line field out))
 draw-line-one b chars attrs f line field out =
     only-both (drawCheck b (lentRefused chars attrs f) line (length out)) (drawnOf b chars attrs f line field out)
+
+-- ---- `picture`
+
+pub draw-picture-one : (b : Board) (chars attrs : List ℕ) (f : Font) (field : ℕ) (out : List ℕ)
+    → OneAnswer (λ (r : Refusal × List ℕ). (r .0 ≡ pictureCheck b (lentRefused chars attrs f) (length out))
+    × (r .1 ≡ picturedOf b chars attrs f field out))
+draw-picture-one b chars attrs f field out =
+    only-both (pictureCheck b (lentRefused chars attrs f) (length out)) (picturedOf b chars attrs f field out)
 
 -- ---- `place`
 

@@ -1,4 +1,5 @@
-// Promises as functions that call the calls for C: a line drawn and a state reached by single steps.
+// Promises as functions that call the calls for C: a line drawn and a state reached by single steps, and a line drawn over its picture.
 // `feldrime_step` itself alters a board where it stands, which only C can lend: these functions call `step_numbers`, the step by value that it is.
 pub mod lines;
+pub mod pictures;
 pub mod states;

@@ -1,0 +1,57 @@
+// A picture, and one of its lines drawn again over it.
+use feldrime::Answer;
+ghost use mathlib.Core.Path.{_≡_};
+ghost use lib.ListN.{length};
+ghost use Rattle.shape.specs.Font.{lentFont};
+ghost use Rattle.feldrime.specs.Answers.{answerOf};
+ghost use Rattle.feldrime.specs.PictureDraw.{pictureDrawCheck, pictureDrawn};
+
+// Any visible line that `feldrime_line_draw` draws over the picture stands there already: the contract is that of `feldrime_picture_draw`.
+pub fn line_over_picture(
+    numbers: &[u8],
+    chars: &[u8],
+    attrs: &[u8],
+    words: &[u16],
+    flags: &[u8],
+    unshifted: &[u8],
+    shifted: &[u8],
+    line: u32,
+    field: u8,
+    out: &mut [u8],
+) -> Answer
+    ensures { λ r. let f = lentFont words flags unshifted shifted in
+        ⌜ (r ≡ answerOf (pictureDrawCheck (now (numbers .entry)) (now (chars .entry)) (now (attrs .entry)) f (length (now (out .entry)))))
+        × (now (out .exit) ≡ pictureDrawn (now (numbers .entry)) (now (chars .entry)) (now (attrs .entry)) f field (now (out .entry))) ⌝ }
+{
+    let drawn = feldrime::feldrime_picture_draw(
+        numbers,
+        chars,
+        attrs,
+        words,
+        flags,
+        unshifted,
+        shifted,
+        field,
+        out,
+    );
+    if drawn.refusal != 0 {
+        return drawn;
+    }
+    let size = feldrime::feldrime_page_size(numbers);
+    if line < size.lines {
+        let a = line as usize * size.dots as usize;
+        feldrime::feldrime_line_draw(
+            numbers,
+            chars,
+            attrs,
+            words,
+            flags,
+            unshifted,
+            shifted,
+            line,
+            field,
+            &mut out[a..],
+        );
+    }
+    drawn
+}
