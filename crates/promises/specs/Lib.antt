@@ -4,3 +4,4 @@ pub mod Again
 pub mod Registers
 pub mod Runs
 pub mod Numbers
+pub mod Saved

@@ -3,4 +3,5 @@
 pub mod again;
 pub mod kept;
 pub mod runs;
+pub mod saved;
 pub mod sizes;
