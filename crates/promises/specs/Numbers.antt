@@ -4,7 +4,7 @@ use mathlib.Core.Path.{_≡_, refl, sym, ap, _∙_}
 use mathlib.Core.Bool.{Bool, true, false, not}
 use mathlib.Core.List.{List, [], _++_, append-nil}
 use native.Mathlib.Omega.{arith}
-use borrow.Author.Tests.{eq-eqb, ne-eqb}
+use borrow.Author.Tests.{eq-eqb}
 use lib.Dec.{eqb}
 use lib.ListN.{length, getD, take, drop, replicate}
 use lib.Seq.{take-all, take-at}
@@ -31,7 +31,7 @@ use Rattle.feldrime.specs.Answers.{answerOf}
 use Rattle.feldrime.specs.Pages.{boardFor}
 use Rattle.agreement.specs.Steps.{range-ok}
 use Rattle.agreement.specs.Files.{length-file, board-same}
-use Rattle.promises.specs.Sizes.{made-done}
+use Rattle.promises.specs.Sizes.{made-refused, made-done}
 
 -- the numbers' own answer, then 3 where a memory or the room for the numbers has another size
 unfoldable pub numbersAgainCheck : (numbers : List ℕ) (chars attrs room : ℕ) → Refusal
@@ -62,11 +62,10 @@ module _ (numbers : List ℕ) (fits : Bytes numbers) (chars attrs out : List ℕ
   Again a x = (a ≡ answerOf (numbersAgainCheck numbers (length chars) (length attrs) (length out))) × (x ≡ numbersAgain numbers (length chars) (length attrs) out)
 
   pub not-made : (m .refusal ≡ 0 → ⊥) → Again (record { refusal = m .refusal; beside = 0 }) out
-  unfolding numbersAgainCheck numbersAgain boardFor
+  unfolding numbersAgainCheck numbersAgain
   not-made e =
-      let r : m .refusal ≡ numberOf (numbersCheck numbers) = ap (λ (x : BoardAnswer). x .refusal) made in
-      let refused : doneOf (numbersCheck numbers) ≡ false = ne-eqb _ _ (λ q. e (r ∙ q)) in
-      (rw (refused, r), rw (refused, refused))
+      let r = made-refused numbers made e in
+      (rw (r .1, r .0), rw (r .1, r .1))
 
   module _ (z : m .refusal ≡ 0) {w : Refusal} {file : List ℕ}
       (wrote : (w ≡ writeCheck (m .board) (length chars) (length attrs) 32797) × (file ≡ written (m .board) chars attrs zeros)) where

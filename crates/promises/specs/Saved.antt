@@ -20,7 +20,7 @@ use Rattle.feldrime.specs.declared.BoardAnswer.{BoardAnswer}
 use Rattle.feldrime.specs.Answers.{answerOf, boardAnswer}
 use Rattle.feldrime.specs.Pages.{boardFor}
 use Rattle.agreement.specs.Numbers.{board-back-from-c, numbers-back}
-use Rattle.promises.specs.Sizes.{made-done}
+use Rattle.promises.specs.Sizes.{made-refused, made-done}
 use Rattle.promises.specs.Again.{answer-done}
 
 -- the page's own answer, and its board; a refusal gives the board that power gives
@@ -56,11 +56,10 @@ module _ (b : Board) (irs-all : length (b .page .irs) ≡ 15) {a : Answer} {numb
 
 module _ (numbers : List ℕ) (fits : Bytes numbers) (out : List ℕ) {m : BoardAnswer} (made : m ≡ boardFor numbers) where
   pub not-made : (m .refusal ≡ 0 → ⊥) → (record { refusal = m .refusal; beside = 0 } ≡ answerOf (savedCheck numbers (length out))) × (out ≡ savedNumbers numbers out)
-  unfolding savedCheck savedNumbers boardFor
+  unfolding savedCheck savedNumbers
   not-made e =
-      let r : m .refusal ≡ numberOf (numbersCheck numbers) = ap (λ (x : BoardAnswer). x .refusal) made in
-      let refused : doneOf (numbersCheck numbers) ≡ false = ne-eqb _ _ (λ q. e (r ∙ q)) in
-      (rw (refused, r), rw (refused, refused))
+      let r = made-refused numbers made e in
+      (rw (r .1, r .0), rw (r .1, r .1))
 
   pub numbers-again : m .refusal ≡ 0 → {a : Answer} {x : List ℕ} → (a ≡ answerOf (numbersOfCheck (m .board) (length out))) × (x ≡ numbersOf (m .board) out)
       → (a ≡ answerOf (savedCheck numbers (length out))) × (x ≡ savedNumbers numbers out)
