@@ -12,4 +12,5 @@ pub mod Frames
 pub mod Rows
 pub mod FromC
 pub mod FilesFromC
+pub mod Numbers
 pub mod Worked

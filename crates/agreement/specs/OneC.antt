@@ -15,7 +15,7 @@ use Rattle.shape.specs.Font.{Font, fontRefused}
 use Rattle.place.specs.State.{stateOf}
 use Rattle.files.specs.File.{readCheck, charsRead, attrsRead}
 use Rattle.files.specs.FontFile.{fontCheck, fontRead}
-use Rattle.numbers.specs.Numbers.{numbersCheck}
+use Rattle.numbers.specs.Numbers.{numbersCheck, numbersOfCheck, numbersOf}
 use Rattle.numbers.specs.Files.{pageReadSize, numbersRead, pageWriteCheck, pageWritten}
 use Rattle.feldrime.specs.declared.Answer.{Answer}
 use Rattle.feldrime.specs.declared.CellsAnswer.{CellsAnswer}
@@ -76,6 +76,10 @@ row-cells-for-c-one numbers chars row cells = only-both (cellsFor numbers chars 
 
 pub board-of-one : (numbers : List ℕ) → OneAnswer (λ r. r ≡ boardFor numbers)
 board-of-one numbers = only (boardFor numbers)
+
+pub numbers-of-for-c-one : (b : Board) (numbers : List ℕ)
+    → OneAnswer (λ (r : Answer × List ℕ). (r .0 ≡ answerOf (numbersOfCheck b (length numbers))) × (r .1 ≡ numbersOf b numbers))
+numbers-of-for-c-one b numbers = only-both (answerOf (numbersOfCheck b (length numbers))) (numbersOf b numbers)
 
 pub set-video-for-c-one : (b : Board) (d k bk rb : ℕ)
     → OneAnswer (λ r. r ≡ boardAnswer (setVideoOf b (dots d) k (not (eqb bk 0)) (not (eqb rb 0)) .refusal)

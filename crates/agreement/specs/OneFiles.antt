@@ -16,7 +16,7 @@ use Rattle.files.specs.declared.PageRead.{PageRead}
 use Rattle.files.specs.File.{readCheck, readPageOf, charsRead, attrsRead, writeCheck, written}
 use Rattle.files.specs.FontFile.{fontCheck, fontRead, fontWriteCheck, fontWritten}
 use Rattle.files.specs.Page.{pageAt, boardAt, pageBytes}
-use Rattle.numbers.specs.Numbers.{numbersRefused, numbersCheck}
+use Rattle.numbers.specs.Numbers.{numbersRefused, numbersCheck, numbersOfCheck, numbersOf}
 use Rattle.numbers.specs.Files.{pageReadSize, numbersRead, pageWriteCheck, pageWritten}
 use Rattle.listing_lines.specs.declared.Listed.{Listed}
 use Rattle.listing_lines.specs.Listing.{listingHead, listingLine, headCheck, lineCheck, listedOf, listedIn}
@@ -87,6 +87,11 @@ read-file-one file numbers chars attrs =
 pub write-file-one : (numbers chars attrs out : List ℕ)
     → OneAnswer (λ (r : Refusal × List ℕ). (r .0 ≡ pageWriteCheck numbers (length chars) (length attrs) (length out)) × (r .1 ≡ pageWritten numbers chars attrs out))
 write-file-one numbers chars attrs out = only-both (pageWriteCheck numbers (length chars) (length attrs) (length out)) (pageWritten numbers chars attrs out)
+
+-- the refusal and the numbers
+pub numbers-of-one : (b : Board) (numbers : List ℕ)
+    → OneAnswer (λ (r : Refusal × List ℕ). (r .0 ≡ numbersOfCheck b (length numbers)) × (r .1 ≡ numbersOf b numbers))
+numbers-of-one b numbers = only-both (numbersOfCheck b (length numbers)) (numbersOf b numbers)
 
 -- ---- `listing_lines`
 

@@ -16,6 +16,7 @@ use Rattle.step.specs.Step.{stepCheck}
 use Rattle.files.specs.File.{readCheck, fileCheck, lengthRefused, longAt, headOf, fileOf}
 use Rattle.files.specs.Page.{wordAt, pageAt, tailOf}
 use Rattle.files.specs.FontFile.{fontCheck, fontHead}
+use Rattle.numbers.specs.Numbers.{numbersOfCheck}
 use Rattle.numbers.specs.Files.{pageReadSize}
 use Rattle.feldrime.specs.Answers.{answerOf}
 use Rattle.agreement.specs.Cases.{page}
@@ -38,6 +39,11 @@ font = fontOf (replicate 1152 0) (replicate 128 0) (replicate 9 0) (replicate 9 
 pub sheet-taken : stepCheck sheet memory memory font ≡ Done
 unfolding sheet memory font page callCheck pageCheck addressRefused stateRefused
 sheet-taken = refl
+
+-- its numbers are given, so `board-back` and `numbers-back` speak of something
+pub sheet-saved : numbersOfCheck sheet 32 ≡ Done
+unfolding sheet page numbersOfCheck pageCheck addressRefused
+sheet-saved = refl
 
 -- a frame's clocks on, by single steps of the board, frame 1 begins
 pub after-a-frame : (after sheet memory memory font (frameClocks sheet) .place .line .0 ≡ 0)

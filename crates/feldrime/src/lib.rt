@@ -13,7 +13,7 @@ ghost use Rattle.shape.specs.Font.{lentFont, leftFont, fontRefused};
 ghost use Rattle.place.specs.State.{stateOf};
 ghost use Rattle.files.specs.File.{readCheck, charsRead, attrsRead};
 ghost use Rattle.files.specs.FontFile.{fontCheck, fontRead};
-ghost use Rattle.numbers.specs.Numbers.{numbersCheck};
+ghost use Rattle.numbers.specs.Numbers.{numbersCheck, numbersOfCheck, numbersOf};
 ghost use Rattle.numbers.specs.Files.{pageReadSize, numbersRead, pageWriteCheck, pageWritten};
 ghost use Rattle.feldrime.specs.Answers.{answerOf, boardAnswer, byteAnswer};
 ghost use Rattle.feldrime.specs.Pages.{sizeFor, runFor, boardFor};
@@ -300,6 +300,16 @@ pub extern "C" fn feldrime_board_of(numbers: &[u8]) -> BoardAnswer
         return with_board(refused, files::board_at(numbers, 1));
     }
     with_board(refused, board::power())
+}
+
+// A board's page as numbers, the way back.
+#[no_mangle]
+pub extern "C" fn feldrime_numbers_of(b: board::Board, numbers: &mut [u8]) -> Answer
+    ensures { λ r. ⌜ (r ≡ answerOf (numbersOfCheck b (length (now (numbers .entry)))))
+        × (now (numbers .exit) ≡ numbersOf b (now (numbers .entry))) ⌝ }
+{
+    let refused = numbers::numbers_of(b, numbers);
+    answered(refused)
 }
 
 #[no_mangle]

@@ -2,27 +2,32 @@
 --     numbers-put    version, page and zeros, put into a buffer part by part
 --     numbers-page   the numbers of a file are the file's page
 --     file-read, numbers-kept        what a read leaves
+--     saved-page, saved-numbers      a page as numbers is that page, and numbers come back
 use Prim.Native.Nat.{ℕ, _+_, _*_, _<_, _≤_}
 use mathlib.Core.Path.{_≡_, refl, sym, ap, _∙_}
-use mathlib.Core.Bool.{Bool, false, not}
+use mathlib.Core.Bool.{Bool, true, false, not}
 use mathlib.Core.List.{List, [], _∷_, _++_}
 use native.Mathlib.Omega.{arith}
-use borrow.Author.Tests.{eqb-true, not-false}
+use borrow.Author.Tests.{eqb-true, ne-eqb, not-false}
 use lib.Dec.{eqb}
-use lib.ListN.{length, getD, take, drop, replicate, List·getD-append}
-use lib.Seq.{take-append-le, take-take, getD-take, getD-drop}
+use lib.ListN.{length, getD, take, drop, replicate, length-append, List·getD-append}
+use lib.Seq.{take-append-le, take-take, drop-cons, getD-take, getD-drop}
 use Rattle.lists.specs.Choice.{neither}
 use Rattle.units.specs.Units.{dots}
+use Rattle.refusal.specs.declared.Refusal.{Refusal}
 use Rattle.refusal.specs.declared.Refusal.the-variants.{Done, Size}
 use Rattle.refusal.specs.Number.{doneOf}
 use Rattle.refusal.specs.Laws.{passed}
+use Rattle.board.specs.declared.Page.{Page}
+use Rattle.board.specs.declared.Board.{Board}
 use Rattle.board.specs.Range.{memoriesRefused}
 use Rattle.timing.specs.Check.{pageCheck}
 use Rattle.copies.specs.Put.{length-part, putAt, laid-none, put-on, laid-all}
-use Rattle.files.specs.Page.{wordAt, pageAt}
+use Rattle.files.specs.Page.{wordAt, pageAt, pageBytes}
 use Rattle.files.specs.File.{readCheck, charsRead, attrsRead}
-use Rattle.files.specs.Laws.{file-sized, FilePassed, file-passed}
-use Rattle.numbers.specs.Numbers.{numbersRefused, numbersCheck, numbersWith, numbersIn}
+use Rattle.files.specs.Laws.{file-sized, FilePassed, file-passed, bytes-all}
+use Rattle.files.specs.Round.{Bytes, page-from, bytes-again, page-kept}
+use Rattle.numbers.specs.Numbers.{numbersRefused, numbersCheck, numbersWith, numbersIn, pageNumbers, numbersOfCheck, numbersOf}
 use Rattle.numbers.specs.Files.{pageReadSize, numbersRead}
 
 pub numbers-all : (numbers : List ℕ) → numbersRefused numbers ≡ false → length numbers ≡ 32
@@ -90,3 +95,41 @@ module _ (file : List ℕ) (n c a : ℕ) (ok : readCheck file (pageReadSize n c 
 pub numbers-kept : (file : List ℕ) (size : Bool) (numbers₀ : List ℕ) → doneOf (readCheck file size) ≡ false → numbers₀ ≡ numbersRead file size numbers₀
 unfolding numbersRead
 numbers-kept file size numbers₀ t = rw t
+
+-- ---- a board's page as numbers
+
+pub numbers-version : (numbers : List ℕ) → numbersRefused numbers ≡ false → getD numbers 0 0 ≡ 1
+unfolding numbersRefused
+numbers-version numbers e = eqb-true _ _ (not-false _ (neither (not (eqb (length numbers) 32)) (not (eqb (getD numbers 0 0) 1)) e .1))
+
+-- numbers of a page are refused by nothing, and are that page
+module _ (p : Page) (n : length (p .irs) ≡ 15) where
+  pub saved-fine : numbersRefused (pageNumbers p) ≡ false
+  unfolding numbersRefused
+  saved-fine = rw (length-append (pageBytes p) (replicate 7 0), bytes-all p n)
+
+  pub saved-page : pageAt (pageNumbers p) 1 ≡ p
+  saved-page = page-from (pageNumbers p) 1 ∙ page-kept p (replicate 7 0) n
+
+-- the page of numbers, as numbers: those, with zeros where numbers are ignored
+pub saved-numbers : (numbers : List ℕ) → Bytes numbers → length numbers ≡ 32 → getD numbers 0 0 ≡ 1 → pageNumbers (pageAt numbers 1) ≡ take 25 numbers ++ replicate 7 0
+saved-numbers numbers fits n v =
+    ap numbersWith (bytes-again numbers fits 1 (omega (arith, n))) ∙ ap (λ (l : List ℕ). l ++ replicate 7 0) (sym front)
+  where
+    front : take 25 numbers ≡ 1 ∷ take 24 (drop 1 numbers)
+    front = ap (take 25) (drop-cons numbers 0 0 (omega (arith, n))) ∙ rw v
+
+-- what the call leaves
+module _ (b : Board) (numbers₀ : List ℕ) where
+  pub not-room : (length numbers₀ ≡ 32 → ⊥) → (Size ≡ numbersOfCheck b (length numbers₀)) × (numbers₀ ≡ numbersOf b numbers₀)
+  unfolding numbersOfCheck numbersOf
+  not-room e = let t = ne-eqb _ _ e in (rw t, rw t)
+
+  module _ (room : length numbers₀ ≡ 32) {r : Refusal} (e : r ≡ pageCheck (b .page)) where
+    pub saved : doneOf (pageCheck (b .page)) ≡ true → {numbers : List ℕ} → numbers ≡ pageNumbers (b .page) → (r ≡ numbersOfCheck b (length numbers₀)) × (numbers ≡ numbersOf b numbers₀)
+    unfolding numbersOfCheck numbersOf
+    saved t q = (rw room e, rw (room, t) q)
+
+    pub not-saved : doneOf (pageCheck (b .page)) ≡ false → (r ≡ numbersOfCheck b (length numbers₀)) × (numbers₀ ≡ numbersOf b numbers₀)
+    unfolding numbersOfCheck numbersOf
+    not-saved t = (rw room e, rw (room, t))

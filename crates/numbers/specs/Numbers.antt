@@ -7,9 +7,11 @@ use lib.Dec.{eqb}
 use Rattle.lists.specs.Choice.{pick}
 use Rattle.refusal.specs.declared.Refusal.{Refusal}
 use Rattle.refusal.specs.declared.Refusal.the-variants.{Size}
+use Rattle.refusal.specs.Number.{doneOf}
+use Rattle.board.specs.declared.Page.{Page}
 use Rattle.board.specs.declared.Board.{Board}
 use Rattle.timing.specs.Check.{pageCheck}
-use Rattle.files.specs.Page.{pageAt, boardAt}
+use Rattle.files.specs.Page.{pageAt, boardAt, pageBytes}
 
 -- 3: another size than 32 bytes, or an unknown version
 unfoldable pub numbersRefused : List ℕ → Bool
@@ -30,3 +32,17 @@ numbersWith page = 1 ∷ (page ++ replicate 7 0)
 -- those of a page file
 abbrev pub numbersIn : List ℕ → List ℕ
 numbersIn file = numbersWith (take 24 (drop 5 file))
+
+-- those of a page: version 1, IR0 to IR14, screen start 1, cursor and screen start 2 high byte first, switches, dots, strike line, seven zeros
+abbrev pub pageNumbers : Page → List ℕ
+pageNumbers p = numbersWith (pageBytes p)
+
+-- ---- a board's page as numbers
+
+-- 3 where there is room for another number than 32, then the page's own 12, 4, 5, 6; the board's place is not judged
+unfoldable pub numbersOfCheck : Board → (room : ℕ) → Refusal
+numbersOfCheck b room = pick (not (eqb room 32)) Size (pageCheck (b .page))
+
+-- the numbers afterwards: the page's, and on a refusal as they were
+unfoldable pub numbersOf : Board → List ℕ → List ℕ
+numbersOf b numbers = pick (doneOf (numbersOfCheck b (length numbers))) (pageNumbers (b .page)) numbers

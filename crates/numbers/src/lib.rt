@@ -2,7 +2,7 @@
 ghost use mathlib.Core.Path.{_≡_};
 ghost use lib.ListN.{length};
 ghost use Rattle.files.specs.File.{readCheck, charsRead, attrsRead};
-ghost use Rattle.numbers.specs.Numbers.{numbersRefused, numbersWith, numbersCheck};
+ghost use Rattle.numbers.specs.Numbers.{numbersRefused, numbersCheck, numbersWith, numbersOfCheck, numbersOf};
 ghost use Rattle.numbers.specs.Files.{pageReadSize, numbersRead, pageWriteCheck, pageWritten};
 
 // 3, for a page's numbers. The version is looked at only where there is one.
@@ -69,4 +69,20 @@ pub fn write_file(numbers: &[u8], chars: &[u8], attrs: &[u8], out: &mut [u8]) ->
         return refusal::Refusal::Size;
     }
     files::write_page(files::board_at(numbers, 1), chars, attrs, out)
+}
+
+// A board's page as numbers. Nothing else of the board is looked at. A refusal leaves numbers as they were.
+pub fn numbers_of(b: board::Board, numbers: &mut [u8]) -> refusal::Refusal
+    ensures { λ r. ⌜ (r ≡ numbersOfCheck b (length (now (numbers .entry))))
+        × (now (numbers .exit) ≡ numbersOf b (now (numbers .entry))) ⌝ }
+{
+    if numbers.len() != 32 {
+        return refusal::Refusal::Size;
+    }
+    let refused = timing::page_check(b.page);
+    if refusal::is_done(refused) {
+        let bytes = files::page_bytes(b.page);
+        put_numbers(&bytes, numbers);
+    }
+    refused
 }

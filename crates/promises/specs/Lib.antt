@@ -5,3 +5,4 @@ pub mod Registers
 pub mod Runs
 pub mod Texts
 pub mod Numbers
+pub mod Saved

@@ -1,14 +1,14 @@
 -- A page's numbers made a board, written and read again. Assumes nothing.
-use Prim.Native.Nat.{ℕ, _+_, _≤_}
+use Prim.Native.Nat.{ℕ}
 use mathlib.Core.Path.{_≡_, refl, sym, ap, _∙_}
 use mathlib.Core.Bool.{Bool, true, false, not}
-use mathlib.Core.List.{List, [], _∷_, _++_, append-nil}
+use mathlib.Core.List.{List, [], _++_, append-nil}
 use native.Mathlib.Omega.{arith}
-use borrow.Author.Tests.{eq-eqb, ne-eqb, eqb-true, not-false}
+use borrow.Author.Tests.{eq-eqb}
 use lib.Dec.{eqb}
 use lib.ListN.{length, getD, take, drop, replicate}
-use lib.Seq.{take-all, take-at, drop-cons}
-use Rattle.lists.specs.Choice.{pick, neither}
+use lib.Seq.{take-all, take-at}
+use Rattle.lists.specs.Choice.{pick}
 use Rattle.refusal.specs.declared.Refusal.{Refusal}
 use Rattle.refusal.specs.declared.Refusal.the-variants.{Done, Size}
 use Rattle.refusal.specs.Number.{numberOf, doneOf}
@@ -18,20 +18,20 @@ use Rattle.board.specs.Laws.{memories-all}
 use Rattle.timing.specs.Check.{pageCheck, stateRefused, callCheck}
 use Rattle.copies.specs.Put.{length-part}
 use Rattle.files.specs.declared.PageRead.{PageRead}
-use Rattle.files.specs.Page.{pageAt}
+use Rattle.files.specs.Page.{pageAt, pageBytes}
 use Rattle.files.specs.File.{fileCheck, readCheck, readPageOf, headOf, fileOf, writeCheck, written}
-use Rattle.files.specs.Laws.{file-passed}
-use Rattle.files.specs.Round.{Bytes, bytes-again}
-use Rattle.numbers.specs.Numbers.{numbersRefused, numbersBoard, numbersIn, numbersCheck}
+use Rattle.files.specs.Laws.{file-passed, bytes-all}
+use Rattle.files.specs.Round.{Bytes}
+use Rattle.numbers.specs.Numbers.{numbersRefused, numbersBoard, numbersWith, numbersIn, numbersCheck}
 use Rattle.numbers.specs.Files.{pageReadSize, numbersRead}
-use Rattle.numbers.specs.Laws.{numbers-all, numbers-passed}
+use Rattle.numbers.specs.Laws.{numbers-all, numbers-passed, numbers-version, saved-numbers}
 use Rattle.feldrime.specs.declared.Answer.{Answer}
 use Rattle.feldrime.specs.declared.BoardAnswer.{BoardAnswer}
 use Rattle.feldrime.specs.Answers.{answerOf}
 use Rattle.feldrime.specs.Pages.{boardFor}
 use Rattle.agreement.specs.Steps.{range-ok}
 use Rattle.agreement.specs.Files.{length-file, board-same}
-use Rattle.promises.specs.Sizes.{made-done}
+use Rattle.promises.specs.Sizes.{made-refused, made-done}
 
 -- the numbers' own answer, then 3 where a memory or the room for the numbers has another size
 unfoldable pub numbersAgainCheck : (numbers : List ℕ) (chars attrs room : ℕ) → Refusal
@@ -45,17 +45,11 @@ numbersAgain numbers chars attrs out = pick (doneOf (numbersAgainCheck numbers c
 -- ---- the numbers of a page's file are the page's numbers
 
 numbers-of : (xs chars attrs : List ℕ) → Bytes xs → length xs ≡ 32 → getD xs 0 0 ≡ 1 → numbersIn (fileOf (pageAt xs 1) chars attrs) ≡ take 25 xs ++ replicate 7 0
-unfolding fileOf headOf
-numbers-of xs chars attrs fits n v = ap (λ (l : List ℕ). (1 ∷ l) ++ replicate 7 0) part ∙ ap (λ (l : List ℕ). l ++ replicate 7 0) (sym front)
+unfolding fileOf headOf pageAt
+numbers-of xs chars attrs fits n v = ap numbersWith part ∙ saved-numbers xs fits n v
   where
-    rest : List ℕ
-    rest = take 24 (drop 1 xs)
-
-    part : take 24 (drop 5 (headOf (pageAt xs 1) ++ (chars ++ attrs))) ≡ rest
-    part = rw (bytes-again xs fits 1 (omega (arith, n))) (take-at rest (chars ++ attrs) 24 (length-part xs 1 24 (omega (arith, n))))
-
-    front : take 25 xs ≡ 1 ∷ rest
-    front = ap (take 25) (drop-cons xs 0 0 (omega (arith, n))) ∙ rw v
+    part : take 24 (drop 5 (headOf (pageAt xs 1) ++ (chars ++ attrs))) ≡ pageBytes (pageAt xs 1)
+    part = take-at (pageBytes (pageAt xs 1)) (chars ++ attrs) 24 (bytes-all (pageAt xs 1) (length-part xs 1 15 (omega (arith, n))))
 
 -- ---- the write, and the read of what was written
 
@@ -68,11 +62,10 @@ module _ (numbers : List ℕ) (fits : Bytes numbers) (chars attrs out : List ℕ
   Again a x = (a ≡ answerOf (numbersAgainCheck numbers (length chars) (length attrs) (length out))) × (x ≡ numbersAgain numbers (length chars) (length attrs) out)
 
   pub not-made : (m .refusal ≡ 0 → ⊥) → Again (record { refusal = m .refusal; beside = 0 }) out
-  unfolding numbersAgainCheck numbersAgain boardFor
+  unfolding numbersAgainCheck numbersAgain
   not-made e =
-      let r : m .refusal ≡ numberOf (numbersCheck numbers) = ap (λ (x : BoardAnswer). x .refusal) made in
-      let refused : doneOf (numbersCheck numbers) ≡ false = ne-eqb _ _ (λ q. e (r ∙ q)) in
-      (rw (refused, r), rw (refused, refused))
+      let r = made-refused numbers made e in
+      (rw (r .1, r .0), rw (r .1, r .1))
 
   module _ (z : m .refusal ≡ 0) {w : Refusal} {file : List ℕ}
       (wrote : (w ≡ writeCheck (m .board) (length chars) (length attrs) 32797) × (file ≡ written (m .board) chars attrs zeros)) where
@@ -141,12 +134,8 @@ module _ (numbers : List ℕ) (fits : Bytes numbers) (chars attrs out : List ℕ
           let p = file-passed file 32792 false (pageCheck (pageAt file 5)) read-done in
           rw (p .version-ok, p .length-ok, p .rest-ok)
 
-      version : getD numbers 0 0 ≡ 1
-      unfolding numbersRefused
-      version = eqb-true _ _ (not-false _ (neither (not (eqb (length numbers) 32)) (not (eqb (getD numbers 0 0) 1)) (numbers-passed numbers done) .1))
-
       numbers-are : numbersIn file ≡ take 25 numbers ++ replicate 7 0
-      numbers-are = rw file-is (numbers-of numbers chars attrs fits (numbers-all numbers (numbers-passed numbers done)) version)
+      numbers-are = rw file-is (numbers-of numbers chars attrs fits (numbers-all numbers (numbers-passed numbers done)) (numbers-version numbers (numbers-passed numbers done)))
 
       pub numbers-read : {a : Answer} {x : List ℕ}
           → (a ≡ answerOf (readCheck file (pageReadSize (length out) 16384 16384))) × (x ≡ numbersRead file (pageReadSize (length out) 16384 16384) out) → Again a x

@@ -3,7 +3,7 @@ use Prim.Native.Nat.{ℕ}
 use mathlib.Core.Path.{_≡_, refl, sym, ap, _∙_}
 use mathlib.Core.Bool.{Bool, true, false, _&&_, _||_}
 use mathlib.Core.List.{List}
-use borrow.Author.Tests.{eq-eqb}
+use borrow.Author.Tests.{eq-eqb, ne-eqb}
 use lib.Dec.{eqb}
 use Rattle.refusal.specs.declared.Refusal.the-variants.{Done}
 use Rattle.refusal.specs.Number.{numberOf, doneOf}
@@ -35,6 +35,13 @@ pub calls-agree : (numbers : List ℕ) (c : Answer) (s : SizeAnswer) (m : BoardA
     → c ≡ answerOf (numbersCheck numbers) → s ≡ sizeFor numbers → m ≡ boardFor numbers
     → agreed (c .refusal) (s .refusal) (m .refusal) (s .lines) (s .dots) ≡ true
 calls-agree numbers c s m p q r = rw (p, q, r) (agree numbers)
+
+-- numbers that are refused
+pub made-refused : (numbers : List ℕ) {m : BoardAnswer} → m ≡ boardFor numbers → (m .refusal ≡ 0 → ⊥) → (m .refusal ≡ numberOf (numbersCheck numbers)) × (doneOf (numbersCheck numbers) ≡ false)
+unfolding boardFor
+made-refused numbers {m} made e =
+    let r : m .refusal ≡ numberOf (numbersCheck numbers) = ap (λ (x : BoardAnswer). x .refusal) made in
+    (r, ne-eqb _ _ (λ q. e (r ∙ q)))
 
 -- numbers that nothing refuses are made their board
 pub made-done : (numbers : List ℕ) {m : BoardAnswer} → m ≡ boardFor numbers → m .refusal ≡ 0 → (numbersCheck numbers ≡ Done) × (m .board ≡ numbersBoard numbers)

@@ -3,5 +3,6 @@
 pub mod again;
 pub mod kept;
 pub mod runs;
+pub mod saved;
 pub mod sizes;
 pub mod texts;
