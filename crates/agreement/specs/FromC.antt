@@ -45,7 +45,7 @@ use Rattle.agreement.specs.Steps.{call-ok, call-page, after, step-answer
 use Rattle.agreement.specs.Files.{zero-ok}
 use Rattle.agreement.specs.Lines.{clockOf, DrawnFrom, draw-answers, same-line}
 use Rattle.agreement.specs.Pictures.{picture-answers, picture-by-lines, picture-by-steps}
-use Rattle.agreement.specs.Rows.{lineOf, follows, Shown, row-from-table, row-from-start, run-answers, run-shown, CellsShown, cells-shown}
+use Rattle.agreement.specs.Rows.{lineOf, follows, Shown, row-from-table, row-from-start, run-answers, run-shown, cells-shown}
 
 -- a refusal whose number is 0 is none
 pub zero-done : (r : Refusal) → numberOf r ≡ 0 → r ≡ Done

@@ -1,11 +1,10 @@
 -- The sentence for which the project exists. With the row table on, on every line of row r the addresses that `step` puts out, and the cells whose dots
 -- `draw_line` writes, are those that follow from the row's own table entry, whatever the rest of memory holds; with it off, those that follow from screen
 -- start 1. They are the cells that `row_cells` gives, and the run that `row_run` gives is the first of them. Assumes nothing.
-use Prim.Native.Nat.{ℕ, min, _+_, _*_, _/_, _≤_, _<_}
+use Prim.Native.Nat.{ℕ, _+_, _*_, _/_, _≤_, _<_}
 use mathlib.Core.Path.{_≡_, sym, ap, _∙_}
 use mathlib.Core.Bool.{true, false}
 use mathlib.Core.List.{List, _++_}
-use native.Mathlib.Omega.{arith}
 use borrow.Author.Tests.{lt-leb, eq-eqb}
 use lib.Arith.{digits-div, digits-lt}
 use lib.ListN.{length, getD, drop}
@@ -18,7 +17,7 @@ use Rattle.timing.specs.Fields.{hactOf, linesOf, rowsOf, visibleOf, tableOf, bu
 use Rattle.fetch.specs.Rows.{entryOf, rowStart, cellAt}
 use Rattle.fetch.specs.Run.{runCheck, spanOf}
 use Rattle.fetch.specs.RowCells.{cellsOf, cellsCheck, rowOf, cellsGiven, cellsPut}
-use Rattle.fetch.specs.Laws.{cell-moved, start-table, start-sheet}
+use Rattle.fetch.specs.Laws.{cell-along, start-table, start-sheet}
 use Rattle.fetch.specs.RowLaws.{cells-as-run, cells-at, run-at}
 use Rattle.shape.specs.Font.{Font}
 use Rattle.step.specs.Step.{stepCheck}
@@ -41,10 +40,6 @@ module _ (b : Board) (chars attrs : List ℕ) (f : Font) (ok : stepCheck b chars
   line-visible : lineOf b r l < visibleOf (b .page .irs) .0
   line-visible = digits-lt hr hl
 
-  -- the cell of a column, from the row's start
-  from-start : (c : ℕ) → c < hactOf (b .page .irs) → cellAt (b .page) chars r c ≡ follows b (rowStart (b .page) chars r) c
-  from-start c h = let m : min c (hactOf (b .page .irs)) ≡ c = omega arith in sym (rw m at (cell-moved (b .page) chars r c))
-
   -- what `step` puts out on line l of row r
   fetched : (k c : ℕ) → c < hactOf (b .page .irs) → addressAt b chars attrs f k (lineOf b r l) c ≡ cellAt (b .page) chars r c
   fetched k c h = address-is b chars attrs f ok k (lineOf b r l) c line-visible h ∙ rw row-is
@@ -56,8 +51,8 @@ module _ (b : Board) (chars attrs : List ℕ) (f : Font) (ok : stepCheck b chars
 
   shown : (start : ℕ) → start ≡ rowStart (b .page) chars r → Shown start
   shown start begins = record {
-    stepped = λ k c h. fetched k c h ∙ rw begins (from-start c h);
-    drawn = drawn-from b chars attrs f ok (lineOf b r l) line-visible (follows b start) (λ c h. rw (row-is, begins) (sym (from-start c h)));
+    stepped = λ k c h. fetched k c h ∙ rw begins (sym (cell-along (b .page) chars r c h));
+    drawn = drawn-from b chars attrs f ok (lineOf b r l) line-visible (follows b start) (λ c h. rw (row-is, begins) (cell-along (b .page) chars r c h));
   }
 
   -- with the table on: they follow from the row's entry

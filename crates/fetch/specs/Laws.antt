@@ -67,6 +67,10 @@ module _ (p : Page) (chars : List ℕ) (r : ℕ) where
   unfolding cellAt cellOf rowStart countsOf
   cell-moved c = refl
 
+  -- the same within the row
+  pub cell-along : (c : ℕ) → c < hactOf (p .irs) → advanceBy (bufferOf (p .irs)) c (rowStart p chars r) ≡ cellAt p chars r c
+  cell-along c h = let k : min c (hactOf (p .irs)) ≡ c = omega arith in rw k at (cell-moved c)
+
 -- ---- what a row begins with, as the code has it
 
 module _ (p : Page) (chars : List ℕ) (r a : ℕ) where

@@ -7,7 +7,7 @@
 --     cells-at         each element of the buffer that is counted is its column's cell
 --     run-at           the first of these are the row's run
 --     run-least        which has no more cells than the row
-use Prim.Native.Nat.{ℕ, min, _+_, _≤_, _<_}
+use Prim.Native.Nat.{ℕ, _+_, _≤_, _<_}
 use mathlib.Core.Path.{_≡_, refl, sym, ap, _∙_}
 use mathlib.Core.Bool.{Bool, true, false, _||_, or-false}
 use mathlib.Core.List.{List, _++_}
@@ -32,7 +32,7 @@ use Rattle.fetch.specs.declared.RowCells.{RowCells}
 use Rattle.fetch.specs.Rows.{rowStart, cellAt}
 use Rattle.fetch.specs.Run.{runCheck, runCount, spanOf}
 use Rattle.fetch.specs.RowCells.{cellsOf, cellsCheck, rowOf, cellsGiven, cellsPut}
-use Rattle.fetch.specs.Laws.{cell-moved}
+use Rattle.fetch.specs.Laws.{cell-along}
 
 -- the cell c moves from the row's start
 unfoldable pub columnBy : Buffer → (start c : ℕ) → ℕ
@@ -53,11 +53,11 @@ cells-as-run b n row room h = rw (le-ltb room 256 h, or-false (memoryRefused n))
 module _ (p : Page) (chars : List ℕ) (row : ℕ) where
   same-column : (c : ℕ) → c < hactOf (p .irs) → columnBy (bufferOf (p .irs)) (rowStart p chars row) c ≡ cellAt p chars row c
   unfolding columnBy
-  same-column c h = let k : min c (hactOf (p .irs)) ≡ c = omega arith in rw k at (cell-moved p chars row c)
+  same-column = cell-along p chars row
 
   pub cells-walked : tab (hactOf (p .irs)) (columnBy (bufferOf (p .irs)) (rowStart p chars row)) ≡ cellsOf p chars row
   unfolding cellsOf
-  cells-walked = same-tab (hactOf (p .irs)) _ _ same-column
+  cells-walked = same-tab (hactOf (p .irs)) (columnBy (bufferOf (p .irs)) (rowStart p chars row)) (cellAt p chars row) same-column
 
 -- ---- what the call answers and leaves
 

@@ -90,7 +90,7 @@ fn run_count(p: board::Page, start: u16) -> units::Clocks
         .least(units::Clocks(to_last + 1).least(to_top))
 }
 
-// What a call that asks for a row asks beside: whether a lent part has a wrong size.
+// What a call for a row is refused by; whether a lent part has a wrong size is the call's to say.
 fn row_check(b: board::Board, size: bool, row: u32) -> refusal::Refusal
     ensures { λ r. ⌜ r ≡ rowCheck b size row ⌝ }
 {

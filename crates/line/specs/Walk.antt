@@ -1,5 +1,5 @@
 -- The line as the drawer makes it, from the row's cells and the levels of their marks, and that this is the line of `Line.antt`. Assumes nothing.
-use Prim.Native.Nat.{ℕ, min, _+_, _*_, _/_, _%_, _≤_, _<_}
+use Prim.Native.Nat.{ℕ, _+_, _*_, _/_, _%_, _≤_, _<_}
 use mathlib.Core.Path.{_≡_, refl, sym, ap, _∙_}
 use mathlib.Core.Bool.{Bool, true, false, _||_, not, true≢false}
 use mathlib.Core.List.{List, [], _∷_, _++_}
@@ -29,7 +29,7 @@ use Rattle.timing.specs.Fields.{hactOf, rowsOf, linesOf, visibleOf, bufferOf, t
 use Rattle.timing.specs.Check.{pageCheck, stateRefused, callCheck}
 use Rattle.timing.specs.Laws.{Accepted, call-passed}
 use Rattle.fetch.specs.Rows.{rowStart}
-use Rattle.fetch.specs.Laws.{cell-moved}
+use Rattle.fetch.specs.Laws.{cell-along}
 use Rattle.shape.specs.Font.{Font, Whole, fontRefused, positionOf, wordBy}
 use Rattle.shape.specs.Laws.{font-whole}
 use Rattle.video.specs.declared.Scene.{Scene}
@@ -141,9 +141,8 @@ pub column-content : (b : Board) (chars attrs : List ℕ) (f : Font) (line field
     ≡ columnDots b chars attrs f line field c
 unfolding columnDots dotsAt
 column-content b chars attrs f line field c h =
-    let m : min c (hactOf (b .page .irs)) ≡ c = omega arith in
     ap (λ (x : ℕ). scanDots b f (line % linesOf (b .page .irs)) field (contentAt (b .page .starts .cursor) chars attrs x))
-    (rw m at (cell-moved (b .page) chars (line / linesOf (b .page .irs)) c))
+    (cell-along (b .page) chars (line / linesOf (b .page .irs)) c h)
 
 -- what the drawer has before it goes along the line: how many cells, the line's constants, the row's cells, and the levels of the scan line's marks
 pub record Prepared (b : Board) (chars attrs : List ℕ) (f : Font) (line field n : ℕ) (w : Walk) (row looks : List ℕ) : Type 0 where

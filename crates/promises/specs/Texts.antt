@@ -1,5 +1,5 @@
 -- The text that a row shows: a code for each of its columns. Assumes nothing.
-use Prim.Native.Nat.{ℕ, _+_, _≤_, _<_}
+use Prim.Native.Nat.{ℕ, _≤_, _<_}
 use mathlib.Core.Path.{_≡_, refl, sym, ap, _∙_}
 use mathlib.Core.Bool.{Bool, true, false, _&&_}
 use mathlib.Core.List.{List, _++_}
@@ -23,7 +23,7 @@ use Rattle.fetch.specs.RowLaws.{cells-passed, cells-as-run, cells-some, count-s
 use Rattle.copies.specs.Put.{length-part}
 use Rattle.feldrime.specs.declared.CellsAnswer.{CellsAnswer}
 use Rattle.feldrime.specs.declared.RunAnswer.{RunAnswer}
-use Rattle.feldrime.specs.Numbers.{numbersRefused, numbersBoard}
+use Rattle.numbers.specs.Numbers.{numbersRefused, numbersBoard}
 use Rattle.feldrime.specs.Answers.{cellsAnswer}
 use Rattle.feldrime.specs.Pages.{runFor}
 use Rattle.feldrime.specs.RowCells.{cellsFor, cellsPutFor}

@@ -1,5 +1,4 @@
 use Prim.Native.Nat.{_≤_}
-use mathlib.Core.Path.{refl}
 use native.Mathlib.Omega.{arith}
 use borrow.Author.Needs.{needs}
 use denote.Ref.{now}
