@@ -2,7 +2,7 @@
 --     nibble, two-nibbles    a product and a mask put four bits into four bytes (all sixteen cases are tried), and two of them eight bits into eight
 --     spread-ones            these bytes are 0 and 1
 --     mixed                  bytes of 0 and 1 become bytes of two levels
-use mathlib.Core.Path.{_≡_, refl, _∙_}
+use mathlib.Core.Path.{_≡_, refl, sym, _∙_}
 use mathlib.Core.Bool.{Bool, true, _&&_}
 use Prim.Native.Nat.{ℕ, zero, suc, _+_, _*_, _/_, _%_, _-_, _≤_, _<_}
 use native.Mathlib.Nat.{not-suc-le-zero, le-of-suc-le-suc, zero-add, zero-mul, one-mul, add-mul, mul-assoc}
@@ -11,7 +11,7 @@ use borrow.Author.Tests.{eqb-true}
 use lib.Bits.{bitAnd}
 use lib.Dec.{eqb}
 use Rattle.lists.specs.Choice.{both}
-use Rattle.video.specs.Cell.{shadeOf}
+use Rattle.video.specs.Cell.{bits, shadeOf}
 use Rattle.dots.specs.Stores.{spreadOf, blendOf, mixOf}
 
 -- ---- bits to bytes
@@ -54,6 +54,10 @@ low-four : (w : ℕ) → spreadOf 4 (w % 16) ≡ spreadOf 4 w
 unfolding spreadOf
 low-four w = rw (half-of-16 w, half-of-8 (w / 2), half-of-4 (w / 2 / 2), odd-16 w, odd-8 (w / 2), odd-4 (w / 2 / 2), odd-2 (w / 2 / 2 / 2))
 
+pub low-bits : (w : ℕ) → bits 4 (w % 16) ≡ bits 4 w
+unfolding bits
+low-bits w = rw (half-of-16 w, half-of-8 (w / 2), half-of-4 (w / 2 / 2), odd-16 w, odd-8 (w / 2), odd-4 (w / 2 / 2), odd-2 (w / 2 / 2 / 2))
+
 pub nibble : (w : ℕ) → bitAnd (w % 16 * 2113665) 16843009 ≡ spreadOf 4 w
 unfolding spreadOf tried
 nibble w = eqb-true _ _ (each (λ (k : ℕ). eqb (bitAnd (k * 2113665) 16843009) (spreadOf 4 k)) 16 (w % 16) refl (omega arith)) ∙ low-four w
@@ -63,6 +67,18 @@ unfolding spreadOf
 two-nibbles w =
     let e : w / 16 ≡ w / 2 / 2 / 2 / 2 = omega arith in
     rw e (omega arith)
+
+none : spreadOf 4 0 ≡ 0
+unfolding spreadOf
+none = refl
+
+-- four bits are eight of which four are 0
+pub four-of-eight : (w : ℕ) → spreadOf 4 w ≡ spreadOf 8 (w % 16)
+four-of-eight w =
+    let z : w % 16 / 16 ≡ 0 = omega arith in
+    let n : spreadOf 4 0 ≡ 0 = none in
+    let e : spreadOf 4 (w % 16) ≡ spreadOf 4 (w % 16) + spreadOf 4 (w % 16 / 16) * 4294967296 = rw (z, n) (omega arith) in
+    sym (low-four w) ∙ e ∙ two-nibbles (w % 16)
 
 -- ---- bytes of 0 and 1 to bytes of two levels
 

@@ -4,4 +4,4 @@ pub mod Width
 pub mod Bytes
 pub mod Overlap
 pub mod Spread
-pub mod Rest
+pub mod Last

@@ -2,7 +2,7 @@
 -- `Width` and `Spread` tie this to the definition. Assumes nothing.
 use Prim.Native.Nat.{ℕ, zero, suc, _+_, _*_, _-_, _/_, _%_}
 use mathlib.Core.List.{List, [], _∷_, _++_}
-use lib.ListN.{set, take}
+use lib.ListN.{take}
 use lib.Dec.{ltb, leb}
 use Rattle.lists.specs.Choice.{pick}
 use Rattle.video.specs.declared.Look.{Look}
@@ -15,15 +15,6 @@ wideOf w d = pick (ltb 10 d) (2 * w) w
 -- a lit cell shows its symbol's level only
 abbrev pub underOf : Look → ℕ
 underOf k = pick (k .lit) (k .symbol) (k .surround)
-
--- out with v at k, where k is below d
-unfoldable pub putIf : List ℕ → ℕ → ℕ → ℕ → List ℕ
-putIf out k d v = pick (ltb k d) (set out k v) out
-
--- n dots from the low bits of w put at k and on, of those below d
-unfoldable pub puts : (d symbol surround n : ℕ) → List ℕ → (k w : ℕ) → List ℕ
-puts d symbol surround zero out k w = out
-puts d symbol surround (suc n) out k w = puts d symbol surround n (putIf out k d (shadeOf symbol surround (w % 2))) (k + 1) (w / 2)
 
 -- n bits of w, each in a byte of its own, lowest first
 unfoldable pub spreadOf : ℕ → ℕ → ℕ

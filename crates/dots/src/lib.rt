@@ -1,10 +1,10 @@
 // The dots of a cell into a buffer, a byte each and several to a store.
 ghost use mathlib.Core.Path.{_≡_};
 ghost use mathlib.Core.List.{_++_};
-ghost use Prim.Native.Nat.{_≤_, _<_};
-ghost use lib.ListN.{length, drop};
-ghost use Rattle.video.specs.Cell.{shadeOf, cellDots};
-ghost use Rattle.dots.specs.Stores.{wideOf, underOf, putIf, puts, spreadOf, mixOf, bytesOf, overlapOf, dotsBy};
+ghost use Prim.Native.Nat.{_-_, _/_, _^_, _≤_, _<_};
+ghost use lib.ListN.{length, take, drop};
+ghost use Rattle.video.specs.Cell.{cellDots};
+ghost use Rattle.dots.specs.Stores.{wideOf, underOf, spreadOf, mixOf, bytesOf, overlapOf, dotsBy};
 ghost use Rattle.dots.specs.Width.{shades};
 
 // Four bits, each in a byte of its own: the product has each at the lowest place of a byte, which the mask keeps.
@@ -99,45 +99,30 @@ pub fn put_cell(out: &mut [u8], low: u64, high: u64, symbol: u8, surround: u8, d
     }
 }
 
-fn shade(symbol: u8, surround: u8, bit: u16) -> u8
-    ensures { λ r. ⌜ r ≡ shadeOf symbol surround bit ⌝ }
+// The last four dots of a cell with more than eight.
+fn last_four(out: &mut [u8], symbol: u8, surround: u8, w: u16, d: usize)
+    requires { ⌜ (8 ≤ d) × (d ≤ 12) × (d ≤ length (now out)) ⌝ }
+    ensures { λ _. ⌜ now (out .exit) ≡ take (d - 4) (now (out .entry)) ++ (shades symbol surround 4 (w / 2 ^ (d - 4)) ++ drop d (now (out .entry))) ⌝ }
 {
-    if bit == 0 { surround } else { symbol }
+    let e = d - 4;
+    let last = mix(nibble(w >> e), symbol, surround);
+    four(&mut out[e..], last);
 }
 
-// One dot at k, where the cell is that wide.
-fn dot(out: &mut [u8], k: usize, d: usize, symbol: u8, surround: u8, bit: u16)
-    requires { ⌜ d ≤ length (now out) ⌝ }
-    ensures { λ _. ⌜ now (out .exit) ≡ putIf (now (out .entry)) k d (shadeOf symbol surround bit) ⌝ }
-{
-    if k < d {
-        out[k] = shade(symbol, surround, bit);
-    }
-}
-
-// The dots after the first eight, of those that the cell has.
-fn rest(out: &mut [u8], d: usize, symbol: u8, surround: u8, w: u16)
-    requires { ⌜ d ≤ length (now out) ⌝ }
-    ensures { λ _. ⌜ now (out .exit) ≡ puts d symbol surround 4 (now (out .entry)) 8 w ⌝ }
-{
-    dot(out, 8, d, symbol, surround, w % 2);
-    dot(out, 9, d, symbol, surround, w / 2 % 2);
-    dot(out, 10, d, symbol, surround, w / 4 % 2);
-    dot(out, 11, d, symbol, surround, w / 8 % 2);
-}
-
-// A cell from its word. To spread its last dots too would cost more than it saves.
+// A cell from its word. To spread the last eight dots too would cost more than it saves: four reach, and overlap.
 pub fn write_cell(out: &mut [u8], symbol: u8, surround: u8, word: u16, d: usize)
     requires { ⌜ (word < 1024) × (6 ≤ d) × (d ≤ 12) × (d ≤ length (now out)) ⌝ }
     ensures { λ _. ⌜ now (out .exit) ≡ shades symbol surround d (wideOf word d) ++ drop d (now (out .entry)) ⌝ }
 {
     let w = wide(word, d);
     let first = mix(spread(w), symbol, surround);
-    if d < 8 {
+    if d == 8 {
+        eight(out, first);
+    } else if d < 8 {
         narrow(out, first, d);
     } else {
         eight(out, first);
-        rest(out, d, symbol, surround, w / 256);
+        last_four(out, symbol, surround, w, d);
     }
 }
 

@@ -1,10 +1,10 @@
 -- What callers use of a font: which parts were passed, and that a word has ten bits. Assumes nothing.
-use Prim.Native.Nat.{ℕ, _+_, _*_, _%_, _<_}
+use Prim.Native.Nat.{ℕ, _+_, _*_, _%_, _≤_, _<_}
 use mathlib.Core.Path.{_≡_}
 use mathlib.Core.Bool.{false, _||_, not}
 use mathlib.Core.List.{List}
 use native.Mathlib.Omega.{arith}
-use borrow.Author.Tests.{eqb-true, not-false}
+use borrow.Author.Tests.{eqb-true, not-false, le-ltb, eq-eqb, ne-eqb}
 use lib.ListN.{length, getD}
 use lib.Dec.{eqb, ltb}
 use Rattle.lists.specs.Choice.{pick, neither, pick-lt}
@@ -38,3 +38,13 @@ by-small words flags plain moved code =
 pub word-of-small : (f : Font) (code scan : ℕ) → wordOf f code scan < 1024
 unfolding wordOf
 word-of-small f code scan = by-small (f .words) (f .flags) (positionOf (f .unshifted) scan) (positionOf (f .shifted) scan) code
+
+-- the shift flag chooses the position
+module _ (words flags : List ℕ) (plain moved code : ℕ) (shown : 128 ≤ code) where
+  pub by-plain : getD flags (code % 128) 0 ≡ 0 → fontWord words (code % 128) plain ≡ wordBy words flags plain moved code
+  unfolding wordBy
+  by-plain e = rw (le-ltb code 128 shown, eq-eqb _ _ e)
+
+  pub by-moved : (getD flags (code % 128) 0 ≡ 0 → ⊥) → fontWord words (code % 128) moved ≡ wordBy words flags plain moved code
+  unfolding wordBy
+  by-moved e = rw (le-ltb code 128 shown, ne-eqb _ _ e)

@@ -54,7 +54,7 @@ pub fn word_by(words: &[u16], flags: &[u8], plain: usize, moved: usize, code: u8
     }
 }
 
-// The word that a code shows on a scan line.
+// The word that a code shows on a scan line. Only the list that its flag chooses is searched.
 pub fn word_of(
     code: u8,
     scan: units::Lines,
@@ -66,7 +66,13 @@ pub fn word_of(
     requires { ⌜ Whole (fontNow words flags unshifted shifted) ⌝ }
     ensures { λ r. ⌜ r ≡ wordOf (lentFont words flags unshifted shifted) code (scan .0) ⌝ }
 {
-    let plain = position(unshifted, scan);
-    let moved = position(shifted, scan);
-    word_by(words, flags, plain, moved, code)
+    if code < 128 {
+        return 0;
+    }
+    let character = (code % 128) as usize;
+    if flags[character] == 0 {
+        font_word(words, character, position(unshifted, scan))
+    } else {
+        font_word(words, character, position(shifted, scan))
+    }
 }

@@ -8,7 +8,10 @@ use native.Mathlib.Omega.{arith}
 use lib.Dec.{eqb}
 use lib.ListN.{length, getD, replicate, drop, length-map}
 use Rattle.lists.specs.Choice.{pick, neither}
+use Rattle.refusal.specs.declared.Refusal.{Refusal}
 use Rattle.refusal.specs.declared.Refusal.the-variants.{Done}
+use Rattle.refusal.specs.Number.{doneOf}
+use Rattle.refusal.specs.Laws.{done-is}
 use Rattle.board.specs.declared.Place.{Place}
 use Rattle.board.specs.declared.Board.{Board}
 use Rattle.board.specs.Range.{memoriesRefused}
@@ -30,8 +33,9 @@ use Rattle.place.specs.State.{withPlace}
 use Rattle.place.specs.Laws.{one-clock, loaded-lt}
 use Rattle.step.specs.declared.Signals.{Signals}
 use Rattle.step.specs.declared.Stepped.{Stepped}
+use Rattle.step.specs.declared.Clock.{Clock}
 use Rattle.step.specs.Signals.{scanIn, signalsOf, padded, clockDots}
-use Rattle.step.specs.Step.{steppedOf, Fit}
+use Rattle.step.specs.Step.{steppedOf, stepCheck, noSignals, stepRefused, stepOf, clockIn, Fit}
 
 -- ---- dots
 
@@ -100,9 +104,33 @@ module _ (b : Board) (chars attrs : List ℕ) (f : Font) where
     unfolding clockDots
     dots-blank t q = rw t (rw e at q)
 
-  -- the parts of a step put together
-  pub stepped : (c : Carried) → c ≡ loadedIn (b .page) chars (b .place) → (q : Place) → q ≡ turnedIn (b .page) (b .place) (movedIn (b .page) (b .place) c)
-      → (s : Signals) → s ≡ signalsOf b (c .beam .address) → (d : List ℕ) → d ≡ clockDots b chars attrs f (c .beam .address) → (n : Board) → n ≡ withPlace b q
-      → _≡_ {A = Stepped} (record { refusal = Done; signals = s; address = c .beam .address; dots = d; board = n }) (steppedOf b chars attrs f)
+  -- the parts of a clock put together
+  pub clocked : (c : Carried) → c ≡ loadedIn (b .page) chars (b .place) → (q : Place) → q ≡ turnedIn (b .page) (b .place) (movedIn (b .page) (b .place) c)
+      → (s : Signals) → s ≡ signalsOf b (c .beam .address) → (d : List ℕ) → d ≡ clockDots b chars attrs f (c .beam .address)
+      → _≡_ {A = Clock} (record { signals = s; address = c .beam .address; dots = d; place = q }) (clockIn (steppedOf b chars attrs f))
   unfolding steppedOf
-  stepped c ec q eq s es d ed n en = rw (en, eq, es, ed, ec, one-clock (b .page) chars (b .place))
+  clocked c ec q eq s es d ed = rw (eq, es, ed, ec, one-clock (b .page) chars (b .place))
+
+  pub clock-done : doneOf (stepCheck b chars attrs f) ≡ true → (c : Clock) → c ≡ clockIn (steppedOf b chars attrs f) → c ≡ clockIn (stepOf b chars attrs f)
+  unfolding stepOf
+  clock-done e c h = rw e h
+
+  pub clock-refused : doneOf (stepCheck b chars attrs f) ≡ false
+      → _≡_ {A = Clock} (record { signals = noSignals; address = 0; dots = replicate 12 0; place = b .place }) (clockIn (stepOf b chars attrs f))
+  unfolding stepOf
+  clock-refused e = rw e
+
+  -- a step from its check and its clock
+  abbrev again : Stepped → Stepped
+  again s = record { refusal = stepCheck b chars attrs f; signals = s .signals; address = s .address; dots = s .dots; board = withPlace b (s .board .place) }
+
+  again-by : (t : Bool) → doneOf (stepCheck b chars attrs f) ≡ t → (s : Stepped)
+      → s ≡ pick t (steppedOf b chars attrs f) (stepRefused (stepCheck b chars attrs f) b) → again s ≡ s
+  unfolding steppedOf
+  again-by true e s h = rw (h, done-is (stepCheck b chars attrs f) e)
+  again-by false e s h = rw h
+
+  pub stepped : (r : Refusal) → r ≡ stepCheck b chars attrs f → (c : Clock) → c ≡ clockIn (stepOf b chars attrs f) → (n : Board) → n ≡ withPlace b (c .place)
+      → _≡_ {A = Stepped} (record { refusal = r; signals = c .signals; address = c .address; dots = c .dots; board = n }) (stepOf b chars attrs f)
+  unfolding stepOf
+  stepped r er c ec n en = rw (en, ec, er) (again-by (doneOf (stepCheck b chars attrs f)) refl _ refl)

@@ -15,6 +15,7 @@ use Rattle.shape.specs.Font.{Font, Whole}
 use Rattle.video.specs.At.{lentRefused}
 use Rattle.step.specs.declared.Signals.{Signals}
 use Rattle.step.specs.declared.Stepped.{Stepped}
+use Rattle.step.specs.declared.Clock.{Clock}
 use Rattle.place.specs.Place.{loadedIn, nextPlace}
 use Rattle.place.specs.State.{withPlace}
 use Rattle.step.specs.Signals.{signalsOf, clockDots}
@@ -47,6 +48,10 @@ stepRefused r b = record { refusal = r; signals = noSignals; address = 0; dots =
 unfoldable pub stepOf : Board → (chars attrs : List ℕ) → Font → Stepped
 stepOf b chars attrs f =
     pick (doneOf (stepCheck b chars attrs f)) (steppedOf b chars attrs f) (stepRefused (stepCheck b chars attrs f) b)
+
+-- all of a step but its refusal, and of the board the place only
+abbrev pub clockIn : Stepped → Clock
+clockIn s = record { signals = s .signals; address = s .address; dots = s .dots; place = s .board .place }
 
 -- what a step has once nothing is refused
 pub record Fit (b : Board) (chars attrs : List ℕ) (f : Font) : Type 0 where

@@ -9,7 +9,7 @@ ghost use Rattle.video.specs.Look.{effective, lookOf};
 ghost use Rattle.video.specs.Cell.{cellDots};
 ghost use Rattle.place.specs.Place.{activeAt};
 ghost use Rattle.step.specs.Signals.{scanIn, hsyncIn, vsyncIn, signalsOf, padded, clockDots};
-ghost use Rattle.step.specs.Step.{Fit, steppedOf, stepOf};
+ghost use Rattle.step.specs.Step.{Fit, steppedOf, stepCheck, stepOf, clockIn};
 
 pub struct Signals {
     pub hsync: bool,
@@ -150,8 +150,16 @@ fn clock_dots(
     blank_dots(b, scene.blank)
 }
 
-// A step that nothing refuses.
-fn one_step(
+// What a clock puts out, and the place for the next.
+pub struct Clock {
+    pub signals: Signals,
+    pub address: u16,
+    pub dots: [u8; 12],
+    pub place: board::Place,
+}
+
+// A clock that nothing refuses.
+fn one_clock(
     b: board::Board,
     chars: &[u8],
     attrs: &[u8],
@@ -159,9 +167,9 @@ fn one_step(
     flags: &[u8],
     unshifted: &[u8],
     shifted: &[u8],
-) -> Stepped
+) -> Clock
     requires { ⌜ Fit b (now chars) (now attrs) (fontNow words flags unshifted shifted) ⌝ }
-    ensures { λ r. ⌜ r ≡ steppedOf b (now (chars .entry)) (now (attrs .entry)) (lentFont words flags unshifted shifted) ⌝ }
+    ensures { λ r. ⌜ r ≡ clockIn (steppedOf b (now (chars .entry)) (now (attrs .entry)) (lentFont words flags unshifted shifted)) ⌝ }
 {
     let page = b.page;
     let place = b.place;
@@ -183,16 +191,48 @@ fn one_step(
         shifted,
         address,
     );
-    Stepped {
-        refusal: refusal::Refusal::Done,
+    Clock {
         signals: signals_of(b, scene, active, address),
         address: at,
         dots: dots,
-        board: place::with_place(b, next),
+        place: next,
     }
 }
 
-// One clock: its signals, address and dots, and the board for the next clock.
+// A clock, or where it is refused zeros and the old place.
+fn clock_of(
+    b: board::Board,
+    refused: refusal::Refusal,
+    chars: &[u8],
+    attrs: &[u8],
+    words: &[u16],
+    flags: &[u8],
+    unshifted: &[u8],
+    shifted: &[u8],
+) -> Clock
+    requires { ⌜ refused ≡ stepCheck b (now chars) (now attrs) (fontNow words flags unshifted shifted) ⌝ }
+    ensures { λ r. ⌜ r ≡ clockIn (stepOf b (now (chars .entry)) (now (attrs .entry)) (lentFont words flags unshifted shifted)) ⌝ }
+{
+    if refusal::is_done(refused) {
+        return one_clock(b, chars, attrs, words, flags, unshifted, shifted);
+    }
+    let place = b.place;
+    Clock {
+        signals: Signals {
+            hsync: false,
+            vsync: false,
+            blank: false,
+            cursor: false,
+            blink: false,
+        },
+        address: 0,
+        dots: [0u8; 12],
+        place: place,
+    }
+}
+
+// One clock: its signals, address and dots, and the board for the next clock. Refused or not, the board is put together at one place,
+// so that the compiler leaves the page where it stands.
 pub fn step(
     b: board::Board,
     chars: &[u8],
@@ -206,20 +246,15 @@ pub fn step(
 {
     let size = video::lent_refused(chars, attrs, words, flags, unshifted, shifted);
     let refused = timing::call_check(b, size, false, false);
-    if refusal::is_done(refused) {
-        return one_step(b, chars, attrs, words, flags, unshifted, shifted);
-    }
+    let c = clock_of(b, refused, chars, attrs, words, flags, unshifted, shifted);
+    let signals = c.signals;
+    let dots = c.dots;
+    let place = c.place;
     Stepped {
         refusal: refused,
-        signals: Signals {
-            hsync: false,
-            vsync: false,
-            blank: false,
-            cursor: false,
-            blink: false,
-        },
-        address: 0,
-        dots: [0u8; 12],
-        board: b,
+        signals: signals,
+        address: c.address,
+        dots: dots,
+        board: place::with_place(b, place),
     }
 }

@@ -1,8 +1,8 @@
-use Rattle.step.specs.Laws.{in-frame, address-lt, stepped}
+use Rattle.step.specs.Laws.{in-frame, address-lt, clocked}
 use Rattle.shape.specs.Font.{fontOf}
 use borrow.Author.Needs.{needs}
-use Rattle.step.proofs.one_step.Statement.{statement}
-use Rattle.step.proofs.one_step.Tie as tie
+use Rattle.step.proofs.one_clock.Statement.{statement}
+use Rattle.step.proofs.one_clock.Tie as tie
 
 place-after-requires : tie.Need-place-after-requires
 place-after-requires c κs =
@@ -22,12 +22,11 @@ signals-of-requires c κs = (c .before .before .scene-in .ensures, c .before .ac
 
 returns : tie.Need-returns
 returns c =
-    stepped _ _ _ _ _ (c .before .before .before .before .before .before .loaded-at .ensures) _
-    (c .before .before .before .before .before .place-after .ensures) _ (c .before .signals-of .ensures) _ (c .before .before .clock-dots .ensures) _
-    (c .with-place .ensures)
+    clocked _ _ _ _ _ (c .before .before .before .before .before .loaded-at .ensures) _
+    (c .before .before .before .before .place-after .ensures) _ (c .signals-of .ensures) _ (c .before .clock-dots .ensures)
 
-pub one-step-spec : {M : Type 1} → statement M
-one-step-spec =
+pub one-clock-spec : {M : Type 1} → statement M
+one-clock-spec =
     tie.close
     (tie.spec
     (λ c κs. search needs)
@@ -37,5 +36,4 @@ one-step-spec =
     (λ c. search needs)
     clock-dots-requires
     signals-of-requires
-    (λ c κs. search needs)
     returns)
