@@ -36,7 +36,11 @@ cellBy chars attrs buffer cursor start c = numberFor (contentAt cursor chars att
 abbrev pub levelsBy : Look → ℕ
 levelsBy k = k .symbol + 256 * underOf k
 
--- those of a mark, on a scan line
+-- those of attributes on a scan line, at the cursor's address or not
+unfoldable pub levelsFor : Scene → Bool → ℕ → ℕ
+levelsFor s here attributes = levelsBy (lookOf s attributes (s .gate && here))
+
+-- those of a mark
 unfoldable pub levelsOf : Scene → ℕ → ℕ
 levelsOf s mark = levelsBy (lookOf s mark (s .gate && eqb (mark / 64 % 2) 1))
 
