@@ -55,6 +55,10 @@ partOf word d from = wideOf word d / 2 ^ from
 unfoldable pub spreadBy : (words flags : List ℕ) → (plain moved d from code : ℕ) → ℕ
 spreadBy words flags plain moved d from code = spreadOf 8 (partOf (wordBy words flags plain moved code) d from)
 
+-- of a code below 128
+unfoldable pub noDots : ℕ → ℕ
+noDots code = 0
+
 unfoldable pub spreadsAt : Font → (d from scan : ℕ) → List ℕ
 spreadsAt f d from scan = tab 256 (spreadBy (f .words) (f .flags) (positionOf (f .unshifted) scan) (positionOf (f .shifted) scan) d from)
 
