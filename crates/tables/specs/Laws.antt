@@ -1,14 +1,17 @@
 -- What a drawer makes of a cell's number and the tables is what the scan line makes of the cell. Assumes nothing.
 use Prim.Native.Nat.{ℕ, _+_, _*_, _/_, _%_, _-_, _^_, _≤_, _<_}
-use mathlib.Core.Path.{_≡_, _∙_}
-use mathlib.Core.Bool.{Bool, _&&_}
+use mathlib.Core.Path.{_≡_, sym, ap, ap₂, _∙_}
+use mathlib.Core.Bool.{Bool, true, false, _&&_}
 use mathlib.Core.List.{List, _++_}
-use native.Mathlib.Nat.{div-one}
+use native.Mathlib.Nat.{div-one, zero-div}
 use native.Mathlib.Omega.{arith}
 use borrow.Author.Tests.{lt-ltb}
-use lib.ListN.{length, getD, drop, List·getD-append}
+use lib.Dec.{ltb}
+use lib.ListN.{length, getD, drop, length-append, length-drop, List·getD-append}
+use lib.Seq.{drop-at, drop-append-add, drop-drop}
+use Rattle.lists.specs.Choice.{pick}
 use Rattle.lists.specs.Join.{joined, join-element}
-use Rattle.lists.specs.Tab.{tab, length-tab, getD-tab}
+use Rattle.lists.specs.Tab.{tab, length-tab, getD-tab, same-tab}
 use Rattle.raster.specs.declared.Buffer.{Buffer}
 use Rattle.raster.specs.declared.Cell.{Cell}
 use Rattle.raster.specs.Moves.{cell, advanceBy}
@@ -25,7 +28,7 @@ use Rattle.dots.specs.Stores.{underOf, wideOf, spreadOf, dotsBy}
 use Rattle.dots.specs.Width.{shades, cell-shades}
 use Rattle.dots.specs.Bytes.{spread-ones}
 use Rattle.dots.specs.Spread.{dots-shades}
-use Rattle.tables.specs.Tables.{markOf, numberFor, cellBy, levelsBy, levelsOf, levelsAt, partOf, spreadBy, spreadsAt, lastSpreads}
+use Rattle.tables.specs.Tables.{markOf, numberFor, cellBy, levelsBy, levelsOf, levelsAt, partOf, noDots, spreadBy, spreadsAt, lastSpreads}
 use Rattle.tables.specs.Marks.{mark-look, mark-lt, symbol-byte, under-byte, symbol-of, under-of}
 
 pub length-spreads : (f : Font) (d from s : ℕ) → length (spreadsAt f d from s) ≡ 256
@@ -39,6 +42,38 @@ length-levels b field s = length-tab 128 _
 pub spread-small : (words flags : List ℕ) (plain moved d from code : ℕ) → spreadBy words flags plain moved d from code ≤ 72340172838076673
 unfolding spreadBy
 spread-small words flags plain moved d from code = spread-ones _
+
+-- a code below 128 shows nothing
+zero-part : (t : Bool) (n : ℕ) → pick t (2 * 0) 0 / n ≡ 0
+zero-part true n = zero-div n
+zero-part false n = zero-div n
+
+module _ (words flags : List ℕ) (plain moved d from : ℕ) where
+  unshown : (code : ℕ) → code < 128 → noDots code ≡ spreadBy words flags plain moved d from code
+  unfolding noDots spreadBy partOf wordBy wideOf spreadOf
+  unshown code h = rw (lt-ltb code 128 h, zero-part (ltb 10 d) (2 ^ from))
+
+  low-codes : tab 128 noDots ≡ tab 128 (spreadBy words flags plain moved d from)
+  low-codes = same-tab 128 _ _ unshown
+
+  -- a table that was begun with these
+  module _ (t t1 : List ℕ) (room : 256 ≤ length t) (p : t1 ≡ tab 128 noDots ++ drop 128 t) where
+    pub begun-room : 256 ≤ length t1
+    begun-room =
+        let e : length t1 ≡ length t = ap length p ∙ simp (length-append, length-drop, length-tab) (omega arith) in
+        omega (arith, e)
+
+    pub begun : t1 ≡ tab 128 (spreadBy words flags plain moved d from) ++ drop 128 t1
+    begun =
+        let back : drop 128 t1 ≡ drop 128 t = rw p (drop-at (tab 128 noDots) (drop 128 t) 128 (length-tab 128 noDots)) in
+        p ∙ ap₂ (λ (a b : List ℕ). a ++ b) low-codes (sym back)
+
+    pub ended : (out : List ℕ) → out ≡ tab 256 (spreadBy words flags plain moved d from) ++ drop 256 t1 → out ≡ tab 256 (spreadBy words flags plain moved d from) ++ drop 256 t
+    ended out q =
+        let a : List ℕ = tab 128 noDots in
+        let k : length a ≡ 128 = length-tab 128 noDots in
+        let back : drop 256 t1 ≡ drop 256 t = (rw p (ap (λ (i : ℕ). drop (i + 128) (a ++ drop 128 t)) (sym k)) ∙ drop-append-add a (drop 128 t) 128 ∙ drop-drop 128 128 t) in
+        q ∙ rw back
 
 -- a cell's number taken apart
 module _ (k : Content) (h : k .code < 256) where

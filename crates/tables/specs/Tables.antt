@@ -36,7 +36,11 @@ cellBy chars attrs buffer cursor start c = numberFor (contentAt cursor chars att
 abbrev pub levelsBy : Look → ℕ
 levelsBy k = k .symbol + 256 * underOf k
 
--- those of a mark, on a scan line
+-- those of attributes on a scan line, at the cursor's address or not
+unfoldable pub levelsFor : Scene → Bool → ℕ → ℕ
+levelsFor s here attributes = levelsBy (lookOf s attributes (s .gate && here))
+
+-- those of a mark
 unfoldable pub levelsOf : Scene → ℕ → ℕ
 levelsOf s mark = levelsBy (lookOf s mark (s .gate && eqb (mark / 64 % 2) 1))
 
@@ -50,6 +54,10 @@ partOf word d from = wideOf word d / 2 ^ from
 -- a code's eight dots from a place on, each in a byte of its own, on a scan line
 unfoldable pub spreadBy : (words flags : List ℕ) → (plain moved d from code : ℕ) → ℕ
 spreadBy words flags plain moved d from code = spreadOf 8 (partOf (wordBy words flags plain moved code) d from)
+
+-- of a code below 128
+unfoldable pub noDots : ℕ → ℕ
+noDots code = 0
 
 unfoldable pub spreadsAt : Font → (d from scan : ℕ) → List ℕ
 spreadsAt f d from scan = tab 256 (spreadBy (f .words) (f .flags) (positionOf (f .unshifted) scan) (positionOf (f .shifted) scan) d from)

@@ -8,7 +8,7 @@ ghost use Rattle.lists.specs.Tab.{tab};
 ghost use Rattle.raster.specs.Moves.{Bounded};
 ghost use Rattle.shape.specs.Font.{lentFont};
 ghost use Rattle.dots.specs.Stores.{spreadOf};
-ghost use Rattle.tables.specs.Tables.{cellNumber, cellBy, levelsOf, levelsAt, partOf, spreadBy, spreadsAt, lastSpreads};
+ghost use Rattle.tables.specs.Tables.{cellNumber, cellBy, levelsFor, levelsOf, levelsAt, partOf, noDots, spreadBy, spreadsAt, lastSpreads};
 
 // A cell's code, and 256 times its mark: the six attributes, and 64 where the cursor's address is the cell's.
 fn cell_number(code: u8, attributes: u8, here: bool) -> u16
@@ -47,24 +47,33 @@ pub fn gather(
     }
 }
 
-// The symbol's level of a mark, and 256 times the surround's, which a lit cell shows as its symbol.
-fn levels(s: video::Scene, mark: u8) -> u16
-    ensures { λ r. ⌜ r ≡ levelsOf s mark ⌝ }
+// The symbol's level of six attributes, and 256 times the surround's, which a lit cell shows as its symbol.
+fn levels(s: video::Scene, attributes: u8, here: bool) -> u16
+    ensures { λ r. ⌜ r ≡ levelsFor s here attributes ⌝ }
 {
-    let look = video::look_of(s, mark, s.gate & (mark / 64 % 2 == 1));
+    let look = video::look_of(s, attributes, s.gate & here);
     look.symbol as u16 + 256 * dots::under(look) as u16
 }
 
-// A scan line's table by mark.
+// Half of a scan line's table by mark: the cells at the cursor's address, or the others.
+fn half(table: &mut [u16], s: video::Scene, here: bool)
+    requires { ⌜ 64 ≤ length (now table) ⌝ }
+    ensures { λ _. ⌜ now (table .exit) ≡ tab 64 (levelsFor s here) ++ drop 64 (now (table .entry)) ⌝ }
+{
+    let mut i: usize = 0;
+    while i < 64 {
+        table[i] = levels(s, i as u8, here);
+        i += 1;
+    }
+}
+
+// A scan line's table by mark. In a half the cursor is the same for all, so that the compiler makes vectors of it.
 pub fn looks(table: &mut [u16], s: video::Scene)
     requires { ⌜ 128 ≤ length (now table) ⌝ }
     ensures { λ _. ⌜ now (table .exit) ≡ tab 128 (levelsOf s) ++ drop 128 (now (table .entry)) ⌝ }
 {
-    let mut i: usize = 0;
-    while i < 128 {
-        table[i] = levels(s, i as u8);
-        i += 1;
-    }
+    half(table, s, false);
+    half(&mut table[64..], s, true);
 }
 
 // Those of n scan lines, end to end.
@@ -90,6 +99,18 @@ fn part(word: u16, d: usize, from: usize) -> u16
     dots::wide(word, d) >> from
 }
 
+// The codes below 128, which show nothing.
+fn no_dots(table: &mut [u64])
+    requires { ⌜ 128 ≤ length (now table) ⌝ }
+    ensures { λ _. ⌜ now (table .exit) ≡ tab 128 noDots ++ drop 128 (now (table .entry)) ⌝ }
+{
+    let mut i: usize = 0;
+    while i < 128 {
+        table[i] = 0;
+        i += 1;
+    }
+}
+
 // A scan line's table by code: eight dots from a place on, each in a byte of its own.
 fn spreads(
     table: &mut [u64],
@@ -104,7 +125,8 @@ fn spreads(
     ensures { λ _. ⌜ now (table .exit)
         ≡ tab 256 (spreadBy (now (words .entry)) (now (flags .entry)) plain moved d from) ++ drop 256 (now (table .entry)) ⌝ }
 {
-    let mut i: usize = 0;
+    no_dots(table);
+    let mut i: usize = 128;
     while i < 256 {
         let word = shape::word_by(words, flags, plain, moved, i as u8);
         table[i] = dots::spread(part(word, d, from));

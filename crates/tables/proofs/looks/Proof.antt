@@ -1,48 +1,23 @@
-use Prim.Native.Nat.{_≤_, _-_, zero-le}
-use mathlib.Core.Path.{_≡_, refl}
-use mathlib.Core.List.{_++_}
-use native.Mathlib.Omega.{arith}
 use borrow.Author.Needs.{needs}
-use lib.ListN.{length, drop}
-use Rattle.lists.specs.Tab.{tab, tab-turn, tab-upto}
-use Rattle.tables.specs.Tables.{levelsOf}
+use Rattle.tables.specs.Halves.{halves}
 use Rattle.tables.proofs.looks.Statement.{statement}
 use Rattle.tables.proofs.looks.Tie as tie
 
-abbrev Inv-loop : tie.InvT-loop
-Inv-loop table₀ s i₀ table i = (i ≤ 128) × (length table ≡ length table₀) × (table ≡ tab i (levelsOf s) ++ drop i table₀)
-
-abbrev μ-loop : tie.MeasureT-loop
-μ-loop table₀ s i₀ table i = 128 - i
-
-loop-holds : tie.Need-loop-holds Inv-loop μ-loop
-unfolding tab
-loop-holds c = (zero-le, refl, refl)
-
-loop-again : tie.Need-loop-again Inv-loop μ-loop
-loop-again c =
-    let at = c .before .before in
-    let start = at .before .before in
-    (omega (arith, c .before .loop-test .taken), search needs, tab-turn (levelsOf (start .args .s)) (start .args .table .now) _ (at .loop .i) (at .loop .inv .2) _ (omega (arith, start .pre, c .before .loop-test .taken)) (c .levels .ensures))
-
-returns : tie.Need-returns Inv-loop μ-loop
+returns : tie.Need-returns
 returns c =
-    let at = c .before in
-    tab-upto _ _ _ (at .loop .i) (at .loop .inv .2) 128 (at .loop .inv .0) (c .loop-test .left)
+    let second = c .before .before in
+    let first = second .before .before .before .before in
+    let start = first .before .before .before in
+    halves (start .args .s) (start .args .table .now) _ _ (start .pre) (first .half .ensures) (second .half2 .ensures)
 
 pub looks-spec : {M : Type 1} → statement M
 looks-spec =
     tie.close
     (tie.spec
-    Inv-loop
-    μ-loop
-    loop-holds
-    (λ c. search needs)
     (λ c κs. search needs)
     (λ c. search needs)
     (λ c. search needs)
     (λ c. search needs)
-    (λ c. search needs)
-    loop-again
+    (λ c κs. search needs)
     (λ c. search needs)
     returns)

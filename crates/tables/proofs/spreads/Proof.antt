@@ -1,4 +1,4 @@
-use Prim.Native.Nat.{_≤_, _-_, zero-le}
+use Prim.Native.Nat.{_≤_, _-_}
 use mathlib.Core.Path.{_≡_, refl}
 use mathlib.Core.List.{_++_}
 use native.Mathlib.Omega.{arith}
@@ -7,6 +7,7 @@ use lib.ListN.{length, drop}
 use Rattle.lists.specs.Tab.{tab, tab-turn, tab-upto}
 use Rattle.shape.specs.Laws.{by-small}
 use Rattle.tables.specs.Tables.{spreadBy}
+use Rattle.tables.specs.Laws.{begun-room, begun, ended}
 use Rattle.tables.proofs.spreads.Statement.{statement}
 use Rattle.tables.proofs.spreads.Tie as tie
 
@@ -18,8 +19,10 @@ abbrev μ-loop : tie.MeasureT-loop
 μ-loop table₀ words flags plain moved d from i₀ table i = 256 - i
 
 loop-holds : tie.Need-loop-holds Inv-loop μ-loop
-unfolding tab
-loop-holds c = (zero-le, refl, refl)
+loop-holds c =
+    let begin = c .before .before in
+    let start = begin .before .before .before .before .before in
+    (omega arith, refl, begun _ _ _ _ _ _ (start .args .table .now) _ (start .pre .3) (begin .no-dots .ensures))
 
 part-requires : tie.Need-part-requires Inv-loop μ-loop
 part-requires c κs = (rw (c .word-by .ensures) (by-small _ _ _ _ _), search needs)
@@ -28,18 +31,23 @@ loop-again : tie.Need-loop-again Inv-loop μ-loop
 unfolding spreadBy
 loop-again c =
     let at = c .before .before .before .before in
-    let start = at .before .before .before .before in
-    let a = start .args in (
+    let begin = at .before .before .before in
+    let start = begin .before .before .before .before .before in
+    let a = start .args in
+    let room = begun-room (a .words .now) (a .flags .now) (a .plain) (a .moved) (a .d) (a .from) (a .table .now) _ (start .pre .3) (begin .no-dots .ensures) in (
       omega (arith, c .before .before .before .loop-test .taken),
       search needs,
-      tab-turn (spreadBy (a .words .now) (a .flags .now) (a .plain) (a .moved) (a .d) (a .from)) (a .table .now) _ (at .loop .i) (at .loop .inv .2) _ (omega (arith, start .pre, c .before .before .before .loop-test .taken))
+      tab-turn (spreadBy (a .words .now) (a .flags .now) (a .plain) (a .moved) (a .d) (a .from)) (begin .no-dots .last .0) _ (at .loop .i) (at .loop .inv .2) _ (omega (arith, room, c .before .before .before .loop-test .taken))
           (rw (c .spread .ensures, c .before .part .ensures, c .before .before .word-by .ensures)),
     )
 
 returns : tie.Need-returns Inv-loop μ-loop
 returns c =
     let at = c .before in
-    tab-upto _ _ _ (at .loop .i) (at .loop .inv .2) 256 (at .loop .inv .0) (c .loop-test .left)
+    let begin = at .before .before .before in
+    let start = begin .before .before .before .before .before in
+    ended _ _ _ _ _ _ (start .args .table .now) _ (start .pre .3) (begin .no-dots .ensures) _
+    (tab-upto _ _ _ (at .loop .i) (at .loop .inv .2) 256 (at .loop .inv .0) (c .loop-test .left))
 
 pub spreads-spec : {M : Type 1} → statement M
 spreads-spec =
@@ -47,6 +55,7 @@ spreads-spec =
     (tie.spec
     Inv-loop
     μ-loop
+    (λ c κs. search needs)
     loop-holds
     (λ c. search needs)
     (λ c κs. search needs)
