@@ -44,7 +44,7 @@ use Rattle.feldrime.specs.Step.{numbered, stepNumbers}
 use Rattle.agreement.specs.Steps.{call-ok, call-page, after, step-answers, at-once-anywhere}
 use Rattle.agreement.specs.Files.{zero-ok}
 use Rattle.agreement.specs.Lines.{clockOf, DrawnFrom, draw-answers, same-line}
-use Rattle.agreement.specs.Pictures.{picture-answers, picture-by-lines, picture-by-steps}
+use Rattle.agreement.specs.Pictures.{picture-answers, picture-by-lines, picture-by-steps, picture-from-cells}
 use Rattle.agreement.specs.Rows.{lineOf, follows, Shown, row-from-table, row-from-start, run-answers, run-shown, cells-shown}
 
 -- a refusal whose number is 0 is none
@@ -300,3 +300,15 @@ module _ (numbers chars attrs words flags unshifted shifted : List ℕ) where
             drawn = rw (cells-are cells) (drawn-from-c (lineOf b r l) _ (s .drawn));
             begun = rw (cells-are cells, run-is) (s .begun);
           }
+
+    -- the picture that feldrime_picture_draw leaves is the dots of the cells that feldrime_row_cells gives, row by row, line by line, column by column
+    pub picture-from-cells-from-c : (field : ℕ) (cells : List ℕ) → 256 ≤ length cells → (out : List ℕ) → sizeFor numbers .lines * sizeFor numbers .dots ≤ length out
+        → picturedC field out
+        ≡ joined 0 (rowsOf (b .page .irs)) (λ r. joined 0 (linesOf (b .page .irs)) (λ l.
+        joined 0 (hactOf (b .page .irs)) (λ c. dotsAt b chars attrs f (scanOf l) field (getD (cellsPutFor numbers chars r cells) c 0))))
+        ++ drop (sizeFor numbers .lines * sizeFor numbers .dots) out
+    unfolding cellsPutFor
+    picture-from-cells-from-c field cells wide out room =
+        pictured-is field out
+        ∙ picture-from-cells b chars attrs f step-ok field cells wide out (rw size-from-c at room)
+        ∙ rw (size-from-c, numbers-passed numbers check-ok)

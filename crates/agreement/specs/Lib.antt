@@ -7,9 +7,9 @@ pub mod OneFiles
 pub mod OneC
 pub mod Steps
 pub mod Lines
-pub mod Pictures
 pub mod Frames
 pub mod Rows
+pub mod Pictures
 pub mod FromC
 pub mod FilesFromC
 pub mod Numbers

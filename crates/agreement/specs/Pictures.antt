@@ -1,23 +1,27 @@
--- A picture is its visible lines as the line drawer writes them, and the dots of all active clocks of a frame, in order. Assumes nothing.
-use Prim.Native.Nat.{ℕ, _+_, _*_, _%_, _≤_, _<_}
+-- A picture is its visible lines as the line drawer writes them, the dots of all active clocks of a frame, in order, and the dots of its rows' cells. Assumes nothing.
+use Prim.Native.Nat.{ℕ, _+_, _*_, _/_, _%_, _≤_, _<_}
 use mathlib.Core.Path.{_≡_, sym, ap, _∙_}
 use mathlib.Core.List.{List, _++_}
 use native.Mathlib.Omega.{arith}
 use borrow.Author.Tests.{le-ltb}
-use lib.ListN.{length, take, drop}
+use lib.Arith.{digits-div, digits-mod}
+use lib.ListN.{length, getD, take, drop}
 use lib.Seq.{take-at}
-use Rattle.lists.specs.Join.{joined, same-joined}
+use Rattle.lists.specs.Join.{joined, same-joined, join-all}
 use Rattle.refusal.specs.declared.Refusal.the-variants.{Done}
 use Rattle.board.specs.declared.Board.{Board}
-use Rattle.timing.specs.Fields.{hactOf, visibleOf}
+use Rattle.timing.specs.Fields.{hactOf, linesOf, rowsOf, visibleOf}
+use Rattle.fetch.specs.RowCells.{cellsPut}
+use Rattle.fetch.specs.RowLaws.{cells-at}
 use Rattle.shape.specs.Font.{Font}
-use Rattle.video.specs.At.{lentRefused}
-use Rattle.line.specs.Line.{lineDots, lineLength, drawnOf}
+use Rattle.video.specs.At.{scanOf, dotsAt, lentRefused}
+use Rattle.line.specs.Line.{columnDots, lineDots, lineLength, drawnOf}
 use Rattle.line.specs.Length.{length-line}
 use Rattle.picture.specs.Picture.{pictureDots, pictureLength, pictureCheck, picturedOf}
 use Rattle.step.specs.Step.{stepCheck, stepOf}
 use Rattle.agreement.specs.Steps.{after, fits}
 use Rattle.agreement.specs.Lines.{clockOf, draw-is, stepped-line}
+use Rattle.agreement.specs.Rows.{cells-shown}
 
 module _ (b : Board) (chars attrs : List ℕ) (f : Font) (ok : stepCheck b chars attrs f ≡ Done) where
   -- a buffer with room: nothing is refused, and the picture stands at its front
@@ -60,3 +64,32 @@ module _ (b : Board) (chars attrs : List ℕ) (f : Font) (ok : stepCheck b chars
       picture-is (k % 256) out room
       ∙ ap (λ (d : List ℕ). d ++ drop (pictureLength (b .page)) out)
       (same-joined 0 (visibleOf (b .page .irs) .0) _ _ (λ l _ h. sym (stepped-line b chars attrs f ok k l (omega arith))))
+
+  -- ---- the cells of its rows
+
+  module _ (field : ℕ) (cells : List ℕ) (wide : 256 ≤ length cells) where
+    -- line l of row r from what `row_cells` leaves of the row in a buffer
+    abbrev pub cellLine : (r l : ℕ) → List ℕ
+    cellLine r l = joined 0 (hactOf (b .page .irs)) (λ c. dotsAt b chars attrs f (scanOf l) field (getD (cellsPut b chars r cells) c 0))
+
+    line-from-cells : (r l : ℕ) → r < rowsOf (b .page .irs) → l < linesOf (b .page .irs) → lineDots b chars attrs f (r * linesOf (b .page .irs) + l) field ≡ cellLine r l
+    unfolding lineDots columnDots
+    line-from-cells r l hr hl =
+        let q : (r * linesOf (b .page .irs) + l) / linesOf (b .page .irs) ≡ r = digits-div r hl in
+        let m : (r * linesOf (b .page .irs) + l) % linesOf (b .page .irs) ≡ l = digits-mod r hl in
+        let s = cells-shown b chars attrs f ok r l hr hl cells wide in
+        same-joined 0 (hactOf (b .page .irs)) _ _ (λ c _ h.
+        rw (q, m) (ap (dotsAt b chars attrs f (scanOf l) field) (sym (cells-at b chars r cells c (rw (s .answered) (omega arith))))))
+
+    -- the picture is the dots of the cells that `row_cells` gives, row by row, line by line, column by column; bytes beyond stay
+    pub picture-from-cells : (out : List ℕ) → pictureLength (b .page) ≤ length out
+        → picturedOf b chars attrs f field out
+        ≡ joined 0 (rowsOf (b .page .irs)) (λ r. joined 0 (linesOf (b .page .irs)) (cellLine r)) ++ drop (pictureLength (b .page)) out
+    unfolding pictureDots
+    picture-from-cells out room =
+        picture-is field out room
+        ∙ ap (λ (d : List ℕ). d ++ drop (pictureLength (b .page)) out)
+        (sym
+        (same-joined 0 (rowsOf (b .page .irs)) _ _ (λ r _ hr.
+        same-joined 0 (linesOf (b .page .irs)) _ _ (λ l _ hl. sym (line-from-cells r l (omega arith) (omega arith))))
+        ∙ join-all (λ (line : ℕ). lineDots b chars attrs f line field) (linesOf (b .page .irs)) (rowsOf (b .page .irs))))
