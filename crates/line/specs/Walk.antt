@@ -1,6 +1,6 @@
 -- The line as the drawer makes it, from the row's cells and the levels of their marks, and that this is the line of `Line.antt`. Assumes nothing.
 use Prim.Native.Nat.{ℕ, _+_, _*_, _/_, _%_, _≤_, _<_}
-use mathlib.Core.Path.{_≡_, refl, sym, ap, _∙_}
+use mathlib.Core.Path.{_≡_, refl, ap, _∙_}
 use mathlib.Core.Bool.{Bool, true, false, _||_, not, true≢false}
 use mathlib.Core.List.{List, [], _∷_, _++_}
 use native.Mathlib.Nat.{div-lt-iff-lt-mul}
@@ -55,8 +55,8 @@ dotsFor w looks words flags x =
     shades (getD looks (x / 256) 0 % 256) (getD looks (x / 256) 0 / 256) (w .width .0)
     (wideOf (wordBy words flags (w .plain) (w .moved) (x % 256)) (w .width .0))
 
-unfoldable pub columnBy : Walk → (row looks words flags : List ℕ) → (c : ℕ) → List ℕ
-columnBy w row looks words flags c = dotsFor w looks words flags (getD row c 0)
+unfoldable pub columnFor : Walk → (row looks words flags : List ℕ) → (c : ℕ) → List ℕ
+columnFor w row looks words flags c = dotsFor w looks words flags (getD row c 0)
 
 pub record Ready (w : Walk) (row looks words flags : List ℕ) (n : ℕ) : Type 0 where
   pub least : 6 ≤ w .width .0
@@ -67,13 +67,13 @@ pub record Ready (w : Walk) (row looks words flags : List ℕ) (n : ℕ) : Type 
   pub words-all : length words ≡ 1152
   pub flags-all : length flags ≡ 128
 
-pub length-column : (w : Walk) (row looks words flags : List ℕ) (c : ℕ) → length (columnBy w row looks words flags c) ≡ w .width .0
-unfolding columnBy dotsFor
+pub length-column : (w : Walk) (row looks words flags : List ℕ) (c : ℕ) → length (columnFor w row looks words flags c) ≡ w .width .0
+unfolding columnFor dotsFor
 length-column w row looks words flags c = length-shades _ _ (w .width .0) _
 
 pub as-column : (w : Walk) (row looks words flags : List ℕ) (c : ℕ) (out rest : List ℕ)
-    → out ≡ dotsFor w looks words flags (getD row c 0) ++ rest → out ≡ columnBy w row looks words flags c ++ rest
-unfolding columnBy
+    → out ≡ dotsFor w looks words flags (getD row c 0) ++ rest → out ≡ columnFor w row looks words flags c ++ rest
+unfolding columnFor
 as-column w row looks words flags c out rest e = e
 
 -- ---- the check in two stages, as the code has it: the call's own, then 7 and 8 for the line
@@ -184,8 +184,8 @@ module _ (b : Board) (chars attrs : List ℕ) (f : Font) (line field n : ℕ) (w
   numbered : (c : ℕ) → c < n → getD row c 0 ≡ numberFor (content c)
   numbered c h = gathered chars attrs _ _ _ n row (q .beyond) (q .row-is) c h
 
-  same-column : Accepted (b .page) → (c : ℕ) → c < n → columnBy w row looks (f .words) (f .flags) c ≡ columnDots b chars attrs f line field c
-  unfolding columnBy dotsFor walkOf
+  same-column : Accepted (b .page) → (c : ℕ) → c < n → columnFor w row looks (f .words) (f .flags) c ≡ columnDots b chars attrs f line field c
+  unfolding columnFor dotsFor walkOf
   same-column a c h =
       rw (q .walked, numbered c h, code-of (content c) (bytes _), mark-of (content c) (bytes _))
       (by-word b f scan field a (content c) (getD looks (markOf (content c .attributes) (content c .here)) 0)
@@ -206,7 +206,7 @@ module _ (b : Board) (chars attrs : List ℕ) (f : Font) (line field n : ℕ) (w
     rw (q .walked, q .counted) (k .roomy),
   )
 
-  pub drawn : Accepted (b .page) → (out out₀ : List ℕ) → out ≡ joined 0 n (columnBy w row looks (f .words) (f .flags)) ++ drop (n * w .width .0) out₀
+  pub drawn : Accepted (b .page) → (out out₀ : List ℕ) → out ≡ joined 0 n (columnFor w row looks (f .words) (f .flags)) ++ drop (n * w .width .0) out₀
       → out ≡ lineDots b chars attrs f line field ++ drop (lineLength b) out₀
   unfolding walkOf lineDots
   drawn a out out₀ e =

@@ -10,7 +10,7 @@ ghost use Rattle.timing.specs.Fields.{hactOf, visibleOf};
 ghost use Rattle.timing.specs.Laws.{Accepted};
 ghost use Rattle.video.specs.At.{lentRefused};
 ghost use Rattle.line.specs.Line.{drawCheck, drawnOf, lineDots, lineLength};
-ghost use Rattle.line.specs.Walk.{lastOf, walkOf, dotsFor, columnBy, Ready, Drawn};
+ghost use Rattle.line.specs.Walk.{lastOf, walkOf, dotsFor, columnFor, Ready, Drawn};
 
 // What is the same for all cells of a line: where the scan line stands in the font's two lists, and the width of a cell.
 pub struct Walk {
@@ -45,7 +45,7 @@ fn cells(
     requires { ⌜ Ready w (now row) (now looks) (now words) (now flags) (n .0) ⌝ }
     requires { ⌜ n .0 * w .width .0 ≤ length (now out) ⌝ }
     ensures { λ _. ⌜ now (out .exit)
-        ≡ joined 0 (n .0) (columnBy w (now (row .entry)) (now (looks .entry)) (now (words .entry)) (now (flags .entry)))
+        ≡ joined 0 (n .0) (columnFor w (now (row .entry)) (now (looks .entry)) (now (words .entry)) (now (flags .entry)))
         ++ drop (n .0 * w .width .0) (now (out .entry)) ⌝ }
 {
     let count = n.0 as usize;

@@ -13,17 +13,16 @@ use Rattle.lists.specs.Choice.{neither}
 use Rattle.lists.specs.Join.{joined, same-joined, join-all}
 use Rattle.refusal.specs.declared.Refusal.the-variants.{Done}
 use Rattle.refusal.specs.Number.{doneOf}
-use Rattle.raster.specs.Moves.{advanceBy}
 use Rattle.board.specs.declared.Board.{Board}
 use Rattle.board.specs.declared.Page.{Page}
 use Rattle.board.specs.Range.{memoriesRefused}
 use Rattle.board.specs.Laws.{memories-all}
-use Rattle.timing.specs.Fields.{hactOf, linesOf, rowsOf, bufferOf}
+use Rattle.timing.specs.Fields.{hactOf, linesOf, rowsOf}
 use Rattle.timing.specs.Laws.{Accepted, call-passed, buffer-bounded, dots-bound, visible-bound}
 use Rattle.fetch.specs.Rows.{rowStart}
 use Rattle.shape.specs.Font.{Font, Whole, fontRefused}
 use Rattle.shape.specs.Laws.{font-whole}
-use Rattle.video.specs.At.{Content, lentRefused, contentAt, scanDots}
+use Rattle.video.specs.At.{Content, lentRefused, scanDots}
 use Rattle.tables.specs.Tables.{markOf, numberFor, cellBy, spreadBy, spreadsAt, lastSpreads, levelsAt}
 use Rattle.tables.specs.Marks.{mark-lt}
 use Rattle.tables.specs.Laws.{levels-at, spread-at, spread-small, code-of, mark-of, by-spreads, last-is}
@@ -31,7 +30,7 @@ use Rattle.line.specs.Line.{lineDots, lineLength}
 use Rattle.line.specs.Length.{length-line}
 use Rattle.line.specs.Walk.{Drawn, column-content}
 use Rattle.picture.specs.declared.Plan.{Plan}
-use Rattle.picture.specs.Plan.{planOf, cellDotsOf, rowLine, rowOf, rowAt, Sheet}
+use Rattle.picture.specs.Plan.{planOf, cellDotsOf, rowLine, rowFrom, rowDrawn, Sheet}
 use Rattle.picture.specs.Picture.{pictureDots, pictureLength, pictureCheck, picturedOf}
 
 -- ---- a call that is not refused
@@ -104,24 +103,24 @@ module _ (b : Board) (chars attrs : List ℕ) (f : Font) (field : ℕ) (low high
       same-joined 0 (hactOf (b .page .irs)) _ _ (λ c l u.
       same-cell s _ h (bytes _) ∙ (rw (q, m) at (column-content b chars attrs f (r * n + s) field c (omega arith))))
 
-  same-row : (r : ℕ) → rowAt (planOf (b .page)) (b .page) chars attrs low high looks r ≡ joined 0 n (λ (s : ℕ). lineDots b chars attrs f (r * n + s) field)
-  unfolding rowAt rowOf planOf
+  same-row : (r : ℕ) → rowDrawn (planOf (b .page)) (b .page) chars attrs low high looks r ≡ joined 0 n (λ (s : ℕ). lineDots b chars attrs f (r * n + s) field)
+  unfolding rowDrawn rowFrom planOf
   same-row r = same-joined 0 n _ _ (λ s l u. same-line r s (omega arith))
 
-  same-picture : joined 0 (rowsOf (b .page .irs)) (rowAt (planOf (b .page)) (b .page) chars attrs low high looks) ≡ pictureDots b chars attrs f field
+  same-picture : joined 0 (rowsOf (b .page .irs)) (rowDrawn (planOf (b .page)) (b .page) chars attrs low high looks) ≡ pictureDots b chars attrs f field
   unfolding pictureDots
   same-picture =
       same-joined 0 (rowsOf (b .page .irs)) _ _ (λ r l u. same-row r)
       ∙ join-all (λ (line : ℕ). lineDots b chars attrs f line field) n (rowsOf (b .page .irs))
 
   -- the drawer's own words
-  pub pictured : (p : Plan) (out out₀ : List ℕ) → p ≡ planOf (b .page) → out ≡ joined 0 (p .rows) (rowAt p (b .page) chars attrs low high looks) ++ drop (p .rows * p .size) out₀
+  pub pictured : (p : Plan) (out out₀ : List ℕ) → p ≡ planOf (b .page) → out ≡ joined 0 (p .rows) (rowDrawn p (b .page) chars attrs low high looks) ++ drop (p .rows * p .size) out₀
       → out ≡ pictureDots b chars attrs f field ++ drop (pictureLength (b .page)) out₀
   unfolding planOf
   pictured p out out₀ q e =
       let k : rowsOf (b .page .irs) * (n * (hactOf (b .page .irs) * d)) ≡ pictureLength (b .page) = sym (mul-assoc (rowsOf (b .page .irs)) n (hactOf (b .page .irs) * d)) in
       (rw q at e)
-      ∙ ap (λ (i : ℕ). joined 0 (rowsOf (b .page .irs)) (rowAt (planOf (b .page)) (b .page) chars attrs low high looks) ++ drop i out₀) k
+      ∙ ap (λ (i : ℕ). joined 0 (rowsOf (b .page .irs)) (rowDrawn (planOf (b .page)) (b .page) chars attrs low high looks) ++ drop i out₀) k
       ∙ ap (λ (l : List ℕ). l ++ drop (pictureLength (b .page)) out₀) same-picture
 
 -- what the drawer asks of its tables

@@ -26,8 +26,8 @@ cellDotsOf low high looks d scan x =
 unfoldable pub columnOf : (cells low high looks : List ℕ) → (d scan c : ℕ) → List ℕ
 columnOf cells low high looks d scan c = cellDotsOf low high looks d scan (getD cells c 0)
 
-unfoldable pub lineOf : (cells low high looks : List ℕ) → (n d scan : ℕ) → List ℕ
-lineOf cells low high looks n d scan = joined 0 n (columnOf cells low high looks d scan)
+unfoldable pub lineFrom : (cells low high looks : List ℕ) → (n d scan : ℕ) → List ℕ
+lineFrom cells low high looks n d scan = joined 0 n (columnOf cells low high looks d scan)
 
 pub record Sheet (p : Plan) (low high looks : List ℕ) : Type 0 where
   pub least : 6 ≤ p .dots .0
@@ -57,14 +57,14 @@ as-column cells low high looks d scan c out rest e = e
 
 -- ---- lines and rows
 
-pub length-line : (cells low high looks : List ℕ) (n d w : ℕ) → 6 ≤ d → d ≤ 12 → w ≡ n * d → (s : ℕ) → length (lineOf cells low high looks n d s) ≡ w
-unfolding lineOf
+pub length-line : (cells low high looks : List ℕ) (n d w : ℕ) → 6 ≤ d → d ≤ 12 → w ≡ n * d → (s : ℕ) → length (lineFrom cells low high looks n d s) ≡ w
+unfolding lineFrom
 length-line cells low high looks n d w h m e s =
     length-joined (columnOf cells low high looks d s) d (length-column cells low high looks d s h m) 0 n ∙ sym e
 
 pub as-line : (cells low high looks : List ℕ) (n d w s : ℕ) (out part : List ℕ) → w ≡ n * d
-    → out ≡ joined 0 n (columnOf cells low high looks d s) ++ drop (n * d) part → out ≡ lineOf cells low high looks n d s ++ drop w part
-unfolding lineOf
+    → out ≡ joined 0 n (columnOf cells low high looks d s) ++ drop (n * d) part → out ≡ lineFrom cells low high looks n d s ++ drop w part
+unfolding lineFrom
 as-line cells low high looks n d w s out part h e = rw h e
 
 -- the row that begins at an address
@@ -72,12 +72,12 @@ unfoldable pub rowLine : Plan → (chars attrs low high looks : List ℕ) → (s
 rowLine p chars attrs low high looks start s =
     joined 0 (p .columns .0) (λ (c : ℕ). cellDotsOf low high looks (p .dots .0) s (cellBy chars attrs (p .buffer) (p .cursor) start c))
 
-unfoldable pub rowOf : Plan → (chars attrs low high looks : List ℕ) → (start : ℕ) → List ℕ
-rowOf p chars attrs low high looks start = joined 0 (p .lines .0) (rowLine p chars attrs low high looks start)
+unfoldable pub rowFrom : Plan → (chars attrs low high looks : List ℕ) → (start : ℕ) → List ℕ
+rowFrom p chars attrs low high looks start = joined 0 (p .lines .0) (rowLine p chars attrs low high looks start)
 
 pub same-row : (p : Plan) (chars attrs low high looks cells rest : List ℕ) (start : ℕ) → cells ≡ tab (p .columns .0) (cellBy chars attrs (p .buffer) (p .cursor) start) ++ rest
-    → joined 0 (p .lines .0) (lineOf cells low high looks (p .columns .0) (p .dots .0)) ≡ rowOf p chars attrs low high looks start
-unfolding rowOf rowLine lineOf columnOf
+    → joined 0 (p .lines .0) (lineFrom cells low high looks (p .columns .0) (p .dots .0)) ≡ rowFrom p chars attrs low high looks start
+unfolding rowFrom rowLine lineFrom columnOf
 same-row p chars attrs low high looks cells rest start e =
     same-joined 0 (p .lines .0) _ _ (λ s l u. same-joined 0 (p .columns .0) _ _ (λ c k v. ap (cellDotsOf low high looks (p .dots .0) s) (at c (omega (arith, v)))))
   where
@@ -88,12 +88,12 @@ same-row p chars attrs low high looks cells rest start e =
     at c h = rw e (List·getD-append (tab (p .columns .0) f) rest 0 c (rw (length-tab (p .columns .0) f) h)) ∙ getD-tab (p .columns .0) f c h
 
 pub as-row : (p : Plan) (chars attrs low high looks cells rest : List ℕ) (start : ℕ) (out back : List ℕ) → cells ≡ tab (p .columns .0) (cellBy chars attrs (p .buffer) (p .cursor) start) ++ rest
-    → out ≡ joined 0 (p .lines .0) (lineOf cells low high looks (p .columns .0) (p .dots .0)) ++ back → out ≡ rowOf p chars attrs low high looks start ++ back
+    → out ≡ joined 0 (p .lines .0) (lineFrom cells low high looks (p .columns .0) (p .dots .0)) ++ back → out ≡ rowFrom p chars attrs low high looks start ++ back
 as-row p chars attrs low high looks cells rest start out back e q = q ∙ ap (λ (l : List ℕ). l ++ back) (same-row p chars attrs low high looks cells rest start e)
 
 pub length-row : (p : Plan) (chars attrs low high looks : List ℕ) → 6 ≤ p .dots .0 → p .dots .0 ≤ 12 → p .width ≡ p .columns .0 * p .dots .0 → p .size ≡ p .lines .0 * p .width
-    → (start : ℕ) → length (rowOf p chars attrs low high looks start) ≡ p .size
-unfolding rowOf rowLine cellDotsOf
+    → (start : ℕ) → length (rowFrom p chars attrs low high looks start) ≡ p .size
+unfolding rowFrom rowLine cellDotsOf
 length-row p chars attrs low high looks h m w z start =
     length-joined (rowLine p chars attrs low high looks start) (p .width) each 0 (p .lines .0) ∙ sym z
   where
@@ -101,19 +101,19 @@ length-row p chars attrs low high looks h m w z start =
     each s = length-joined _ (p .dots .0) (λ c. length-dots _ _ _ _ (p .dots .0) m) 0 (p .columns .0) ∙ sym w
 
 -- row r of a page
-unfoldable pub rowAt : Plan → Page → (chars attrs low high looks : List ℕ) → (r : ℕ) → List ℕ
-rowAt p page chars attrs low high looks r = rowOf p chars attrs low high looks (rowStart page chars r)
+unfoldable pub rowDrawn : Plan → Page → (chars attrs low high looks : List ℕ) → (r : ℕ) → List ℕ
+rowDrawn p page chars attrs low high looks r = rowFrom p chars attrs low high looks (rowStart page chars r)
 
 pub length-row-at : (p : Plan) (page : Page) (chars attrs low high looks : List ℕ) → 6 ≤ p .dots .0 → p .dots .0 ≤ 12 → p .width ≡ p .columns .0 * p .dots .0 → p .size ≡ p .lines .0 * p .width
-    → (r : ℕ) → length (rowAt p page chars attrs low high looks r) ≡ p .size
-unfolding rowAt
+    → (r : ℕ) → length (rowDrawn p page chars attrs low high looks r) ≡ p .size
+unfolding rowDrawn
 length-row-at p page chars attrs low high looks h m w z r = length-row p chars attrs low high looks h m w z (rowStart page chars r)
 
 pub as-row-at : (p : Plan) (page : Page) (chars attrs low high looks : List ℕ) (r : ℕ) (start : Cell) (out part : List ℕ) → start ≡ cell (rowStart page chars r) → p .size ≡ p .lines .0 * p .width
-    → out ≡ rowOf p chars attrs low high looks (start .address) ++ drop (p .lines .0 * p .width) part → out ≡ rowAt p page chars attrs low high looks r ++ drop (p .size) part
-unfolding rowAt
+    → out ≡ rowFrom p chars attrs low high looks (start .address) ++ drop (p .lines .0 * p .width) part → out ≡ rowDrawn p page chars attrs low high looks r ++ drop (p .size) part
+unfolding rowDrawn
 as-row-at p page chars attrs low high looks r start out part q z e =
-    (rw q at e) ∙ ap (λ (k : ℕ). rowOf p chars attrs low high looks (rowStart page chars r) ++ drop k part) (sym z)
+    (rw q at e) ∙ ap (λ (k : ℕ). rowFrom p chars attrs low high looks (rowStart page chars r) ++ drop k part) (sym z)
 
 unfoldable pub planOf : Page → Plan
 planOf p = record {

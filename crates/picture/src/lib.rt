@@ -11,7 +11,7 @@ ghost use Rattle.timing.specs.Laws.{Accepted};
 ghost use Rattle.video.specs.At.{lentRefused};
 ghost use Rattle.line.specs.Walk.{lastOf};
 ghost use Rattle.picture.specs.Picture.{pictureCheck, pictureDots, pictureLength, picturedOf};
-ghost use Rattle.picture.specs.Plan.{planOf, columnOf, lineOf, rowOf, rowAt, Sheet};
+ghost use Rattle.picture.specs.Plan.{planOf, columnOf, lineFrom, rowFrom, rowDrawn, Sheet};
 ghost use Rattle.picture.specs.Agree.{Pictured};
 
 // What is the same for all rows: columns, dots a cell, lines a row, rows, the bytes of a line and of a row, the buffer, the cursor.
@@ -69,7 +69,7 @@ fn draw_lines(out: &mut [u8], p: Plan, cells: &[u16], low: &[u64], high: &[u64],
     requires { ⌜ Sheet p (now low) (now high) (now looks) × (length (now cells) ≡ 256) × ((c : ℕ) → c < p .columns .0 → getD (now cells) c 0 < 32768) ⌝ }
     requires { ⌜ p .lines .0 * p .width ≤ length (now out) ⌝ }
     ensures { λ _. ⌜ now (out .exit)
-        ≡ joined 0 (p .lines .0) (lineOf (now (cells .entry)) (now (low .entry)) (now (high .entry)) (now (looks .entry)) (p .columns .0) (p .dots .0))
+        ≡ joined 0 (p .lines .0) (lineFrom (now (cells .entry)) (now (low .entry)) (now (high .entry)) (now (looks .entry)) (p .columns .0) (p .dots .0))
         ++ drop (p .lines .0 * p .width) (now (out .entry)) ⌝ }
 {
     let n = p.lines.0 as usize;
@@ -97,7 +97,7 @@ fn draw_row(
     requires { ⌜ Sheet p (now low) (now high) (now looks) × (length (now chars) ≡ 16384) × (length (now attrs) ≡ 16384) ⌝ }
     requires { ⌜ (start .address < 16384) × (p .lines .0 * p .width ≤ length (now out)) ⌝ }
     ensures { λ _. ⌜ now (out .exit)
-        ≡ rowOf p (now (chars .entry)) (now (attrs .entry)) (now (low .entry)) (now (high .entry)) (now (looks .entry)) (start .address)
+        ≡ rowFrom p (now (chars .entry)) (now (attrs .entry)) (now (low .entry)) (now (high .entry)) (now (looks .entry)) (start .address)
         ++ drop (p .lines .0 * p .width) (now (out .entry)) ⌝ }
 {
     let mut cells = [0u16; 256];
@@ -128,7 +128,7 @@ fn draw_rows(
     requires { ⌜ Sheet p (now low) (now high) (now looks) × (length (now chars) ≡ 16384) × (length (now attrs) ≡ 16384) ⌝ }
     requires { ⌜ Accepted page × (p .rows ≤ 128) × (p .rows * p .size ≤ length (now out)) ⌝ }
     ensures { λ _. ⌜ now (out .exit)
-        ≡ joined 0 (p .rows) (rowAt p page (now (chars .entry)) (now (attrs .entry)) (now (low .entry)) (now (high .entry)) (now (looks .entry)))
+        ≡ joined 0 (p .rows) (rowDrawn p page (now (chars .entry)) (now (attrs .entry)) (now (low .entry)) (now (high .entry)) (now (looks .entry)))
         ++ drop (p .rows * p .size) (now (out .entry)) ⌝ }
 {
     let n = p.rows;

@@ -1,6 +1,6 @@
 -- A line that is drawn again over its picture stands there already. Assumes nothing.
 use Prim.Native.Nat.{ℕ, zero, suc, _+_, _*_, _-_, _≤_, _<_}
-use mathlib.Core.Path.{_≡_, refl, sym, ap, _∙_}
+use mathlib.Core.Path.{_≡_, refl, ap, _∙_}
 use mathlib.Core.Bool.{false}
 use mathlib.Core.List.{List, _++_, append-assoc}
 use native.Mathlib.Nat.{zero-mul, suc-mul, add-zero, zero-add, not-suc-le-zero, le-of-suc-le-suc, mul-le-mul}
@@ -24,7 +24,6 @@ use Rattle.picture.specs.Picture.{pictureDots, pictureLength, pictureCheck, pic
 use Rattle.picture.specs.Agree.{picture-passed}
 use Rattle.step.specs.Step.{stepCheck}
 use Rattle.numbers.specs.Numbers.{numbersRefused, numbersBoard, numbersCheck}
-use Rattle.feldrime.specs.declared.Answer.{Answer}
 use Rattle.feldrime.specs.declared.SizeAnswer.{SizeAnswer}
 use Rattle.feldrime.specs.Answers.{answerOf, sizeAnswer}
 use Rattle.feldrime.specs.Pages.{sizeFor}

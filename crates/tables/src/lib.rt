@@ -7,7 +7,6 @@ ghost use Rattle.lists.specs.Join.{joined};
 ghost use Rattle.lists.specs.Tab.{tab};
 ghost use Rattle.raster.specs.Moves.{Bounded};
 ghost use Rattle.shape.specs.Font.{lentFont};
-ghost use Rattle.dots.specs.Stores.{spreadOf};
 ghost use Rattle.tables.specs.Tables.{cellNumber, cellBy, levelsFor, levelsOf, levelsAt, partOf, noDots, spreadBy, spreadsAt, lastSpreads};
 
 // A cell's code, and 256 times its mark: the six attributes, and 64 where the cursor's address is the cell's.

@@ -6,15 +6,15 @@ use borrow.Author.Needs.{needs}
 use lib.ListN.{drop, length, length-take, length-drop}
 use Rattle.lists.specs.Fill.{Filling}
 use Rattle.lists.specs.Join.{joined, stretch-inside, join-begins, join-turn, join-ends}
-use Rattle.line.specs.Walk.{columnBy, length-column, as-column}
+use Rattle.line.specs.Walk.{columnFor, length-column, as-column}
 use Rattle.line.proofs.cells.Statement.{statement}
 use Rattle.line.proofs.cells.Tie as tie
 
 abbrev Inv-loop : tie.InvT-loop
 Inv-loop out₀ w row looks words flags count d c₀ out c =
     (c ≤ count)
-    × Filling (joined 0 count (columnBy w row looks words flags) ++ drop (count * w .width .0) out₀) out₀ (count * w .width .0) out (c * w .width .0)
-    (joined c (count - c) (columnBy w row looks words flags))
+    × Filling (joined 0 count (columnFor w row looks words flags) ++ drop (count * w .width .0) out₀) out₀ (count * w .width .0) out (c * w .width .0)
+    (joined c (count - c) (columnFor w row looks words flags))
 
 abbrev μ-loop : tie.MeasureT-loop
 μ-loop out₀ w row looks words flags count d c₀ out c = count - c

@@ -5,15 +5,15 @@ use borrow.Author.Needs.{needs}
 use lib.ListN.{drop, length, length-take, length-drop}
 use Rattle.lists.specs.Fill.{Filling}
 use Rattle.lists.specs.Join.{joined, stretch-inside, join-begins, join-turn, join-ends}
-use Rattle.picture.specs.Plan.{lineOf, length-line, as-line}
+use Rattle.picture.specs.Plan.{lineFrom, length-line, as-line}
 use Rattle.picture.proofs.draw_lines.Statement.{statement}
 use Rattle.picture.proofs.draw_lines.Tie as tie
 
 abbrev Inv-loop : tie.InvT-loop
 Inv-loop out₀ p cells low high looks n width s₀ out s =
     (s ≤ n)
-    × Filling (joined 0 n (lineOf cells low high looks (p .columns .0) (p .dots .0)) ++ drop (n * width) out₀) out₀ (n * width) out (s * width)
-    (joined s (n - s) (lineOf cells low high looks (p .columns .0) (p .dots .0)))
+    × Filling (joined 0 n (lineFrom cells low high looks (p .columns .0) (p .dots .0)) ++ drop (n * width) out₀) out₀ (n * width) out (s * width)
+    (joined s (n - s) (lineFrom cells low high looks (p .columns .0) (p .dots .0)))
 
 abbrev μ-loop : tie.MeasureT-loop
 μ-loop out₀ p cells low high looks n width s₀ out s = n - s

@@ -6,15 +6,15 @@ use lib.ListN.{drop, length, length-take, length-drop}
 use Rattle.lists.specs.Fill.{Filling}
 use Rattle.lists.specs.Join.{joined, stretch-inside, join-begins, join-turn, join-ends}
 use Rattle.fetch.specs.Laws.{row-start-lt}
-use Rattle.picture.specs.Plan.{rowAt, length-row-at, as-row-at}
+use Rattle.picture.specs.Plan.{rowDrawn, length-row-at, as-row-at}
 use Rattle.picture.proofs.draw_rows.Statement.{statement}
 use Rattle.picture.proofs.draw_rows.Tie as tie
 
 abbrev Inv-loop : tie.InvT-loop
 Inv-loop out₀ p page chars attrs low high looks n size r₀ out r =
     (r ≤ n)
-    × Filling (joined 0 n (rowAt p page chars attrs low high looks) ++ drop (n * size) out₀) out₀ (n * size) out (r * size)
-    (joined r (n - r) (rowAt p page chars attrs low high looks))
+    × Filling (joined 0 n (rowDrawn p page chars attrs low high looks) ++ drop (n * size) out₀) out₀ (n * size) out (r * size)
+    (joined r (n - r) (rowDrawn p page chars attrs low high looks))
 
 abbrev μ-loop : tie.MeasureT-loop
 μ-loop out₀ p page chars attrs low high looks n size r₀ out r = n - r
