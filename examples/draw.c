@@ -8,12 +8,12 @@
 
 #include "feldrime.h"
 
-/* One byte more than a file has, so that a file that is too long reaches the library as one. */
-static uint8_t page_file[FELDRIME_PAGE_FILE + 1], font_file[FELDRIME_FONT_FILE + 1];
+static feldrime_page page;
+static feldrime_font font;
+static uint8_t picture[FELDRIME_PICTURE];
 
-static uint8_t numbers[FELDRIME_NUMBERS], chars[FELDRIME_MEMORY], attrs[FELDRIME_MEMORY];
-static uint16_t words[FELDRIME_WORDS];
-static uint8_t flags[FELDRIME_FLAGS], unshifted[FELDRIME_LIST], shifted[FELDRIME_LIST];
+/* One byte more than the longer kind of file has, so that a file that is too long reaches the library as one. */
+static uint8_t file[FELDRIME_PAGE_FILE + 1];
 
 static void fail(const char *name)
 {
@@ -21,11 +21,11 @@ static void fail(const char *name)
     exit(1);
 }
 
-static void judge(const char *name, uint32_t refusal)
+static void judge(const char *name, uint32_t refusal, const char *hint)
 {
     if (refusal == FELDRIME_DONE)
         return;
-    fprintf(stderr, "draw: %s: refused %u, %s\n", name, (unsigned)refusal, feldrime_meaning(refusal));
+    fprintf(stderr, "draw: %s: refused %u, %s%s\n", name, (unsigned)refusal, feldrime_meaning(refusal), hint);
     exit(1);
 }
 
@@ -44,55 +44,31 @@ static uint8_t field_of(const char *text)
     return (uint8_t)field;
 }
 
-static size_t read_file(const char *name, uint8_t *bytes, size_t room)
+static size_t read_file(const char *name)
 {
-    FILE *file = fopen(name, "rb");
+    FILE *stream = fopen(name, "rb");
 
-    if (file == NULL)
+    if (stream == NULL)
         fail(name);
-    size_t count = fread(bytes, 1, room, file);
-    if (ferror(file))
+    size_t count = fread(file, 1, sizeof file, stream);
+    if (ferror(stream))
         fail(name);
-    fclose(file);
+    fclose(stream);
     return count;
 }
 
-static void read_page(const char *name)
-{
-    size_t count = read_file(name, page_file, sizeof page_file);
-
-    judge(name, feldrime_page_read(page_file, count, numbers, FELDRIME_NUMBERS, chars, FELDRIME_MEMORY,
-                                   attrs, FELDRIME_MEMORY).refusal);
-}
-
-static void read_font(const char *name)
-{
-    size_t count = read_file(name, font_file, sizeof font_file);
-
-    judge(name, feldrime_font_read(font_file, count, words, FELDRIME_WORDS, flags, FELDRIME_FLAGS,
-                                   unshifted, FELDRIME_LIST, shifted, FELDRIME_LIST).refusal);
-}
-
 /* A PGM picture: a header, then a byte for each dot. */
-static void write_picture(const char *name, uint8_t field)
+static void write_picture(void)
 {
-    static const uint8_t brightness[] = { [FELDRIME_BLACK] = 0, [FELDRIME_GRAY] = 170, [FELDRIME_WHITE] = 255 };
-    feldrime_size size = feldrime_page_size(numbers, FELDRIME_NUMBERS);
+    static const uint8_t brightness[] = { 0, 170, 255 }; /* of black, gray and white */
+    feldrime_size size = feldrime_size_of(&page);
     size_t count = (size_t)size.lines * size.dots;
 
-    judge(name, size.refusal);
-    uint8_t *picture = malloc(count);
-    if (picture == NULL)
-        fail("the picture");
-    judge(name, feldrime_picture_draw(numbers, FELDRIME_NUMBERS, chars, FELDRIME_MEMORY, attrs, FELDRIME_MEMORY,
-                                      words, FELDRIME_WORDS, flags, FELDRIME_FLAGS, unshifted, FELDRIME_LIST,
-                                      shifted, FELDRIME_LIST, field, picture, count).refusal);
     for (size_t i = 0; i < count; i++)
         picture[i] = brightness[picture[i]];
     printf("P5\n%u %u\n255\n", (unsigned)size.dots, (unsigned)size.lines);
     if (fwrite(picture, 1, count, stdout) != count || fflush(stdout) != 0)
         fail("the picture");
-    free(picture);
 }
 
 int main(int count, char *arguments[])
@@ -102,8 +78,13 @@ int main(int count, char *arguments[])
         return 2;
     }
     uint8_t field = field_of(arguments[3]);
-    read_page(arguments[1]);
-    read_font(arguments[2]);
-    write_picture(arguments[1], field);
+    size_t bytes = read_file(arguments[1]);
+    judge(arguments[1], feldrime_read_page(&page, file, bytes).refusal,
+          bytes == FELDRIME_FONT_FILE ? "; it has a font's size: PAGE comes before FONT" : "");
+    bytes = read_file(arguments[2]);
+    judge(arguments[2], feldrime_read_font(&font, file, bytes).refusal,
+          bytes == FELDRIME_PAGE_FILE ? "; it has a page's size: FONT comes after PAGE" : "");
+    judge(arguments[1], feldrime_draw(&page, &font, field, picture, sizeof picture).refusal, "");
+    write_picture();
     return 0;
 }

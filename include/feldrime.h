@@ -1,15 +1,22 @@
 /* Feldrime: the pages of an old terminal board, drawn dot for dot. Link target/staticlib/libfeldrime.a (x86-64).
+   Needs C99 or later, or C++11 or later.
 
-   To draw a page: feldrime_page_read takes a page file apart into the page's numbers and its two memories,
-   feldrime_font_read a font file into the font's four parts. feldrime_page_size tells how many lines the page shows and
-   how many dots a line has. feldrime_picture_draw then draws all lines, from line 0 on, a byte for each dot, as they look
-   in one field. What blinks goes by the field count, which is the frame's number modulo 256; a still picture is field 0.
-   examples/draw.c does just this. feldrime_line_draw draws a single line, and feldrime_row_cells tells which cells of the
-   memories a row shows.
+   To draw a page, three calls:
+
+     feldrime_read_page(&page, bytes, count)                        takes a page file apart
+     feldrime_read_font(&font, bytes, count)                        takes a font file apart
+     feldrime_draw(&page, &font, field, picture, sizeof picture)    draws all lines, a byte for each dot
+
+   feldrime_size_of(&page) tells how many lines the picture has and how many dots a line has. What blinks goes by the
+   field count, which is the frame's number modulo 256; a still picture is field 0. examples/draw.c does just this.
+   feldrime_draw_line draws a single line, feldrime_cells_of tells which cells of the memories a row shows, and
+   feldrime_write_page makes a page file. All these are short forms of calls over plain buffers, which stand before them
+   and say what is refused. The calls for an editor, which steps a board clock by clock, come last.
 
    For every call:
    - A slice is a pointer and a count of elements, not of bytes. The pointer is NULL only where the count is 0; words and
      cells are aligned as uint16_t is. Each count is checked: one that is wrong for the call is refused.
+   - A pointer without a count (board, page, font) is never NULL and points to one such struct.
    - A buffer that is written overlaps no other buffer of the call.
    - A refused call leaves every lent buffer as it was. What stands beyond a drawn picture or line, a row's cells or a
      written file stays.
@@ -29,6 +36,11 @@
 extern "C" {
 #endif
 
+/* The version of this header and of the archive that it belongs to. While it stays, all that is said here stays, though
+   calls may be added. With another version calls, structs, sizes and refusal numbers may be others, and so may what is
+   accepted and drawn: a program is then read through and compiled again. Files have versions of their own. */
+#define FELDRIME_VERSION 1
+
 /* The sizes of buffers, in elements. */
 enum {
     FELDRIME_NUMBERS = 32,      /* a page's numbers */
@@ -37,6 +49,7 @@ enum {
     FELDRIME_FLAGS = 128,       /* its shift flags */
     FELDRIME_LIST = 9,          /* its unshifted and its shifted list of line numbers */
     FELDRIME_LINE = 3072,       /* room for the longest line: 256 cells of 12 dots */
+    FELDRIME_PICTURE = 6291456, /* room for the largest picture: 2048 such lines */
     FELDRIME_CELLS = 256,       /* room for the cells of the longest row */
     FELDRIME_PAGE_FILE = 32797, /* a page file has exactly so many bytes */
     FELDRIME_FONT_FILE = 2455   /* and a font file so many */
@@ -60,34 +73,35 @@ enum {
     FELDRIME_REFUSED_ADDRESS = 12
 };
 
-/* What a refusal number means, in words. */
+/* What a refusal number means, in words that name all its causes. */
 static inline const char *feldrime_meaning(uint32_t refusal)
 {
     switch (refusal) {
     case FELDRIME_DONE:
         return "done";
     case FELDRIME_REFUSED_VERSION:
-        return "the version byte is missing or not 1";
+        return "the file is empty, or its version byte is not 1";
     case FELDRIME_REFUSED_LENGTH:
-        return "the length field or the number of bytes is wrong";
+        return "the length field is wrong, or the file has too few or too many bytes";
     case FELDRIME_REFUSED_SIZE:
-        return "a buffer has the wrong size, or the page's numbers have an unknown version";
+        return "a buffer has the wrong size or no room for the file, or the page's numbers do not begin with version 1";
     case FELDRIME_REFUSED_RESERVED:
         return "doubled rows (IR0[7]) or interlace (IR1[7]) is set";
     case FELDRIME_REFUSED_PORCH:
-        return "the back porch code is 0, or the front porch is below 2 clocks";
+        return "the back porch code (IR2[2:0]) is 0, or the front porch is below 2 clocks";
     case FELDRIME_REFUSED_WIDTH:
         return "the dots of a cell are not 6 to 12";
     case FELDRIME_REFUSED_RANGE:
-        return "a line, a row, or a board's line, clock, address, row start or IR pointer is out of range";
+        return "the line or row asked for, or a board's line, clock, address, row start or IR pointer, is out of range";
     case FELDRIME_REFUSED_ROOM:
         return "the buffer for the line or the picture is too short";
     case FELDRIME_REFUSED_REGISTER:
         return "the register address is above 7";
     case FELDRIME_REFUSED_COMMAND:
-        return "the command is not carried, or loads 15 into the IR pointer";
+        return "the command is not carried, or it loads 15 into the IR pointer";
     case FELDRIME_REFUSED_ADDRESS:
-        return "a start or cursor address is above 16383, a switch of 4 to 7 is set, or the strike line is above 15";
+        return "screen start 1, screen start 2 or the cursor address is above 16383, "
+               "one of the switches 4 to 7 is set, or the strike line is above 15";
     default:
         return "no refusal has this number";
     }
@@ -111,7 +125,7 @@ static inline const char *feldrime_meaning(uint32_t refusal)
      IR1[7]; [6:0]               must be 0; EC, n + 1
      IR2[7]; [6:3]; [2:0]        row table on; HSYNC, 2n + 2; HBP, 4n - 1, n not 0
      IR3[7:5]; [4:0]             VFP, 4n + 4; VBP, 2n + 4
-     IR4[7]; [6:0]               blink over 64 or, if 1, 128 fields; rows, n + 1
+     IR4[7]; [6:0]               BLINK over 64 or, if 1, 128 fields; rows, n + 1
      IR5                         HACT, the cells in a row, n + 1
      IR6[7:4]; [3:0]             first and last cursor line
      IR7[7:6]; [5]; [4]; [3:0]   VSYNC 3, 1, 5, 7; cursor blinks; over 32 or, if 1, 64 fields; underline line
@@ -128,6 +142,17 @@ static inline const char *feldrime_meaning(uint32_t refusal)
 
    A character byte is 80 hex + the character; below 80 hex the cell has no character. An attribute byte: bit 0 reverse,
    1 blank, 2 blink, 3 underline, 4 highlight (white for gray), 5 strike, and 7, without which the cell has none of them.
+
+   A cell's symbol is gray, or white if highlighted, on black. BKGND, reverse and the cursor each exchange the two, so
+   that two of them cancel. On the underline line underline makes all dots of the cell symbol, on the strike line strike
+   does. Blank hides the symbol, and so does blink while BLINK is on. The cursor, if its switch is on, stands on every
+   cell whose address is the cursor address, from the first to the last cursor line; where the first is above the last
+   there is none. With the display off every dot is black, or gray where BKGND is on and RBLANK off.
+
+   BLINK is on in the last quarter of its period: in fields 48 to 63 of each 64, or 96 to 127 of each 128. A cursor that
+   blinks is on in the first half of its own: in fields 0 to 15 of each 32, or 0 to 31 of each 64. So a picture can
+   change only at a field that 16 divides, and after 128 fields it is the same again: fields 0, 16, 32 .. 112 show all
+   looks of a page.
 
    A font word has the leftmost dot in bit 0, and ten bits count. Word i of a character appears on the scan line that
    position i of a list names: of the shifted list where the character's flag is not 0, else of the unshifted one. */
@@ -223,8 +248,103 @@ feldrime_cells feldrime_row_cells(
     uint32_t row,
     uint16_t *cells, size_t cells_count);
 
-/* The whole state of a board, for an editor that steps it clock by clock. Any numbers may be handed over: the calls judge
-   them. Compare boards field by field, since there are unused bytes between the fields. */
+/* ---- short forms: a page and a font as structs ---- */
+
+/* Some 32 KB, so better static or allocated than on a small stack. The parts may be read and changed at will: typing is
+   writing into chars and attrs, and the next call shows it. */
+typedef struct {
+    uint8_t numbers[FELDRIME_NUMBERS];
+    uint8_t chars[FELDRIME_MEMORY];
+    uint8_t attrs[FELDRIME_MEMORY];
+} feldrime_page;
+
+typedef struct {
+    uint16_t words[FELDRIME_WORDS];
+    uint8_t flags[FELDRIME_FLAGS];
+    uint8_t unshifted[FELDRIME_LIST];
+    uint8_t shifted[FELDRIME_LIST];
+} feldrime_font;
+
+/* feldrime_page_read */
+static inline feldrime_answer feldrime_read_page(
+    feldrime_page *page,
+    const uint8_t *file, size_t file_count)
+{
+    return feldrime_page_read(file, file_count, page->numbers, FELDRIME_NUMBERS, page->chars, FELDRIME_MEMORY,
+                              page->attrs, FELDRIME_MEMORY);
+}
+
+/* feldrime_page_write */
+static inline feldrime_answer feldrime_write_page(
+    const feldrime_page *page,
+    uint8_t *out, size_t out_count)
+{
+    return feldrime_page_write(page->numbers, FELDRIME_NUMBERS, page->chars, FELDRIME_MEMORY,
+                               page->attrs, FELDRIME_MEMORY, out, out_count);
+}
+
+/* feldrime_font_read */
+static inline feldrime_answer feldrime_read_font(
+    feldrime_font *font,
+    const uint8_t *file, size_t file_count)
+{
+    return feldrime_font_read(file, file_count, font->words, FELDRIME_WORDS, font->flags, FELDRIME_FLAGS,
+                              font->unshifted, FELDRIME_LIST, font->shifted, FELDRIME_LIST);
+}
+
+/* feldrime_page_size */
+static inline feldrime_size feldrime_size_of(
+    const feldrime_page *page)
+{
+    return feldrime_page_size(page->numbers, FELDRIME_NUMBERS);
+}
+
+/* feldrime_picture_draw */
+static inline feldrime_answer feldrime_draw(
+    const feldrime_page *page, const feldrime_font *font,
+    uint8_t field,
+    uint8_t *out, size_t out_count)
+{
+    return feldrime_picture_draw(page->numbers, FELDRIME_NUMBERS, page->chars, FELDRIME_MEMORY,
+                                 page->attrs, FELDRIME_MEMORY, font->words, FELDRIME_WORDS,
+                                 font->flags, FELDRIME_FLAGS, font->unshifted, FELDRIME_LIST,
+                                 font->shifted, FELDRIME_LIST, field, out, out_count);
+}
+
+/* feldrime_line_draw */
+static inline feldrime_answer feldrime_draw_line(
+    const feldrime_page *page, const feldrime_font *font,
+    uint32_t line, uint8_t field,
+    uint8_t *out, size_t out_count)
+{
+    return feldrime_line_draw(page->numbers, FELDRIME_NUMBERS, page->chars, FELDRIME_MEMORY,
+                              page->attrs, FELDRIME_MEMORY, font->words, FELDRIME_WORDS,
+                              font->flags, FELDRIME_FLAGS, font->unshifted, FELDRIME_LIST,
+                              font->shifted, FELDRIME_LIST, line, field, out, out_count);
+}
+
+/* feldrime_row_cells */
+static inline feldrime_cells feldrime_cells_of(
+    const feldrime_page *page,
+    uint32_t row,
+    uint16_t *cells, size_t cells_count)
+{
+    return feldrime_row_cells(page->numbers, FELDRIME_NUMBERS, page->chars, FELDRIME_MEMORY, row, cells, cells_count);
+}
+
+/* ---- for an editor ---- */
+
+/* The whole state of a board, for an editor that steps it clock by clock. Any numbers may be handed over: the calls
+   judge them. Compare boards field by field, since there are unused bytes between the fields.
+
+   A board holds neither memories nor font. They are lent to each step, which shows what stands there then; so typing is
+   writing into chars and attrs, and takes no call.
+
+   A frame has VT = rows x scan lines + VFP + VSYNC + VBP lines, in this order: the visible ones come first, from line 0
+   on, with the numbers that they have in a picture. A line has HT clocks: HACT active ones, from clock 0 on, then front
+   porch, HSYNC and HBP. A cell is fetched on each active clock of a visible line. BLANK is 1 on all other clocks, and
+   while the display is off on these too. At a frame's end the field goes up by one, and from 255 to 0. At clock 0, from
+   which clocks are counted, all of the place is 0. */
 typedef struct {
     struct {
         uint8_t irs[15];
@@ -265,7 +385,8 @@ typedef struct {
     uint8_t dots[12];                            /* levels; 0 in the places past the cell's dots */
 } feldrime_step_answer;
 
-/* The board after power: zeros throughout, so it is inactive until two master resets in a row. */
+/* The board after power: zeros throughout, so it is inactive until two master resets in a row. A step refuses it until
+   its IRs are written (5) and its dots are set (6). */
 feldrime_board feldrime_power(void);
 
 /* An active board with a page's numbers, at clock 0, its pointer at IR0. Refuses 3, 12, 4, 5, 6; refused, it gives the
@@ -280,12 +401,14 @@ feldrime_answer feldrime_numbers_of(
     uint8_t *numbers, size_t numbers_count);
 
 /* The board with these dots in a cell, strike line, BKGND and RBLANK, of which any number but 0 is on. Refuses 12, 6;
-   refused, it gives the old board. */
+   refused, it gives the old board. 12 is for the board's three addresses and switches and for the strike line handed
+   over, 6 for the dots handed over; nothing else is judged, neither place nor pointer. */
 feldrime_board_answer feldrime_set_video(
     feldrime_board board,
     uint8_t dots, uint8_t strike, uint8_t bkgnd, uint8_t rblank);
 
-/* Writes a byte to a register. Refuses 12, 7, 9, 10; refused, it gives the old board.
+/* Writes a byte to a register. Refuses 12, 7, 9, 10; refused, it gives the old board. 12 is for the board's three
+   addresses, switches and strike line, 7 for its pointer alone: the place, the IRs and the dots are not judged here.
 
      0       the IR that the pointer names; the pointer then moves on, and stays at IR14
      1       a command, in hex: 00 master reset; 10 to 1E load IR pointer; 28, 29 display off, on; 30, 31 cursor off, on;
@@ -294,12 +417,21 @@ feldrime_board_answer feldrime_set_video(
      4, 5    cursor address, likewise
      6, 7    screen start 2, likewise
 
-   An inactive board takes master resets only. Any other write is answered by 0 and breaks their run. */
+   A master reset sets the place to clock 0, its field too, the pointer to IR0, and display and cursor off. All else is
+   kept: IRs, addresses, BKGND, RBLANK, dots and strike line. An active board stays active.
+
+   An inactive board takes master resets only. Any other write is answered by 0 and breaks their run. The board can be
+   read, set by feldrime_set_video and stepped all the same, its display off whatever the switch says.
+
+   A write to an IR can make line or frame so short that the board's place is out of range, or leave a page that cannot
+   be drawn: the next step is then refused 7, or 4 or 5. The ways out of 7: write the IR as it was; write a master
+   reset; set place.line and place.clock to 0; take the board through feldrime_numbers_of and feldrime_board_of, which
+   begins at clock 0 and leaves display and cursor as they were. feldrime_state_at is none: it judges the place too. */
 feldrime_board_answer feldrime_write(
     feldrime_board board,
     uint8_t address, uint8_t byte);
 
-/* Reads a register: addresses 2 to 7 as above, 0 and 1 give 0. Refuses 12, 7, 9. */
+/* Reads a register: addresses 2 to 7 as above, 0 and 1 give 0. Refuses 12, 7, 9; 12 and 7 as a write does. */
 feldrime_byte feldrime_read(
     feldrime_board board,
     uint8_t address);
@@ -313,7 +445,8 @@ feldrime_board_answer feldrime_state_at(
     uint32_t n);
 
 /* One clock: gives what the board puts out at its place, and moves the board on to the next clock where it stands.
-   Refuses 3, 12, 4, 5, 6, 7; refused, it leaves the board. */
+   Refuses 3, 12, 4, 5, 6, 7; refused, it leaves the board. 7 is for a line of VT or above, a clock of HT or above, an
+   address or row start above 16383, and a pointer above 14. */
 feldrime_step_answer feldrime_step(
     feldrime_board *board,
     const uint8_t *chars, size_t chars_count,
@@ -322,6 +455,16 @@ feldrime_step_answer feldrime_step(
     const uint8_t *flags, size_t flags_count,
     const uint8_t *unshifted, size_t unshifted_count,
     const uint8_t *shifted, size_t shifted_count);
+
+/* feldrime_step, with the memories of a page; the page's numbers play no part, since the board has its own */
+static inline feldrime_step_answer feldrime_tick(
+    feldrime_board *board,
+    const feldrime_page *page, const feldrime_font *font)
+{
+    return feldrime_step(board, page->chars, FELDRIME_MEMORY, page->attrs, FELDRIME_MEMORY,
+                         font->words, FELDRIME_WORDS, font->flags, FELDRIME_FLAGS,
+                         font->unshifted, FELDRIME_LIST, font->shifted, FELDRIME_LIST);
+}
 
 #ifdef __cplusplus
 }

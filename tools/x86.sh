@@ -1,15 +1,15 @@
 # Sourced: `cc` builds x86-64 programs and `"${runner[@]}"` runs them, natively or, on Arm, emulated. The library's archive is for x86-64 only.
 need() {  # need COMMAND PACKAGE..: installs the packages where the command is missing
-    local command=$1 root=()
-    shift
-    if ! command -v "$command" > /dev/null; then
-        echo "$command is missing, installing $*"
-        if [ "$(id -u)" -ne 0 ]; then
-            root=(sudo)
-        fi
-        "${root[@]}" apt-get update -q
-        "${root[@]}" apt-get install -y -q "$@"
+    if command -v "$1" > /dev/null; then
+        return
     fi
+    if [ "$(id -u)" -ne 0 ]; then
+        echo "$1 is missing; as root: apt-get install --no-install-recommends ${*:2}" >&2
+        return 1
+    fi
+    echo "$1 is missing, installing ${*:2}" >&2
+    apt-get update -q >&2
+    apt-get install -y -q --no-install-recommends "${@:2}" >&2
 }
 
 case $(uname -m) in

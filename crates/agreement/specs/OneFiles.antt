@@ -1,4 +1,4 @@
--- No second answer meets the contract of a public function of `copies`, `files`, `numbers` or `listing_lines`: it names its answer, so each of these is `only`.
+-- No second answer meets the contract of a public function of `copies`, `files`, `numbers` or `listing`: it names its answer, so each of these is `only`.
 use Prim.Native.Nat.{ℕ}
 use mathlib.Core.Path.{_≡_}
 use mathlib.Core.Bool.{Bool}
@@ -18,8 +18,8 @@ use Rattle.files.specs.FontFile.{fontCheck, fontRead, fontWriteCheck, fontWritt
 use Rattle.files.specs.Page.{pageAt, boardAt, pageBytes}
 use Rattle.numbers.specs.Numbers.{numbersRefused, numbersCheck, numbersOfCheck, numbersOf}
 use Rattle.numbers.specs.Files.{pageReadSize, numbersRead, pageWriteCheck, pageWritten}
-use Rattle.listing_lines.specs.declared.Listed.{Listed}
-use Rattle.listing_lines.specs.Listing.{listingHead, listingLine, headCheck, lineCheck, listedOf, listedIn}
+use Rattle.listing.specs.declared.Listed.{Listed}
+use Rattle.listing.specs.Listing.{listingHead, listingLine, headCheck, lineCheck, listedOf, listedIn}
 
 -- ---- `copies`
 
@@ -93,7 +93,7 @@ pub numbers-of-one : (b : Board) (numbers : List ℕ)
     → OneAnswer (λ (r : Refusal × List ℕ). (r .0 ≡ numbersOfCheck b (length numbers)) × (r .1 ≡ numbersOf b numbers))
 numbers-of-one b numbers = only-both (numbersOfCheck b (length numbers)) (numbersOf b numbers)
 
--- ---- `listing_lines`
+-- ---- `listing`
 
 -- the answer and the buffer
 pub listing-head-one : (p : Page) (out : List ℕ)

@@ -1,0 +1,52 @@
+-- 01's listing: the visible lines, one space, the dots in a line; then the lines, black `.`, gray `o`, white `#`; each ends with a line feed.
+use Prim.Native.Nat.{ℕ, _+_}
+use mathlib.Core.Bool.{Bool, not}
+use mathlib.Core.List.{List, [], _∷_, _++_, map}
+use lib.ListN.{length, drop}
+use lib.Dec.{eqb, ltb, leb}
+use Rattle.lists.specs.Choice.{pick, firstOf}
+use Rattle.refusal.specs.declared.Refusal.{Refusal}
+use Rattle.refusal.specs.declared.Refusal.the-variants.{Done, Room}
+use Rattle.refusal.specs.Number.{doneOf}
+use Rattle.board.specs.declared.Page.{Page}
+use Rattle.board.specs.declared.Board.{Board}
+use Rattle.timing.specs.Fields.{visibleOf}
+use Rattle.timing.specs.Check.{pageCheck, sizeOf, callCheck}
+use Rattle.shape.specs.Font.{Font}
+use Rattle.line.specs.Line.{lineDots, lineLength}
+use Rattle.listing.specs.declared.Listed.{Listed}
+use Rattle.listing.specs.Decimal.{decimal}
+
+abbrev pub lineFeed : ℕ
+lineFeed = 10
+
+abbrev pub space : ℕ
+space = 32
+
+-- black `.`, gray `o`, white `#`
+abbrev pub markOf : ℕ → ℕ
+markOf level = pick (eqb level 0) 46 (pick (eqb level 1) 111 35)
+
+unfoldable pub listingHead : Page → List ℕ
+listingHead p = (decimal (sizeOf p .lines .0) ++ (space ∷ [])) ++ (decimal (sizeOf p .dots .0) ++ (lineFeed ∷ []))
+
+unfoldable pub listingLine : Board → (chars attrs : List ℕ) → Font → (line field : ℕ) → List ℕ
+listingLine b chars attrs f line field = map markOf (lineDots b chars attrs f line field) ++ (lineFeed ∷ [])
+
+-- ---- the calls
+
+-- the page's own 12, 4, 5, 6, then 8 for a buffer of room bytes that is too short
+unfoldable pub headCheck : Page → (room : ℕ) → Refusal
+headCheck p room = firstOf ((not (doneOf (pageCheck p)), pageCheck p) ∷ (ltb room (length (listingHead p)), Room) ∷ []) Done
+
+-- as a line is drawn: 3, 12, 4, 5, 6, 7; then 8, where the line feed needs room too
+unfoldable pub lineCheck : Board → (size : Bool) → (line room : ℕ) → Refusal
+lineCheck b size line room = callCheck b size (leb (visibleOf (b .page .irs) .0) line) (ltb room (lineLength b + 1))
+
+-- what a call with this check answers, where these are its bytes
+unfoldable pub listedOf : Refusal → List ℕ → Listed
+listedOf r bytes = record { refusal = r; count = pick (doneOf r) (length bytes) 0 }
+
+-- the buffer afterwards: bytes beyond those written stay, and all of it on a refusal
+unfoldable pub listedIn : Refusal → List ℕ → List ℕ → List ℕ
+listedIn r bytes out = pick (doneOf r) (bytes ++ drop (length bytes) out) out

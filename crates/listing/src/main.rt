@@ -1,3 +1,0 @@
-fn main() {
-    listing_lines::run();
-}

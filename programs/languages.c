@@ -1,0 +1,47 @@
+#include "languages.h"
+
+#include <string.h>
+#include <strings.h>
+
+#include "stem.h"
+
+static const struct language languages[] = {
+    { "en", "English", "Hold the picture still", "The picture's text", "struck out", "The picture shows no text.",
+      "All pages", "The board's papers give no aspect: here a dot is a square pixel.",
+      "They give no rate either: 50 fields a second are shown." },
+    { "de", "Deutsch", "Bild anhalten", "Text des Bildes", "gestrichen", "Das Bild zeigt keinen Text.",
+      "Alle Seiten", "Die Unterlagen der Karte nennen kein Seitenverhältnis: Ein Punkt ist hier ein Quadrat.",
+      "Sie nennen auch keine Bildfolge: Gezeigt werden 50 Felder in der Sekunde." },
+    { "fr", "Français", "Arrêter le clignotement", "Texte de l’image", "barré", "L’image ne montre pas de texte.",
+      "Toutes les pages", "Les documents de la carte ne donnent pas de proportions : ici, un point est un pixel carré.",
+      "Ils ne donnent pas non plus de fréquence : 50 trames par seconde sont montrées." },
+    { "it", "Italiano", "Ferma l’immagine", "Testo dell’immagine", "barrato", "L’immagine non mostra testo.",
+      "Tutte le pagine", "I documenti della scheda non indicano le proporzioni: qui un punto è un pixel quadrato.",
+      "Non indicano nemmeno la frequenza: si mostrano 50 quadri al secondo." },
+    { "sl", "Slovenščina", "Ustavi sliko", "Besedilo slike", "prečrtano", "Slika ne kaže besedila.",
+      "Vse strani", "Listine plošče ne navajajo razmerja stranic: tu je pika kvadratna slikovna točka.",
+      "Tudi hitrosti ne navajajo: prikazanih je 50 polj na sekundo." },
+};
+enum { LANGUAGES = sizeof languages / sizeof *languages };
+
+const struct language *const english = &languages[0];
+
+static const struct language *by_code(const char *part, size_t length)
+{
+    for (int i = 0; i < LANGUAGES; i++)
+        if (length == strlen(languages[i].code) && strncasecmp(part, languages[i].code, length) == 0)
+            return &languages[i];
+    return NULL;
+}
+
+const struct language *language_of(const char *file)
+{
+    char stem[STEM];
+
+    stem_of(file, stem);
+    size_t end = strlen(stem), begin = end;
+    while (begin > 0 && strchr("-_", stem[begin - 1]) == NULL)
+        begin--;
+    const struct language *first = by_code(stem, strcspn(stem, "-_"));
+    return first != NULL ? first : by_code(stem + begin, end - begin);
+}

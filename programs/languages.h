@@ -1,0 +1,18 @@
+/* The words that a web page adds to its picture, in the languages of the bulletins. */
+#ifndef LANGUAGES_H
+#define LANGUAGES_H
+
+struct language {
+    const char *code, *name;
+    const char *still, *text, *struck, *empty, *pages, *aspect, *rate;
+};
+
+/* The language of a page file, from its name: the first or the last part of the name before its ending, where parts are
+   separated by - _ or a dot. "de.page", "de-61.page" and "bulletin_de.page" are German. NULL where neither is a
+   language's code. */
+const struct language *language_of(const char *file);
+
+/* For a page whose name tells no language, and for the index. */
+extern const struct language *const english;
+
+#endif

@@ -1,0 +1,83 @@
+#include "page.h"
+
+#include <errno.h>
+#include <stdio.h>
+#include <stdlib.h>
+#include <string.h>
+
+#include "files.h"
+#include "say.h"
+
+static bool unread(char why[WHY])
+{
+    snprintf(why, WHY, "cannot be read: %s", strerror(errno));
+    return false;
+}
+
+static bool judge(uint32_t refusal, const char *hint, char why[WHY])
+{
+    snprintf(why, WHY, "refused %u, %s%s", (unsigned)refusal, feldrime_meaning(refusal), hint);
+    return refusal == FELDRIME_DONE;
+}
+
+/* The library counts: rows are there until one is refused. */
+static void measure(struct page *page)
+{
+    uint16_t cells[FELDRIME_CELLS];
+    feldrime_size size = feldrime_size_of(&page->parts);
+
+    page->lines = size.lines;
+    page->dots = size.dots;
+    for (page->rows = 0;; page->rows++) {
+        feldrime_cells found = feldrime_cells_of(&page->parts, page->rows, cells, FELDRIME_CELLS);
+        if (found.refusal != FELDRIME_DONE)
+            return;
+        page->columns = found.count;
+    }
+}
+
+bool read_page(const char *name, struct page *page, char why[WHY])
+{
+    /* One byte more than a file has, so that a file that is too long reaches the library as one. */
+    static uint8_t file[FELDRIME_PAGE_FILE + 1];
+    size_t count;
+
+    if (!read_file(name, file, sizeof file, &count))
+        return unread(why);
+    feldrime_answer answer = feldrime_read_page(&page->parts, file, count);
+    if (!judge(answer.refusal, count == FELDRIME_FONT_FILE ? " (it is as long as a font)" : "", why))
+        return false;
+    measure(page);
+    return true;
+}
+
+bool read_font(const char *name, feldrime_font *font, char why[WHY])
+{
+    /* Long enough for a page, so that one in the font's place is told as such. */
+    static uint8_t file[FELDRIME_PAGE_FILE + 1];
+    size_t count;
+
+    if (!read_file(name, file, sizeof file, &count))
+        return unread(why);
+    feldrime_answer answer = feldrime_read_font(font, file, count);
+    return judge(answer.refusal, count == FELDRIME_PAGE_FILE ? " (it is as long as a page)" : "", why);
+}
+
+void cells_of(const struct page *page, uint32_t row, uint16_t cells[FELDRIME_CELLS])
+{
+    feldrime_cells_of(&page->parts, row, cells, FELDRIME_CELLS);
+}
+
+uint8_t *picture_of(const struct page *page, const feldrime_font *font, uint8_t field)
+{
+    size_t count = (size_t)page->lines * page->dots;
+    uint8_t *picture = malloc(count);
+
+    if (picture == NULL) {
+        say("the picture", "%s", strerror(errno));
+        return NULL;
+    }
+    /* Both were accepted and the room is the picture's size, so that nothing is left to refuse. */
+    feldrime_draw(&page->parts, font, field, picture, count);
+    return picture;
+}

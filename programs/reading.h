@@ -1,0 +1,25 @@
+/* What a person reads in a page's picture. */
+#ifndef READING_H
+#define READING_H
+
+#include "fields.h"
+
+enum { ROWS = 128 }; /* the most that a page has */
+
+struct reading {
+    uint32_t rows;
+    uint32_t length[ROWS]; /* up to the last letter that is no blank */
+    char letter[ROWS][FELDRIME_CELLS];
+    bool struck[ROWS][FELDRIME_CELLS]; /* a line goes through it */
+};
+
+/* Reads the pictures of a page. Says why it could not. */
+bool read_picture(const struct page *page, const feldrime_font *font, const struct fields *fields,
+                  struct reading *reading);
+
+/* The first row that has something to read, without what is struck, and with single blanks; "" where there is none. */
+void title_of(const struct reading *reading, char title[FELDRIME_CELLS + 1]);
+
+bool is_empty(const struct reading *reading);
+
+#endif

@@ -1,0 +1,90 @@
+/* feldrime rows: where each row of a page comes from. */
+#include <stdio.h>
+#include <string.h>
+
+#include "page.h"
+#include "say.h"
+#include "text.h"
+#include "words.h"
+
+const char rows_usage[] = "feldrime rows PAGE";
+const char rows_help[] =
+    "Tells where each row of a page comes from, a line for each row:\n"
+    "\n"
+    "  from   where the row's first cell is named: an entry of the row table, by the two cells that hold it, or\n"
+    "         screen start 1; or that the row goes on where the one before it ended\n"
+    "  cells  the addresses of the cells that the row shows, in order. * marks cells that another row shows too\n"
+    "  text   what stands in these cells, hidden cells too. A cell without a character is a blank, and a character\n"
+    "         that is no letter, digit or sign of ASCII is a dot\n";
+
+static struct page page;
+static uint16_t cells[FELDRIME_CELLS];
+
+/* Which row shows a cell, if just one does. */
+enum { NONE = -1, SEVERAL = -2 };
+static int shown_by[FELDRIME_MEMORY];
+
+static void count_cells(void)
+{
+    for (int i = 0; i < FELDRIME_MEMORY; i++)
+        shown_by[i] = NONE;
+    for (uint32_t row = 0; row < page.rows; row++) {
+        cells_of(&page, row, cells);
+        for (uint32_t c = 0; c < page.columns; c++) {
+            int *by = &shown_by[cells[c]];
+            *by = *by == NONE || *by == (int)row ? (int)row : SEVERAL;
+        }
+    }
+}
+
+static bool shared(uint32_t column)
+{
+    return shown_by[cells[column]] == SEVERAL;
+}
+
+/* "3984-4095*,256-271*": a range ends where the next cell does not follow, or is shared where this one is not. */
+static void ranges(char *text)
+{
+    for (uint32_t c = 0, first; c < page.columns; c++) {
+        first = c;
+        while (c + 1 < page.columns && cells[c + 1] == cells[c] + 1 && shared(c + 1) == shared(c))
+            c++;
+        text += sprintf(text, first == 0 ? "%u" : ",%u", (unsigned)cells[first]);
+        if (c > first)
+            text += sprintf(text, "-%u", (unsigned)cells[c]);
+        text += sprintf(text, "%s", shared(c) ? "*" : "");
+    }
+}
+
+static void origin(uint32_t row, char text[32])
+{
+    bool table = page.parts.numbers[1 + 2] >> 7;
+    unsigned at = page.parts.numbers[20] * 256U + page.parts.numbers[21] + 2 * row;
+
+    if (table)
+        sprintf(text, "entry %u,%u", at % FELDRIME_MEMORY, (at + 1) % FELDRIME_MEMORY);
+    else
+        strcpy(text, row == 0 ? "screen start 1" : "goes on");
+}
+
+int rows_word(int count, char **arguments)
+{
+    char why[WHY], from[32], shown[FELDRIME_CELLS * 16], text[FELDRIME_CELLS + 1];
+
+    if (count != 1)
+        return wrong_use(rows_usage);
+    if (!read_page(arguments[0], &page, why)) {
+        say(arguments[0], "%s", why);
+        return COULD_NOT;
+    }
+    count_cells();
+    printf("row  from               cells                    text\n");
+    for (uint32_t row = 0; row < page.rows; row++) {
+        cells_of(&page, row, cells);
+        origin(row, from);
+        ranges(shown);
+        text_of(&page, row, text);
+        printf("%3u  %-17s  %-23s  |%s\n", (unsigned)row, from, shown, text);
+    }
+    return DONE;
+}

@@ -1,0 +1,11 @@
+/* Names for a page's files in a web site. */
+#ifndef STEM_H
+#define STEM_H
+
+enum { STEM = 256 };
+
+/* The file's own name without folders and without .page. What is no letter or digit of ASCII, - or _ becomes _, so that
+   it needs no quoting in a web page and has no dot. */
+void stem_of(const char *file, char stem[STEM]);
+
+#endif

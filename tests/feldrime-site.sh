@@ -1,0 +1,74 @@
+# Sourced by tests/feldrime: the web site, whole and with pages that cannot be shown; and what the scripts say where something is missing.
+site=$work/site
+ends 0 "$site/index.html" "${feldrime[@]}" site "$font" "$site" samples/*.page
+python3 tests/site.py "$site" "${runner[@]}" "$example" || failed=1
+
+shows() {  # shows FILE TEXT: a file of the site has this text
+    grep -qF -- "$2" "$site/$1" || say "$1 does not say: $2"
+}
+
+# pages that are refused, two of one name, and names that a web page could not carry
+mkdir "$work/pages" "$work/more"
+cp "$page" "$work/pages/bulletin-fr.page"
+cp "$page" "$work/pages/index.page"
+cp "$page" "$work/more/BULLETIN-fr.page"
+cp "$page" "$work/pages/<b>&\"ü.page"
+head -c 1000 "$page" > "$work/pages/de.page"
+# a text that a web page must not take for its own: the title's cells, from 1585 on
+cp "$here/samples/en.page" "$work/pages/quoted.page"
+printf '\xbc\xe2\xbe\xa6\xa2\xa7\x81' | dd of="$work/pages/quoted.page" bs=1 seek=$((29 + 1585)) conv=notrunc status=none
+{ head -c 26 "$page"; printf '\0'; tail -c +28 "$page"; } > "$work/pages/dark.page"
+pages=("$work/pages/bulletin-fr.page" "$work/pages/de.page" "$work/more/BULLETIN-fr.page" "$work/pages/index.page" "$work/none.page")
+pages+=("$work/pages/<b>&\"ü.page" "$work/pages/dark.page" "$work/pages/quoted.page")
+ends 1 "de.page: refused 2, " "${feldrime[@]}" site "$font" "$site" "${pages[@]}"
+for text in "none.page: cannot be read: No such file" "index.page: its name is that of the site's index" "BULLETIN-fr.page: an earlier page has the same name"; do
+    [[ $said == *"$text"* ]] || say "the site does not say: $text"
+done
+shows index.html "de is not shown: refused 2, the length"
+shows index.html "none is not shown: cannot be read"
+shows index.html "index is not shown: its name"
+shows index.html '<a href="bulletin-fr.html" lang="fr">BULLETIN D'
+shows index.html '<a href="_b_____.html" lang="">'
+[ "$(grep -c "<li>" "$site/index.html")" -eq ${#pages[@]} ] || say "the index has not an entry for each page"
+shows de.html "This page is not shown: refused 2"
+shows bulletin-fr.html '<html lang="fr">'
+shows dark.html 'alt="The picture shows no text."'
+shows dark.html "<title>dark</title>"
+quoted="&lt;b&gt;&amp;&quot;'.HE BULLETIN"
+shows quoted.html "alt=\" $quoted"
+shows quoted.html "<title>$quoted</title>"
+shows quoted.html "<h1 lang=\"\">$quoted</h1>"
+shows quoted.html "<pre lang=\"\">"
+shows index.html "<a href=\"quoted.html\" lang=\"\">$quoted</a>"
+[ "$(grep -cx " $quoted" "$site/quoted.html")" -eq 1 ] || say "the text of quoted.html is not quoted"
+! grep -q "LAWINEN" "$site/de.html" || say "a page that is refused still shows the old one"
+[ -e "$site/en.html" ] || say "another file of the folder is gone"
+[ -z "$(find "$site" -name '.feldrime*')" ] || say "something was left in the site's folder"
+
+# a site that cannot be made
+anew
+ends 1 "refused 2, " "${feldrime[@]}" site "$page" "$work/out/site" "$page"
+only
+ends 1 "No such file" "${feldrime[@]}" site "$font" "$work/out/none/site" "$page"
+echo old > "$work/out/file"
+ends 1 "is no folder" "${feldrime[@]}" site "$font" "$work/out/file" "$page"
+only file
+mkdir -p "$work/out/site/fr.html" "$work/out/site/index.html"
+ends 1 "fr.html: is a folder" "${feldrime[@]}" site "$font" "$work/out/site" "$page"
+[[ $said == *"index.html: is a folder"* ]] || say "an index that could not be written is not told"
+
+# what is missing, and what the first build says
+mkdir -p "$work/bin"
+cp tools/x86.sh "$work"
+ends 1 "no_such_command is missing; as root: apt-get install --no-install-recommends one two" \
+    "${other[@]}" bash -c 'set -e; . "$0"; need no_such_command one two' "$work/x86.sh"
+mkdir -p "$work/tree/crates"
+cp -r tools "$work/tree"
+printf 'one:\ntwo: one\nfeldrime: two kit\nother: one\n' > "$work/tree/crates.txt"
+printf '#!/bin/sh\necho "rt: one proved (1 s)"\necho "rt: two $verdict"\n[ "$verdict" = proved ] && echo "rt: target/staticlib/libfeldrime.a has them"\n' > "$work/bin/rt"
+chmod +x "$work/bin/rt"
+build=(env PATH="$work/bin:$PATH" bash -c '. "$0/tree/tools/build.sh"; build_archive' "$work")
+ends 0 "proved 3 of 3: feldrime" env verdict=proved "${build[@]}"
+[[ $said == *"the log is $work/tree/target/build.log"*"proved 1 of 3: one"$'\n'"proved 2 of 3: two"$'\n'* ]] || say "the first build says: $said"
+ends 1 "rt: two NOT PROVED" env verdict="NOT PROVED" "${build[@]}"
+[[ $said != *"of 3: two"* ]] || say "a crate that is not proved is told as proved"

@@ -1,0 +1,53 @@
+# Sourced by tests/feldrime: the words, their help and their wrong uses; draw, rows and check.
+ends 0 "feldrime draw PAGE FONT OUT.png [FIELD]" "${feldrime[@]}" --help
+for word in draw rows site check; do
+    ends 0 "usage: feldrime $word" "${feldrime[@]}" "$word" --help
+    [[ $said == *"0 where all was done, 1 where a file was refused"* ]] || say "$word --help does not tell the statuses"
+    ends 2 "usage: feldrime $word" "${feldrime[@]}" "$word"
+done
+ends 2 "feldrime WORD --help" "${feldrime[@]}"
+ends 2 "paint: is no word" "${feldrime[@]}" paint "$page"
+ends 2 "usage:" "${feldrime[@]}" draw "$page" "$font"
+ends 2 "usage:" "${feldrime[@]}" draw "$page" "$font" "$work/a.png" 0 0
+ends 2 "usage:" "${feldrime[@]}" rows "$page" "$page"
+ends 2 "usage:" "${feldrime[@]}" site "$font" "$work/site"
+ends 2 "usage:" "${feldrime[@]}" check "$page" "$font" "$font"
+[ ! -e "$work/a.png" ] && [ ! -e "$work/site" ] || say "a wrong use made something"
+
+for field in 256 -1 "" " 1" 1x x 0x1 1.0 +1 18446744073709551616 99999999999999999999; do
+    ends 2 "a number from 0 to 255" "${feldrime[@]}" draw "$page" "$font" "$work/a.png" "$field"
+    [ ! -e "$work/a.png" ] || say "field '$field' drew something"
+done
+
+levels() {  # levels FILE: a PNG file as the C example writes it
+    pngtopnm "$1" 2> /dev/null | pnmdepth 255 2> /dev/null
+}
+
+for sample in samples/*.page; do
+    for field in 0 16 047 48 255; do
+        ends 0 "$work/a.png: " "${feldrime[@]}" draw "$sample" "$font" "$work/a.png" "$field"
+        cmp -s <(levels "$work/a.png") <("${runner[@]}" "$example" "$sample" "$font" "$field") || say "$sample in field $field is not what the example draws"
+    done
+    ends 0 "$work/b.png: " "${feldrime[@]}" draw "$sample" "$font" "$work/b.png"
+    cmp -s <(levels "$work/b.png") <("${runner[@]}" "$example" "$sample" "$font" 0) || say "$sample is not drawn in field 0"
+done
+! cmp -s <("${runner[@]}" "$example" "$page" "$font" 0) <("${runner[@]}" "$example" "$page" "$font" 16) || say "fields 0 and 16 look alike, so that nothing was tried"
+
+python3 tests/rows.py "${feldrime[@]}" || failed=1
+
+ends 0 "fr.page: a page of 19 rows and 48 columns, 384 x 266 dots" "${feldrime[@]}" check "$page"
+ends 0 "deck.font: a font" "${feldrime[@]}" check "$page" "$font"
+head -c 100 "$font" > "$work/short.font"
+ends 1 "short.font: refused 2, " "${feldrime[@]}" check "$page" "$work/short.font"
+[[ $said == *"fr.page: a page"* ]] || say "a good page is not told beside a bad font"
+ends 1 "refused 2, the length" "${feldrime[@]}" check "$font" "$page"
+[[ $said == *"(it is as long as a font)"*"(it is as long as a page)"* ]] || say "a page and a font that changed places are not told: $said"
+for word in check rows; do
+    ends 1 "missing.page: cannot be read: No such file" "${feldrime[@]}" "$word" "$work/missing.page"
+    ends 1 "cannot be read: Is a directory" "${feldrime[@]}" "$word" "$work"
+    ends 1 "refused 1, " "${feldrime[@]}" "$word" /dev/null
+    ends 1 "refused 1, " timeout 5 "${feldrime[@]}" "$word" /dev/zero
+    status=0
+    "${feldrime[@]}" "$word" "$page" > /dev/full 2> "$work/said" || status=$?
+    [ "$status" -eq 1 ] && grep -q "standard output: No space left" "$work/said" || say "$word to a full disk ended with $status: $(< "$work/said")"
+done

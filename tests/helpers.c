@@ -1,0 +1,246 @@
+/* The header's short forms beside the calls that they stand for: helpers FONT PAGE..
+   Each is asked with the same bytes and counts, good and bad, and both have to answer the same and to leave the same behind. Then two
+   sentences of the header: in which fields a picture can change, and that every refusal has words of its own. C99 and C++11. */
+#include <stdio.h>
+#include <stdlib.h>
+#include <string.h>
+
+#include "feldrime.h"
+
+enum { ROOM = FELDRIME_PICTURE + 64, STEPS = 20000 };
+
+/* What the calls are lent, buffer by buffer. */
+static uint8_t numbers[FELDRIME_NUMBERS], chars[FELDRIME_MEMORY], attrs[FELDRIME_MEMORY];
+static uint16_t words[FELDRIME_WORDS];
+static uint8_t flags[FELDRIME_FLAGS], unshifted[FELDRIME_LIST], shifted[FELDRIME_LIST];
+
+/* What the short forms are lent. */
+static feldrime_page page;
+static feldrime_font font;
+
+static uint8_t file[FELDRIME_PAGE_FILE + 1], out[2][ROOM];
+static uint16_t cells[2][FELDRIME_CELLS + 8];
+static unsigned long compared, refused, failed;
+
+static void expect(int holds, const char *what)
+{
+    compared++;
+    if (holds)
+        return;
+    failed++;
+    fprintf(stderr, "helpers: %s\n", what);
+}
+
+/* Whether two buffers hold the same; they begin with the same filling, so a byte that one side alone wrote shows. */
+static void same(const void *ours, const void *theirs, size_t bytes, const char *what)
+{
+    expect(memcmp(ours, theirs, bytes) == 0, what);
+}
+
+static void answers(const void *ours, const void *theirs, size_t bytes, uint32_t refusal, const char *what)
+{
+    same(ours, theirs, bytes, what);
+    refused += refusal != FELDRIME_DONE;
+}
+
+static void fill_outs(void)
+{
+    memset(out, 0xA5, sizeof out);
+    memset(cells, 0xA5, sizeof cells);
+}
+
+static size_t load(const char *name)
+{
+    FILE *stream = fopen(name, "rb");
+
+    if (stream == NULL) {
+        perror(name);
+        exit(2);
+    }
+    size_t count = fread(file, 1, sizeof file, stream);
+    fclose(stream);
+    return count;
+}
+
+static void read_font(size_t count)
+{
+    feldrime_answer ours = feldrime_read_font(&font, file, count);
+    feldrime_answer theirs = feldrime_font_read(file, count, words, FELDRIME_WORDS, flags, FELDRIME_FLAGS,
+                                                unshifted, FELDRIME_LIST, shifted, FELDRIME_LIST);
+
+    answers(&ours, &theirs, sizeof ours, theirs.refusal, "feldrime_read_font answers otherwise");
+    same(font.words, words, sizeof words, "feldrime_read_font: words");
+    same(font.flags, flags, sizeof flags, "feldrime_read_font: flags");
+    same(font.unshifted, unshifted, sizeof unshifted, "feldrime_read_font: unshifted");
+    same(font.shifted, shifted, sizeof shifted, "feldrime_read_font: shifted");
+}
+
+static void read_page(size_t count)
+{
+    feldrime_answer ours = feldrime_read_page(&page, file, count);
+    feldrime_answer theirs = feldrime_page_read(file, count, numbers, FELDRIME_NUMBERS, chars, FELDRIME_MEMORY,
+                                                attrs, FELDRIME_MEMORY);
+
+    answers(&ours, &theirs, sizeof ours, theirs.refusal, "feldrime_read_page answers otherwise");
+    same(page.numbers, numbers, sizeof numbers, "feldrime_read_page: numbers");
+    same(page.chars, chars, sizeof chars, "feldrime_read_page: chars");
+    same(page.attrs, attrs, sizeof attrs, "feldrime_read_page: attrs");
+}
+
+/* A byte more, a byte less, no byte and another version, then the file as it is. */
+static void read_all(void (*read_one)(size_t), size_t count)
+{
+    read_one(count + 1);
+    read_one(count - 1);
+    read_one(0);
+    file[0]++;
+    read_one(count);
+    file[0]--;
+    read_one(count);
+}
+
+static void write_page(size_t room)
+{
+    fill_outs();
+    feldrime_answer ours = feldrime_write_page(&page, out[0], room);
+    feldrime_answer theirs = feldrime_page_write(numbers, FELDRIME_NUMBERS, chars, FELDRIME_MEMORY,
+                                                 attrs, FELDRIME_MEMORY, out[1], room);
+
+    answers(&ours, &theirs, sizeof ours, theirs.refusal, "feldrime_write_page answers otherwise");
+    same(out[0], out[1], ROOM, "feldrime_write_page: out");
+    if (theirs.refusal == FELDRIME_DONE)
+        same(out[0], file, FELDRIME_PAGE_FILE, "feldrime_write_page: not the file that was read");
+}
+
+static feldrime_size size_of_page(void)
+{
+    feldrime_size ours = feldrime_size_of(&page), theirs = feldrime_page_size(numbers, FELDRIME_NUMBERS);
+
+    answers(&ours, &theirs, sizeof ours, theirs.refusal, "feldrime_size_of answers otherwise");
+    return theirs;
+}
+
+static void draw(uint8_t field, size_t room)
+{
+    fill_outs();
+    feldrime_answer ours = feldrime_draw(&page, &font, field, out[0], room);
+    feldrime_answer theirs = feldrime_picture_draw(numbers, FELDRIME_NUMBERS, chars, FELDRIME_MEMORY,
+                                                   attrs, FELDRIME_MEMORY, words, FELDRIME_WORDS, flags, FELDRIME_FLAGS,
+                                                   unshifted, FELDRIME_LIST, shifted, FELDRIME_LIST, field, out[1], room);
+
+    answers(&ours, &theirs, sizeof ours, theirs.refusal, "feldrime_draw answers otherwise");
+    same(out[0], out[1], ROOM, "feldrime_draw: out");
+}
+
+static void draw_line(uint32_t line, uint8_t field, size_t room)
+{
+    memset(out[0], 0xA5, FELDRIME_LINE);
+    memset(out[1], 0xA5, FELDRIME_LINE);
+    feldrime_answer ours = feldrime_draw_line(&page, &font, line, field, out[0], room);
+    feldrime_answer theirs = feldrime_line_draw(numbers, FELDRIME_NUMBERS, chars, FELDRIME_MEMORY,
+                                                attrs, FELDRIME_MEMORY, words, FELDRIME_WORDS, flags, FELDRIME_FLAGS,
+                                                unshifted, FELDRIME_LIST, shifted, FELDRIME_LIST, line, field,
+                                                out[1], room);
+
+    answers(&ours, &theirs, sizeof ours, theirs.refusal, "feldrime_draw_line answers otherwise");
+    same(out[0], out[1], FELDRIME_LINE, "feldrime_draw_line: out");
+}
+
+static void cells_of_row(uint32_t row, size_t room)
+{
+    memset(cells, 0xA5, sizeof cells);
+    feldrime_cells ours = feldrime_cells_of(&page, row, cells[0], room);
+    feldrime_cells theirs = feldrime_row_cells(numbers, FELDRIME_NUMBERS, chars, FELDRIME_MEMORY, row, cells[1], room);
+
+    answers(&ours, &theirs, sizeof ours, theirs.refusal, "feldrime_cells_of answers otherwise");
+    same(cells[0], cells[1], sizeof cells[0], "feldrime_cells_of: cells");
+}
+
+/* Clock by clock, and one that is refused. The numbers of the page that is lent play no part, so they are spoiled. */
+static void tick(void)
+{
+    feldrime_board ours = feldrime_board_of(numbers, FELDRIME_NUMBERS).board, theirs = ours;
+
+    memset(page.numbers, 0xFF, sizeof page.numbers);
+    for (int i = 0; i <= STEPS; i++) {
+        if (i == STEPS)
+            ours.pointer = theirs.pointer = 15;
+        feldrime_step_answer a = feldrime_tick(&ours, &page, &font);
+        feldrime_step_answer b = feldrime_step(&theirs, chars, FELDRIME_MEMORY, attrs, FELDRIME_MEMORY,
+                                               words, FELDRIME_WORDS, flags, FELDRIME_FLAGS,
+                                               unshifted, FELDRIME_LIST, shifted, FELDRIME_LIST);
+
+        answers(&a, &b, sizeof a, b.refusal, "feldrime_tick answers otherwise");
+        expect(ours.place.line == theirs.place.line && ours.place.clock == theirs.place.clock
+                   && ours.place.beam.address == theirs.place.beam.address,
+               "feldrime_tick: the board stands elsewhere");
+    }
+    memcpy(page.numbers, numbers, sizeof numbers);
+}
+
+/* A picture changes only at fields that 16 divides, and is the same again after 128. Gives how many of the eight fields that are
+   then left do not look as the one before. */
+static unsigned changes(size_t dots)
+{
+    unsigned different = 0;
+
+    for (int i = 0; i < 256; i++) {
+        feldrime_draw(&page, &font, (uint8_t)i, out[0], dots);
+        feldrime_draw(&page, &font, (uint8_t)(i / 16 % 8 * 16), out[1], dots);
+        same(out[0], out[1], dots, "a field looks otherwise than the header says");
+        feldrime_draw(&page, &font, (uint8_t)(i - 16), out[1], dots);
+        different += i < 128 && i % 16 == 0 && memcmp(out[0], out[1], dots) != 0;
+    }
+    return different;
+}
+
+static unsigned compare_page(size_t count)
+{
+    read_all(read_page, count);
+    write_page(FELDRIME_PAGE_FILE - 1);
+    write_page(FELDRIME_PAGE_FILE + 1);
+
+    feldrime_size size = size_of_page();
+    size_t dots = (size_t)size.lines * size.dots;
+    draw(0, dots - 1);
+    draw(0, dots);
+    draw(112, dots + 64);
+    for (uint32_t line = 0; line <= size.lines; line++)
+        draw_line(line, (uint8_t)line, FELDRIME_LINE);
+    draw_line(0, 0, size.dots - 1);
+    for (uint32_t row = 0; row <= 128; row++)
+        cells_of_row(row, FELDRIME_CELLS);
+    cells_of_row(0, FELDRIME_CELLS - 1);
+    tick();
+
+    unsigned different = changes(dots);
+    page.numbers[23] = numbers[23] = 13;
+    size_of_page();
+    return different;
+}
+
+/* No two refusals have the same words, and a number that is none has those of a number that is none. */
+static void meanings(void)
+{
+    for (uint32_t i = 0; i <= FELDRIME_REFUSED_ADDRESS; i++)
+        for (uint32_t j = i + 1; j <= FELDRIME_REFUSED_ADDRESS + 1; j++)
+            expect((strcmp(feldrime_meaning(i), feldrime_meaning(j)) == 0) == (i == 11 && j == 13), "words of a refusal");
+}
+
+int main(int count, char *arguments[])
+{
+    unsigned different = 0;
+
+    if (count < 3) {
+        fputs("usage: helpers FONT PAGE..\n", stderr);
+        return 2;
+    }
+    read_all(read_font, load(arguments[1]));
+    for (int i = 2; i < count; i++)
+        different += compare_page(load(arguments[i]));
+    meanings();
+    expect(different > 0, "no page blinks, so that fields were compared in vain");
+    printf("helpers: %lu answers compared, %lu of them refused, %lu differ; %u looks of blinking pages\n", compared, refused,
+           failed, different);
+    return failed == 0 ? 0 : 1;
+}
