@@ -4,20 +4,23 @@
 #include <time.h>
 
 #include "pages.h"
+#include "rules.h"
 
 #define ROWS 24
 #define COLUMNS 80
 #define LEAST 6 /* dots in a cell */
 #define MOST 12
 #define WIDTHS (MOST - LEAST + 1)
-#define ON 3 /* display and cursor */
-#define OFF 2
+#define ON (DISPLAY | CURSOR)
+#define OFF CURSOR
 #define STATES 20000 /* calls for a state in one measurement */
 #define ROUNDS 31
 
 static uint8_t picture[2048 * FELDRIME_LINE];
 
 static struct set sheets[WIDTHS], rows[WIDTHS], cell, off, samples;
+static struct set latched[4]; /* of version 2: field mode with ACD off and on and with display off, character mode with ACD on */
+static struct set running[3], standing[3]; /* the same pages in field mode and in character mode */
 
 /* ---- what is timed ---- */
 
@@ -158,20 +161,47 @@ static void print_off(const struct set *on)
     printf("line %s, display off: off/on %.2f\n", on->name, ratio(run_library_lines, &off, run_library_lines, on));
 }
 
+/* Field mode beside character mode. */
+static void print_modes(const struct set *field, const struct set *character)
+{
+    printf("picture %s: field/character %.2f\n", field->name, ratio(run_library_picture, field, run_library_picture, character));
+    printf("line %s: field/character %.2f\n", field->name, ratio(run_library_lines, field, run_library_lines, character));
+    printf("state %s: field/character n = 0 %.2f n = 2^32 - 1 %.2f\n", field->name,
+           ratio(run_zero_state, field, run_zero_state, character), ratio(run_far_state, field, run_far_state, character));
+}
+
 static void print_all(const struct set *eight)
 {
     for (size_t w = 0; w < WIDTHS; w++)
         print_drawing(&sheets[w]);
+    print_drawing(&latched[0]);
     print_drawing(&samples);
     for (size_t w = 0; w < WIDTHS; w++)
         print_few("one row", &rows[w]);
     print_few("one cell", &cell);
     print_off(eight);
     printf("step: library/plain %.2f\n", ratio(run_library_step, eight, run_plain_step, eight));
+    printf("step, field mode: library/plain %.2f\n", ratio(run_library_step, &latched[0], run_plain_step, &latched[0]));
     printf("state: n = 2^32 - 1 / n = 0 %.2f\n", ratio(run_far_state, eight, run_zero_state, eight));
+    for (size_t i = 0; i < COUNT(running); i++)
+        print_modes(&running[i], &standing[i]);
 }
 
 /* ---- the pages ---- */
+
+static void make_running(void)
+{
+    static const char *const names[] = { "text", "AFLG in each row", "no AFLG" };
+
+    for (size_t i = 0; i < COUNT(running); i++) {
+        make_sheets(&running[i], names[i], ROWS, COLUMNS, 8, ON | FIELD_MODE);
+        if (i == 1)
+            aflg_in_each_row(&running[i]);
+        if (i == 2)
+            without_aflg(&running[i]);
+        switched(&standing[i], &running[i], ON);
+    }
+}
 
 static void make_all(void)
 {
@@ -185,12 +215,23 @@ static void make_all(void)
     make_sheets(&cell, names[8 - LEAST], 1, 1, 8, ON);
     cell.times = 10 * ROWS;
     make_sheets(&off, names[8 - LEAST], ROWS, COLUMNS, 8, OFF);
+    make_sheets(&latched[0], "8 dots, field mode", ROWS, COLUMNS, 8, ON | FIELD_MODE);
+    make_sheets(&latched[1], "field mode with ACD on", ROWS, COLUMNS, 8, ON | FIELD_MODE | ACD);
+    make_sheets(&latched[2], "field mode with display off", ROWS, COLUMNS, 8, OFF | FIELD_MODE);
+    make_sheets(&latched[3], "version 2 in character mode", ROWS, COLUMNS, 8, ON | ACD);
+    make_running();
 }
 
 static int all_same(const struct set *eight)
 {
     for (size_t w = 0; w < WIDTHS; w++)
         if (!same_pictures(&sheets[w]) || !same_pictures(&rows[w]))
+            return 0;
+    for (size_t i = 0; i < COUNT(latched); i++)
+        if (!same_pictures(&latched[i]) || !same_steps(&latched[i]))
+            return 0;
+    for (size_t i = 0; i < COUNT(running); i++)
+        if (!same_pictures(&running[i]) || !same_pictures(&standing[i]))
             return 0;
     return same_pictures(&cell) && same_pictures(&off) && same_pictures(&samples)
         && same_steps(eight) && states_answer(eight);

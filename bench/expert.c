@@ -5,6 +5,7 @@
  * - Sixteen dots are stored at once, or eight with 6 and 7 dots. What a store writes past its cell is written again by the
  *   cell to the right, so that only a row's last cell needs care.
  * - No branch goes by what a cell holds. Lines that can be lit, and the cursor, are drawn over.
+ * - Field mode goes over a row's cells once more before they are drawn, and character mode skips that.
  *
  * Bytes of a number stand in memory lowest first, as on x86-64 and on Arm. */
 #include <string.h>
@@ -30,6 +31,7 @@ struct plan {
     const uint8_t *chars, *attrs;
     unsigned hact, lines, rows, dots, width; /* width is of a line, in dots */
     unsigned first, last, start1, start2, table;
+    unsigned field_mode, bare; /* bare: a cell with AFLG shows no character */
     unsigned cursor, cursor_from, cursor_to; /* the cursor's address; its lines are from .. to - 1, or none */
     unsigned lit[2], lit_count;              /* the lines that an attribute can light */
     uint8_t lights[MOST_LINES];              /* by which attributes */
@@ -145,6 +147,19 @@ static unsigned fetch_row(const struct plan *p, unsigned at, struct row *row)
             at = 0;
     }
     return at;
+}
+
+/* Field mode: each of the row's cells gets the attribute byte that is valid there. Gives the one at the row's end. */
+static unsigned run_on(const struct plan *p, struct row *row, unsigned latch)
+{
+    for (unsigned column = 0; column < p->hact; column++) {
+        unsigned attr = row->attrs[column], sets = attr >> 7;
+
+        latch = sets ? attr : latch;
+        row->attrs[column] = latch;
+        row->codes[column] = sets & p->bare ? 0 : row->codes[column];
+    }
+    return latch;
 }
 
 static inline unsigned glyph_of(unsigned code)
@@ -282,7 +297,7 @@ static void draw_row(const struct plan *p, const struct row *row, uint8_t *out)
 
 static void draw_rows(const struct plan *p, uint8_t *out)
 {
-    unsigned at = p->start1;
+    unsigned at = p->start1, latch = 0;
 
     for (unsigned r = 0; r < p->rows; r++) {
         unsigned entry = p->start2 + 2 * r;
@@ -291,6 +306,8 @@ static void draw_rows(const struct plan *p, uint8_t *out)
         if (p->table)
             at = p->chars[entry % MEMORY] + (p->chars[(entry + 1) % MEMORY] & 63u) * 256;
         at = fetch_row(p, at, &row);
+        if (p->field_mode)
+            latch = run_on(p, &row, latch);
         draw_row(p, &row, out + (size_t)r * p->lines * p->width);
     }
 }
@@ -305,7 +322,7 @@ static uint32_t page_refused(const uint8_t *numbers)
     unsigned ht = 2u * ((ir[1] & 127) + 1 + 2 * hsync);
 
     if (big_endian(numbers + 16) >= MEMORY || big_endian(numbers + 18) >= MEMORY || big_endian(numbers + 20) >= MEMORY
-        || numbers[22] > 15 || numbers[24] > 15)
+        || numbers[22] > most_switches(numbers[0]) || numbers[24] > 15)
         return 12;
     if ((ir[0] | ir[1]) & 128)
         return 4;
@@ -326,12 +343,14 @@ static void plan_page(struct plan *p, const uint8_t *numbers, uint8_t field)
     p->rows = (ir[4] & 127) + 1u;
     p->dots = numbers[23];
     p->width = p->hact * p->dots;
-    p->first = (ir[9] & 15u) * 256 + ir[8];
-    p->last = ((ir[9] >> 4) + 1u) * 1024 - 1;
+    p->first = first_address(ir);
+    p->last = last_address(ir);
     p->start1 = big_endian(numbers + 16);
     p->cursor = big_endian(numbers + 18);
     p->start2 = big_endian(numbers + 20);
     p->table = ir[2] & 128;
+    p->field_mode = numbers[22] & FIELD_MODE;
+    p->bare = setting_is_bare(numbers[22]);
     p->cursor_from = ir[6] >> 4;
     p->cursor_to = !gate ? 0 : last_line < p->lines ? last_line + 1 : p->lines;
 }
@@ -340,7 +359,7 @@ static uint32_t sizes_refused(const uint8_t *numbers, const size_t counts[7])
 {
     static const size_t right[] = { 32, MEMORY, MEMORY, CHARACTERS * LIST, CHARACTERS, LIST, LIST };
 
-    return memcmp(counts, right, sizeof right) != 0 || numbers[0] != 1 ? 3 : 0;
+    return memcmp(counts, right, sizeof right) != 0 || (numbers[0] != 1 && numbers[0] != 2) ? 3 : 0;
 }
 
 feldrime_answer expert_picture_draw(

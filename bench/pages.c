@@ -64,7 +64,7 @@ void make_sheets(struct set *set, const char *name, uint8_t rows, uint8_t column
     for (set->count = 0; set->count < 2; set->count++) {
         struct page *page = &set->pages[set->count];
         const uint8_t numbers[FELDRIME_NUMBERS] = {
-            1,                                      /* version */
+            switches > 15 ? 2 : 1,                  /* version */
             (LINES - 1) << 3, 34,                   /* EC 35 */
             (set->count ? 0x80 : 0) | 3 << 3 | 2,   /* row table; HSYNC 8, HBP 7 */
             8, rows - 1, columns - 1,
@@ -82,6 +82,34 @@ void make_sheets(struct set *set, const char *name, uint8_t rows, uint8_t column
         page->font = random_font();
         random_text(page);
         measure(page);
+    }
+}
+
+void switched(struct set *to, const struct set *from, uint8_t switches)
+{
+    *to = *from;
+    for (size_t p = 0; p < to->count; p++)
+        to->pages[p].numbers[22] = switches;
+}
+
+void without_aflg(struct set *set)
+{
+    for (size_t p = 0; p < set->count; p++)
+        for (size_t i = 0; i < FELDRIME_MEMORY; i++)
+            set->pages[p].attrs[i] &= 0x7F;
+}
+
+void aflg_in_each_row(struct set *set)
+{
+    without_aflg(set);
+    for (size_t p = 0; p < set->count; p++) {
+        struct page *page = &set->pages[p];
+        uint16_t cells[FELDRIME_CELLS];
+
+        for (uint32_t row = 0; row < page->lines / LINES; row++) {
+            feldrime_row_cells(page->numbers, FELDRIME_NUMBERS, page->chars, FELDRIME_MEMORY, row, cells, FELDRIME_CELLS);
+            page->attrs[cells[0]] |= 0x80;
+        }
     }
 }
 

@@ -31,8 +31,15 @@ struct set {
     (page)->font->words, FELDRIME_WORDS, (page)->font->flags, FELDRIME_FLAGS, \
     (page)->font->unshifted, FELDRIME_LIST, (page)->font->shifted, FELDRIME_LIST
 
-/* Two sheets of random text, row table off and on. */
+/* Two sheets of random text, row table off and on, of version 2 where a switch asks for it. */
 void make_sheets(struct set *set, const char *name, uint8_t rows, uint8_t columns, uint8_t dots, uint8_t switches);
+
+/* The same pages with other switches. */
+void switched(struct set *to, const struct set *from, uint8_t switches);
+
+/* Takes AFLG from all cells, or from all but the first of each row: there a search for it from the row below goes over the whole row. */
+void without_aflg(struct set *set);
+void aflg_in_each_row(struct set *set);
 
 /* The pages in these files, with the font in the first. 0 where one cannot be read. */
 int read_samples(struct set *set, char *const names[], size_t count);

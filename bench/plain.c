@@ -29,6 +29,35 @@ static unsigned moved(unsigned at, unsigned k, unsigned first, unsigned last)
     return (first + (k - to_last - 1) % round) % MEMORY;
 }
 
+/* Where a row begins. */
+static unsigned row_start(const uint8_t *numbers, const uint8_t *chars, unsigned row)
+{
+    const uint8_t *ir = numbers + 1;
+    unsigned entry = big_endian(numbers + 20) + 2 * row;
+
+    if (ir[2] & 128)
+        return chars[entry % MEMORY] + (chars[(entry + 1) % MEMORY] & 63u) * 256;
+    return moved(big_endian(numbers + 16), row * (ir[5] + 1u), first_address(ir), last_address(ir));
+}
+
+/* The attribute byte that is latched when a row begins, sought from the end of the row before it backward; 0 for none. */
+static unsigned latched_before(const uint8_t *numbers, const uint8_t *chars, const uint8_t *attrs, unsigned row)
+{
+    const uint8_t *ir = numbers + 1;
+
+    while (row-- > 0) {
+        unsigned start = row_start(numbers, chars, row);
+
+        for (unsigned c = ir[5] + 1u; c-- > 0;) {
+            unsigned at = moved(start, c, first_address(ir), last_address(ir));
+
+            if (attrs[at] & AFLG)
+                return attrs[at];
+        }
+    }
+    return 0;
+}
+
 feldrime_answer plain_line_draw(
     const uint8_t *numbers, size_t numbers_count,
     const uint8_t *chars, size_t chars_count,
@@ -40,7 +69,7 @@ feldrime_answer plain_line_draw(
     uint32_t line, uint8_t field,
     uint8_t *out, size_t out_count)
 {
-    if (numbers_count != 32 || numbers[0] != 1 || chars_count != MEMORY || attrs_count != MEMORY
+    if (numbers_count != 32 || (numbers[0] != 1 && numbers[0] != 2) || chars_count != MEMORY || attrs_count != MEMORY
         || words_count != CHARACTERS * LIST || flags_count != CHARACTERS
         || unshifted_count != LIST || shifted_count != LIST)
         return answer(3);
@@ -53,7 +82,8 @@ feldrime_answer plain_line_draw(
     unsigned dots = numbers[23];
     unsigned strike = numbers[24];
 
-    if (start1 >= MEMORY || cursor >= MEMORY || start2 >= MEMORY || switches > 15 || strike > 15)
+    if (start1 >= MEMORY || cursor >= MEMORY || start2 >= MEMORY || switches > most_switches(numbers[0])
+        || strike > 15)
         return answer(12);
 
     if ((ir[0] | ir[1]) & 128)
@@ -85,12 +115,13 @@ feldrime_answer plain_line_draw(
 
     unsigned row = line / lines;
     unsigned scan = line % lines;
-    unsigned first = (ir[9] & 15u) * 256 + ir[8];
-    unsigned last = ((ir[9] >> 4) + 1u) * 1024 - 1;
-    unsigned entry = start2 + 2 * row;
-    unsigned at = ir[2] & 128
-        ? chars[entry % MEMORY] + (chars[(entry + 1) % MEMORY] & 63u) * 256
-        : moved(start1, row * hact, first, last);
+    unsigned first = first_address(ir);
+    unsigned last = last_address(ir);
+    unsigned at = row_start(numbers, chars, row);
+
+    unsigned field_mode = switches & FIELD_MODE;
+    unsigned bare = setting_is_bare(switches);
+    unsigned latch = field_mode ? latched_before(numbers, chars, attrs, row) : 0;
 
     unsigned unshifted_word = position(unshifted, scan);
     unsigned shifted_word = position(shifted, scan);
@@ -106,8 +137,12 @@ feldrime_answer plain_line_draw(
     unsigned hides = BLANK | (blink ? BLINK : 0);
 
     for (unsigned c = 0; c < hact; c++) {
-        unsigned code = chars[at];
-        unsigned attr = attrs[at] & AFLG ? attrs[at] : 0;
+        unsigned sets = attrs[at] & AFLG;
+        unsigned attr = sets ? attrs[at] : latch;
+        unsigned code = sets && bare ? 0 : chars[at];
+
+        if (field_mode)
+            latch = attr;
 
         unsigned character = code & 127;
         unsigned place = flags[character] ? shifted_word : unshifted_word;

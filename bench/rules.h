@@ -1,4 +1,4 @@
-/* What the C drawers and the C step share: sizes, the bits of switches and attributes, the levels, an address, a list's search. */
+/* What the C around the library shares: sizes, the bits of switches and attributes, the levels, addresses, a list's search. */
 #ifndef RULES_H
 #define RULES_H
 
@@ -8,9 +8,32 @@
 #define CHARACTERS 128u  /* characters in the font */
 #define LIST 9u          /* words a character, line numbers in a list */
 
-enum { DISPLAY = 1, CURSOR = 2, BKGND = 4, RBLANK = 8 };                                                 /* switches */
+enum { DISPLAY = 1, CURSOR = 2, BKGND = 4, RBLANK = 8, FIELD_MODE = 16, ACD = 32 };                  /* switches */
 enum { REVERSE = 1, BLANK = 2, BLINK = 4, UNDERLINE = 8, HIGHLIGHT = 16, STRIKE = 32, AFLG = 128 };  /* attributes */
 enum { BLACK, GRAY, WHITE };
+
+/* All switches that a page of a version may have set. */
+static inline unsigned most_switches(unsigned version)
+{
+    return version == 2 ? 63 : 15;
+}
+
+/* Whether a cell with AFLG is bare of its character. */
+static inline unsigned setting_is_bare(unsigned switches)
+{
+    return (switches & (FIELD_MODE | ACD)) == FIELD_MODE;
+}
+
+/* The buffer's first and last address. */
+static inline unsigned first_address(const uint8_t *ir)
+{
+    return (ir[9] & 15u) * 256 + ir[8];
+}
+
+static inline unsigned last_address(const uint8_t *ir)
+{
+    return ((ir[9] >> 4) + 1u) * 1024 - 1;
+}
 
 /* An address in a page's numbers. */
 static inline unsigned big_endian(const uint8_t *pair)

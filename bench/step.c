@@ -2,6 +2,12 @@
 #include "rules.h"
 #include "stepper.h"
 
+/* A latch byte as it counts: none without AFLG, and none in character mode. */
+static unsigned settled(unsigned latch, unsigned field_mode)
+{
+    return field_mode && latch & AFLG ? latch : 0;
+}
+
 feldrime_step_answer plain_step(
     feldrime_board *board,
     const uint8_t *chars, size_t chars_count,
@@ -28,7 +34,8 @@ feldrime_step_answer plain_step(
     unsigned dots = board->page.video.dots;
     unsigned strike = board->page.video.strike;
 
-    if (start1 >= MEMORY || cursor >= MEMORY || start2 >= MEMORY || switches > 15 || strike > 15) {
+    if (start1 >= MEMORY || cursor >= MEMORY || start2 >= MEMORY || switches > most_switches(board->page.version)
+        || strike > 15) {
         a.refusal = 12;
         return a;
     }
@@ -72,6 +79,10 @@ feldrime_step_answer plain_step(
         return a;
     }
 
+    unsigned field_mode = switches & FIELD_MODE;
+    unsigned latch = settled(board->place.beam.latch, field_mode);
+    unsigned row_latch = settled(board->place.row.latch, field_mode);
+
     /* An inactive board has its display off. Both blink periods are powers of two. */
     unsigned bkgnd = (switches & BKGND) != 0;
     unsigned shown = switches & DISPLAY && board->resets >= 2;
@@ -98,21 +109,30 @@ feldrime_step_answer plain_step(
         if (clock == 0) {
             if (scan != 0) {
                 at = row_start;
+                latch = row_latch;
             } else if (ir[2] & 128) {
                 unsigned entry = start2 + 2 * row;
                 at = chars[entry % MEMORY] + (chars[(entry + 1) % MEMORY] & 63u) * 256;
             } else if (row == 0) {
                 at = start1;
             }
+            if (line == 0)
+                latch = 0;
             row_start = at;
+            row_latch = latch;
         }
+
+        /* With the display off it latches all the same. */
+        unsigned sets = attrs[at] & AFLG;
+        unsigned attr = sets ? attrs[at] : latch;
+        if (field_mode)
+            latch = attr;
 
         a.cursor = switches & CURSOR && at == cursor && ir[6] >> 4 <= scan && scan <= (ir[6] & 15u)
             && (!(ir[7] & 32) || (field & (cursor_period - 1)) < cursor_period / 2);
 
         if (shown) {
-            unsigned code = chars[at];
-            unsigned attr = attrs[at] & AFLG ? attrs[at] : 0;
+            unsigned code = sets && setting_is_bare(switches) ? 0 : chars[at];
 
             if (code & 128) {
                 unsigned character = code & 127;
@@ -133,9 +153,7 @@ feldrime_step_answer plain_step(
                 symbol = surround;
         }
 
-        unsigned first = (ir[9] & 15u) * 256 + ir[8];
-        unsigned last = ((ir[9] >> 4) + 1u) * 1024 - 1;
-        next = at == last ? first : (at + 1) % MEMORY;
+        next = at == last_address(ir) ? first_address(ir) : (at + 1) % MEMORY;
     }
 
     a.address = at;
@@ -145,7 +163,9 @@ feldrime_step_answer plain_step(
     }
 
     board->place.beam.address = next;
+    board->place.beam.latch = latch;
     board->place.row.address = row_start;
+    board->place.row.latch = row_latch;
     if (clock + 1 < ht) {
         board->place.clock = clock + 1;
         return a;

@@ -39,7 +39,7 @@ extern "C" {
 /* The version of this header and of the archive that it belongs to. While it stays, all that is said here stays, though
    calls may be added. With another version calls, structs, sizes and refusal numbers may be others, and so may what is
    accepted and drawn: a program is then read through and compiled again. Files have versions of their own. */
-#define FELDRIME_VERSION 1
+#define FELDRIME_VERSION 2
 
 /* The sizes of buffers, in elements. */
 enum {
@@ -80,11 +80,12 @@ static inline const char *feldrime_meaning(uint32_t refusal)
     case FELDRIME_DONE:
         return "done";
     case FELDRIME_REFUSED_VERSION:
-        return "the file is empty, or its version byte is not 1";
+        return "the file is empty, or its version byte is not 1, nor 2 in a page file";
     case FELDRIME_REFUSED_LENGTH:
         return "the length field is wrong, or the file has too few or too many bytes";
     case FELDRIME_REFUSED_SIZE:
-        return "a buffer has the wrong size or no room for the file, or the page's numbers do not begin with version 1";
+        return "a buffer has the wrong size or no room for the file, "
+               "or the page's numbers do not begin with version 1 or 2";
     case FELDRIME_REFUSED_RESERVED:
         return "doubled rows (IR0[7]) or interlace (IR1[7]) is set";
     case FELDRIME_REFUSED_PORCH:
@@ -101,7 +102,7 @@ static inline const char *feldrime_meaning(uint32_t refusal)
         return "the command is not carried, or it loads 15 into the IR pointer";
     case FELDRIME_REFUSED_ADDRESS:
         return "screen start 1, screen start 2 or the cursor address is above 16383, "
-               "one of the switches 4 to 7 is set, or the strike line is above 15";
+               "one of the switches 4 to 7 is set (in version 2, switch 6 or 7), or the strike line is above 15";
     default:
         return "no refusal has this number";
     }
@@ -109,12 +110,12 @@ static inline const char *feldrime_meaning(uint32_t refusal)
 
 /* A page's numbers, 32 bytes:
 
-     0        version, 1
+     0        version, 1 or 2
      1 - 15   IR0 to IR14
      16, 17   screen start 1, high byte first
      18, 19   cursor address, likewise
      20, 21   screen start 2, likewise: where the row table stands
-     22       switches: bit 0 display, 1 cursor, 2 BKGND, 3 RBLANK, others 0
+     22       switches: bit 0 display, 1 cursor, 2 BKGND, 3 RBLANK, and in version 2 bit 4 field mode, 5 ACD; others 0
      23       dots in a cell
      24       strike line
      25 - 31  0 where the library writes them, ignored where it reads them
@@ -141,7 +142,11 @@ static inline const char *feldrime_meaning(uint32_t refusal)
    + 2r hold: low byte, then high byte, of which six bits count.
 
    A character byte is 80 hex + the character; below 80 hex the cell has no character. An attribute byte: bit 0 reverse,
-   1 blank, 2 blink, 3 underline, 4 highlight (white for gray), 5 strike, and 7, without which the cell has none of them.
+   1 blank, 2 blink, 3 underline, 4 highlight (white for gray), 5 strike, and 7, AFLG, without which the others do not
+   count. Then the cell has none of them; but in field mode it has those of the last cell before it with AFLG, in the
+   order of fetching from row 0, column 0 on, or none. In field mode with ACD off a cell with AFLG shows no character, but
+   has its attributes, and its underline and strike; with ACD on it shows its character. Without field mode ACD says
+   nothing.
 
    A cell's symbol is gray, or white if highlighted, on black. BKGND, reverse and the cursor each exchange the two, so
    that two of them cancel. On the underline line underline makes all dots of the cell symbol, on the strike line strike
@@ -184,8 +189,8 @@ feldrime_answer feldrime_page_check(
 feldrime_size feldrime_page_size(
     const uint8_t *numbers, size_t numbers_count);
 
-/* Takes a page file apart: version byte 1; 32792 in four bytes, high byte first; bytes 1 to 24 of the numbers; character
-   memory; attribute memory. Writes all of numbers, chars and attrs. Refuses 1, 2, 3, 12, 4, 5, 6. */
+/* Takes a page file apart: version byte, 1 or 2; 32792 in four bytes, high byte first; bytes 1 to 24 of the numbers;
+   character memory; attribute memory. Writes all of numbers, chars and attrs. Refuses 1, 2, 3, 12, 4, 5, 6. */
 feldrime_answer feldrime_page_read(
     const uint8_t *file, size_t file_count,
     uint8_t *numbers, size_t numbers_count,
@@ -344,9 +349,15 @@ static inline feldrime_cells feldrime_cells_of(
    on, with the numbers that they have in a picture. A line has HT clocks: HACT active ones, from clock 0 on, then front
    porch, HSYNC and HBP. A cell is fetched on each active clock of a visible line. BLANK is 1 on all other clocks, and
    while the display is off on these too. At a frame's end the field goes up by one, and from 255 to 0. At clock 0, from
-   which clocks are counted, all of the place is 0. */
+   which clocks are counted, all of the place is 0.
+
+   latch is the attribute byte that is valid before the beam's cell, and the one that the row began with; 0 is none. In
+   field mode a fetch of a cell with AFLG sets it, with the display off too. Row 0 of a frame begins with none, a later
+   row with what the beam has then, and each line of a row with the row's own. A latch handed over without AFLG, or without
+   field mode, counts as 0, and a step leaves 0. */
 typedef struct {
     struct {
+        uint8_t version; /* 1 or 2; any other counts as 1, and is written as 1 */
         uint8_t irs[15];
         struct {
             uint16_t start1, cursor, start2;
@@ -362,6 +373,7 @@ typedef struct {
         uint32_t line, clock; /* line of the frame, clock of the line */
         struct {
             uint16_t address;
+            uint8_t latch;
         } beam, row; /* what the beam carries, and what its row began with */
     } place;
     uint8_t pointer; /* the IR that a write at address 0 goes to */
@@ -385,8 +397,8 @@ typedef struct {
     uint8_t dots[12];                            /* levels; 0 in the places past the cell's dots */
 } feldrime_step_answer;
 
-/* The board after power: zeros throughout, so it is inactive until two master resets in a row. A step refuses it until
-   its IRs are written (5) and its dots are set (6). */
+/* The board after power: version 1, and zeros throughout, so it is inactive until two master resets in a row. A step
+   refuses it until its IRs are written (5) and its dots are set (6). */
 feldrime_board feldrime_power(void);
 
 /* An active board with a page's numbers, at clock 0, its pointer at IR0. Refuses 3, 12, 4, 5, 6; refused, it gives the
@@ -402,7 +414,7 @@ feldrime_answer feldrime_numbers_of(
 
 /* The board with these dots in a cell, strike line, BKGND and RBLANK, of which any number but 0 is on. Refuses 12, 6;
    refused, it gives the old board. 12 is for the board's three addresses and switches and for the strike line handed
-   over, 6 for the dots handed over; nothing else is judged, neither place nor pointer. */
+   over, 6 for the dots handed over; nothing else is judged, neither place nor pointer. Switches 4 and 5 are kept. */
 feldrime_board_answer feldrime_set_video(
     feldrime_board board,
     uint8_t dots, uint8_t strike, uint8_t bkgnd, uint8_t rblank);
@@ -418,7 +430,7 @@ feldrime_board_answer feldrime_set_video(
      6, 7    screen start 2, likewise
 
    A master reset sets the place to clock 0, its field too, the pointer to IR0, and display and cursor off. All else is
-   kept: IRs, addresses, BKGND, RBLANK, dots and strike line. An active board stays active.
+   kept: version, IRs, addresses, the other switches, dots and strike line. An active board stays active.
 
    An inactive board takes master resets only. Any other write is answered by 0 and breaks their run. The board can be
    read, set by feldrime_set_video and stepped all the same, its display off whatever the switch says.

@@ -10,7 +10,7 @@ struct reading {
     uint32_t rows;
     uint32_t length[ROWS]; /* up to the last letter that is no blank */
     char letter[ROWS][FELDRIME_CELLS];
-    bool struck[ROWS][FELDRIME_CELLS]; /* a line goes through it */
+    bool struck[ROWS][FELDRIME_CELLS]; /* a line goes through it, or through the blank between two such letters */
 };
 
 /* Reads the pictures of a page. Says why it could not. */

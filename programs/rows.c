@@ -14,8 +14,8 @@ const char rows_help[] =
     "  from   where the row's first cell is named: an entry of the row table, by the two cells that hold it, or\n"
     "         screen start 1; or that the row goes on where the one before it ended\n"
     "  cells  the addresses of the cells that the row shows, in order. * marks cells that another row shows too\n"
-    "  text   what stands in these cells, hidden cells too. A cell without a character is a blank, and a character\n"
-    "         that is no letter, digit or sign of ASCII is a dot\n";
+    "  text   what stands in these cells, also where the picture does not show it. A cell without a character is a\n"
+    "         blank, and a character that is no letter, digit or sign of ASCII is a dot\n";
 
 static struct page page;
 static uint16_t cells[FELDRIME_CELLS];

@@ -9,9 +9,9 @@ import sys
 HERE = pathlib.Path(__file__).resolve().parent
 MEMORY = 16384
 LANGUAGES = "en", "de", "fr", "it", "sl"
-LOOKS = {"r": 1, "x": 2, "b": 4, "u": 8, "h": 16, "s": 32}
+LOOKS = {"r": 1, "x": 2, "b": 4, "u": 8, "h": 16, "s": 32, "n": 0}
 AFLG = 128
-SWITCHES = {"display": 1, "cursor": 2, "bkgnd": 4, "rblank": 8}
+SWITCHES = {"display": 1, "cursor": 2, "bkgnd": 4, "rblank": 8, "field": 16, "acd": 32}
 VSYNCS = [3, 1, 5, 7]
 
 
@@ -27,7 +27,8 @@ def ini(name):
 
 
 def look(letters):
-    return sum(LOOKS[letter] for letter in letters)
+    """An attribute byte, without AFLG where there is no letter."""
+    return AFLG | sum(LOOKS[letter] for letter in letters) if letters else 0
 
 
 def padded(row, columns):
@@ -57,7 +58,7 @@ class Memory:
         """Writes cells from an address on. Gives the address after them."""
         for letter in letters:
             self.take(at, 0x80 | ord(letter))
-            self.attrs[at] = attributes and AFLG | attributes
+            self.attrs[at] = attributes
             at = self.first if at == self.last else (at + 1) % MEMORY
         return at
 
@@ -88,8 +89,8 @@ def numbers(page, rows, cursor):
 
 
 def typed(page, memory):
-    """Types a sheet: a line with | is a row, and lines with : below it give its cells attributes, by letter, or the
-    cursor, by c. Gives the number of rows and the cursor's address."""
+    """Types a sheet: a line with | is a row, and lines with : below it give its cells attributes, by letter (n is AFLG
+    alone), or the cursor, by c. Gives the number of rows and the cursor's address."""
     columns = page.getint("columns")
     rows = []
     for line in text(page["sheet"]).splitlines():
@@ -138,7 +139,7 @@ def page_file(page, catalogue):
     else:
         rows, cursor = composed(page, memory, catalogue)
     body = numbers(page, rows, cursor) + memory.chars + memory.attrs
-    return b"\1" + len(body).to_bytes(4, "big") + body
+    return bytes([page.getint("version")]) + len(body).to_bytes(4, "big") + body
 
 
 def font_file(deck):

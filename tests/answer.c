@@ -12,7 +12,7 @@
 
 #include "feldrime.h"
 
-enum { LONGEST_FRAME = 826752, WORDS_IN_A_LINE = 8, BOARD_BYTES = 42 };
+enum { LONGEST_FRAME = 826752, WORDS_IN_A_LINE = 8, BOARD_BYTES = 45 };
 
 static unsigned long script_line;
 
@@ -304,6 +304,7 @@ static feldrime_board unpacked(const uint8_t *from)
     feldrime_board b;
 
     memset(&b, 0xA5, sizeof b);
+    b.page.version = (uint8_t)next_bytes(&from, 1);
     memcpy(b.page.irs, from, sizeof b.page.irs);
     from += sizeof b.page.irs;
     b.page.starts.start1 = (uint16_t)next_bytes(&from, 2);
@@ -316,7 +317,9 @@ static feldrime_board unpacked(const uint8_t *from)
     b.place.line = next_bytes(&from, 4);
     b.place.clock = next_bytes(&from, 4);
     b.place.beam.address = (uint16_t)next_bytes(&from, 2);
+    b.place.beam.latch = (uint8_t)next_bytes(&from, 1);
     b.place.row.address = (uint16_t)next_bytes(&from, 2);
+    b.place.row.latch = (uint8_t)next_bytes(&from, 1);
     b.pointer = (uint8_t)next_bytes(&from, 1);
     b.resets = (uint8_t)next_bytes(&from, 1);
     return b;
@@ -327,14 +330,16 @@ static const char *board_text(void)
     static char text[2 * BOARD_BYTES + 1];
     char *at = text;
 
+    at += sprintf(at, "%02x", (unsigned)board->page.version);
     for (size_t i = 0; i < sizeof board->page.irs; i++)
         at += sprintf(at, "%02x", (unsigned)board->page.irs[i]);
     at += sprintf(at, "%04x%04x%04x%02x", (unsigned)board->page.starts.start1, (unsigned)board->page.starts.cursor,
                   (unsigned)board->page.starts.start2, (unsigned)board->page.switches);
     at += sprintf(at, "%08" PRIx32 "%02x%02x", board->page.video.dots, (unsigned)board->page.video.strike,
                   (unsigned)board->place.field);
-    at += sprintf(at, "%08" PRIx32 "%08" PRIx32 "%04x%04x", board->place.line, board->place.clock,
-                  (unsigned)board->place.beam.address, (unsigned)board->place.row.address);
+    at += sprintf(at, "%08" PRIx32 "%08" PRIx32, board->place.line, board->place.clock);
+    at += sprintf(at, "%04x%02x%04x%02x", (unsigned)board->place.beam.address, (unsigned)board->place.beam.latch,
+                  (unsigned)board->place.row.address, (unsigned)board->place.row.latch);
     sprintf(at, "%02x%02x", (unsigned)board->pointer, (unsigned)board->resets);
     return text;
 }
@@ -344,7 +349,7 @@ static void do_board(char **word)
     uint8_t packed[BOARD_BYTES];
 
     if (strlen(word[1]) != 2 * BOARD_BYTES)
-        fail("a board has 84 hex digits");
+        fail("a board has 90 hex digits");
     for (size_t i = 0; i < BOARD_BYTES; i++)
         packed[i] = (uint8_t)hex_digits(word[1] + 2 * i, 2);
     given = unpacked(packed);
@@ -357,9 +362,44 @@ static void do_board_again(char **word)
     *board = given;
 }
 
-static const char *power_state(void)
+/* ---- what a call was handed ---- */
+
+/* POWER and MODE of a report. */
+struct handed {
+    const char *power, *mode;
+};
+
+static const struct handed no_page = { "-", "-" };
+
+static const char *mode_of(uint8_t version, uint8_t switches)
 {
-    return board->resets == 0 ? "inactive-0" : board->resets == 1 ? "inactive-1" : "active";
+    return version == 2 && (switches & 16) != 0 ? "field" : "character";
+}
+
+static struct handed by_board(void)
+{
+    const char *power = board->resets == 0 ? "inactive-0" : board->resets == 1 ? "inactive-1" : "active";
+
+    return (struct handed){ power, mode_of(board->page.version, board->page.switches) };
+}
+
+/* By bytes that begin with a version and have the switches at this place. */
+static struct handed by_bytes(const uint8_t *bytes, size_t switches)
+{
+    if (bytes[0] != 1 && bytes[0] != 2)
+        return no_page;
+    return (struct handed){ "-", mode_of(bytes[0], bytes[switches]) };
+}
+
+static struct handed by_numbers(void)
+{
+    return lent[NUMBERS].bytes == FELDRIME_NUMBERS ? by_bytes(lent[NUMBERS].start, 22) : no_page;
+}
+
+/* A file need not be whole, but hold all of a page's numbers. */
+static struct handed by_file(void)
+{
+    return lent[FILE_BYTES].bytes >= 29 ? by_bytes(lent[FILE_BYTES].start, 26) : no_page;
 }
 
 /* ---- reports ---- */
@@ -386,9 +426,11 @@ static void check_guards(void)
             printf("guard of %s disturbed\n", names[which]);
 }
 
-static void report(const char *call, const char *power, uint32_t count, uint32_t refusal, uint32_t beside, const int *which)
+static void report(const char *call, struct handed handed, uint32_t count, uint32_t refusal, uint32_t beside,
+                   const int *which)
 {
-    printf("%s %s %" PRIu32 " %" PRIu32 " %" PRIu32 "%s", call, power, count, refusal, beside, results);
+    printf("%s %s %s %" PRIu32 " %" PRIu32 " %" PRIu32 "%s", call, handed.power, handed.mode, count, refusal, beside,
+           results);
     for (; *which != ALL; which++)
         printf(" %s %zu %016" PRIx64, names[*which], count_of(*which), sum_of(*which));
     printf("\n");
@@ -400,16 +442,16 @@ static void report(const char *call, const char *power, uint32_t count, uint32_t
 #define BYTES(which) lent[which].start, lent[which].bytes
 #define FONT (uint16_t *)(void *)lent[WORDS].start, count_of(WORDS), BYTES(FLAGS), BYTES(UNSHIFTED), BYTES(SHIFTED)
 
-static void report_answer(const char *call, feldrime_answer answer, const int *which)
+static void report_answer(const char *call, struct handed handed, feldrime_answer answer, const int *which)
 {
     RESULTS("%s", "");
-    report(call, "-", 1, answer.refusal, answer.beside, which);
+    report(call, handed, 1, answer.refusal, answer.beside, which);
 }
 
 static void call_page_check(char **word)
 {
     (void)word;
-    report_answer("page_check", feldrime_page_check(BYTES(NUMBERS)), of_numbers);
+    report_answer("page_check", by_numbers(), feldrime_page_check(BYTES(NUMBERS)), of_numbers);
 }
 
 static feldrime_size page_size(void)
@@ -417,7 +459,7 @@ static feldrime_size page_size(void)
     feldrime_size size = feldrime_page_size(BYTES(NUMBERS));
 
     RESULTS(" lines %" PRIu32 " dots %" PRIu32, size.lines, size.dots);
-    report("page_size", "-", 1, size.refusal, size.beside, of_numbers);
+    report("page_size", by_numbers(), 1, size.refusal, size.beside, of_numbers);
     return size;
 }
 
@@ -430,21 +472,21 @@ static void call_page_size(char **word)
 static void call_page_read(char **word)
 {
     (void)word;
-    report_answer("page_read", feldrime_page_read(BYTES(FILE_BYTES), BYTES(NUMBERS), BYTES(CHARS), BYTES(ATTRS)),
-                  of_page_read);
+    report_answer("page_read", by_file(),
+                  feldrime_page_read(BYTES(FILE_BYTES), BYTES(NUMBERS), BYTES(CHARS), BYTES(ATTRS)), of_page_read);
 }
 
 static void call_page_write(char **word)
 {
     (void)word;
-    report_answer("page_write", feldrime_page_write(BYTES(NUMBERS), BYTES(CHARS), BYTES(ATTRS), BYTES(OUT)),
-                  of_page_write);
+    report_answer("page_write", by_numbers(),
+                  feldrime_page_write(BYTES(NUMBERS), BYTES(CHARS), BYTES(ATTRS), BYTES(OUT)), of_page_write);
 }
 
 static void call_font_read(char **word)
 {
     (void)word;
-    report_answer("font_read", feldrime_font_read(BYTES(FILE_BYTES), FONT), of_font_read);
+    report_answer("font_read", no_page, feldrime_font_read(BYTES(FILE_BYTES), FONT), of_font_read);
 }
 
 static feldrime_answer line_draw(uint32_t line, uint8_t field)
@@ -454,12 +496,12 @@ static feldrime_answer line_draw(uint32_t line, uint8_t field)
 
 static void call_line_draw(char **word)
 {
-    report_answer("line_draw", line_draw(number(word[2]), small(word[3])), of_drawing);
+    report_answer("line_draw", by_numbers(), line_draw(number(word[2]), small(word[3])), of_drawing);
 }
 
 static void picture_draw(uint8_t field)
 {
-    report_answer("picture_draw",
+    report_answer("picture_draw", by_numbers(),
                   feldrime_picture_draw(BYTES(NUMBERS), BYTES(CHARS), BYTES(ATTRS), FONT, field, BYTES(OUT)), of_drawing);
 }
 
@@ -473,7 +515,7 @@ static void call_row_run(char **word)
     feldrime_run run = feldrime_row_run(BYTES(NUMBERS), BYTES(CHARS), number(word[2]));
 
     RESULTS(" first %" PRIu32 " count %" PRIu32, run.first, run.count);
-    report("row_run", "-", 1, run.refusal, run.beside, of_run);
+    report("row_run", by_numbers(), 1, run.refusal, run.beside, of_run);
 }
 
 static feldrime_cells row_cells(uint32_t row)
@@ -486,27 +528,27 @@ static void call_row_cells(char **word)
     feldrime_cells answer = row_cells(number(word[2]));
 
     RESULTS(" count %" PRIu32, answer.count);
-    report("row_cells", "-", 1, answer.refusal, answer.beside, of_cells);
+    report("row_cells", by_numbers(), 1, answer.refusal, answer.beside, of_cells);
 }
 
 /* The board becomes the answer's. */
-static void report_board(const char *call, const char *power, feldrime_board_answer answer, const int *which)
+static void report_board(const char *call, struct handed handed, feldrime_board_answer answer, const int *which)
 {
     *board = answer.board;
     RESULTS(" board %s", board_text());
-    report(call, power, 1, answer.refusal, answer.beside, which);
+    report(call, handed, 1, answer.refusal, answer.beside, which);
 }
 
 static void call_power(char **word)
 {
     (void)word;
-    report_board("power", "-", (feldrime_board_answer){ .board = feldrime_power() }, of_nothing);
+    report_board("power", no_page, (feldrime_board_answer){ .board = feldrime_power() }, of_nothing);
 }
 
 static void call_board_of(char **word)
 {
     (void)word;
-    report_board("board_of", "-", feldrime_board_of(BYTES(NUMBERS)), of_numbers);
+    report_board("board_of", by_numbers(), feldrime_board_of(BYTES(NUMBERS)), of_numbers);
 }
 
 static void call_numbers_of(char **word)
@@ -515,22 +557,22 @@ static void call_numbers_of(char **word)
 
     (void)word;
     RESULTS("%s", "");
-    report("numbers_of", power_state(), 1, answer.refusal, answer.beside, of_numbers);
+    report("numbers_of", by_board(), 1, answer.refusal, answer.beside, of_numbers);
 }
 
 static void call_set_video(char **word)
 {
-    const char *power = power_state();
+    struct handed handed = by_board();
 
-    report_board("set_video", power,
+    report_board("set_video", handed,
                  feldrime_set_video(*board, small(word[2]), small(word[3]), small(word[4]), small(word[5])), of_nothing);
 }
 
 static void call_write(char **word)
 {
-    const char *power = power_state();
+    struct handed handed = by_board();
 
-    report_board("write", power, feldrime_write(*board, small(word[2]), small(word[3])), of_nothing);
+    report_board("write", handed, feldrime_write(*board, small(word[2]), small(word[3])), of_nothing);
 }
 
 static void call_read(char **word)
@@ -538,14 +580,14 @@ static void call_read(char **word)
     feldrime_byte answer = feldrime_read(*board, small(word[2]));
 
     RESULTS(" byte %" PRIu32, answer.byte);
-    report("read", power_state(), 1, answer.refusal, answer.beside, of_nothing);
+    report("read", by_board(), 1, answer.refusal, answer.beside, of_nothing);
 }
 
 static void call_state_at(char **word)
 {
-    const char *power = power_state();
+    struct handed handed = by_board();
 
-    report_board("state_at", power, feldrime_state_at(*board, BYTES(CHARS), BYTES(ATTRS), number(word[2])), of_memories);
+    report_board("state_at", handed, feldrime_state_at(*board, BYTES(CHARS), BYTES(ATTRS), number(word[2])), of_memories);
 }
 
 /* ---- steps ---- */
@@ -582,8 +624,9 @@ static void add_step(void)
 {
     const feldrime_step_answer *a = &steps.last;
     const uint32_t before[] = { a->refusal, a->beside, a->hsync, a->vsync, a->blank, a->cursor, a->blink, a->address };
-    const uint32_t after[] = { board->place.field, board->place.line, board->place.clock, board->place.beam.address,
-                               board->place.row.address };
+    const uint32_t after[] = { board->place.field, board->place.line, board->place.clock,
+                               board->place.beam.address, board->place.beam.latch,
+                               board->place.row.address, board->place.row.latch };
 
     for (size_t i = 0; i < sizeof before / sizeof *before; i++)
         steps.sum = add(steps.sum, before[i]);
@@ -609,7 +652,7 @@ static bool step_once(void)
 static void report_steps(void)
 {
     RESULTS(" sum %016" PRIx64 " %s board %s", steps.sum, shown_text(), board_text());
-    report("step", power_state(), steps.last.refusal == 0 ? steps.done : 1, steps.last.refusal, steps.last.beside, of_step);
+    report("step", by_board(), steps.last.refusal == 0 ? steps.done : 1, steps.last.refusal, steps.last.beside, of_step);
 }
 
 static void call_step(char **word)
@@ -664,7 +707,7 @@ static bool frame_by_lines(uint8_t field)
         done++;
     }
     RESULTS(" sum %016" PRIx64, sum);
-    report("line_draw", "-", answer.refusal == 0 ? done : 1, answer.refusal, answer.beside, of_drawing);
+    report("line_draw", by_numbers(), answer.refusal == 0 ? done : 1, answer.refusal, answer.beside, of_drawing);
     return same && done == frame.size.lines;
 }
 
@@ -703,7 +746,7 @@ static bool frame_by_rows(void)
         done++;
     }
     RESULTS(" sum %016" PRIx64, sum);
-    report("row_cells", "-", answer.refusal == 0 ? done : 1, answer.refusal, answer.beside, of_cells);
+    report("row_cells", by_numbers(), answer.refusal == 0 ? done : 1, answer.refusal, answer.beside, of_cells);
     return same && done == rows;
 }
 

@@ -18,8 +18,10 @@ head -c 1000 "$page" > "$work/pages/de.page"
 cp "$here/samples/en.page" "$work/pages/quoted.page"
 printf '\xbc\xe2\xbe\xa6\xa2\xa7\x81' | dd of="$work/pages/quoted.page" bs=1 seek=$((29 + 1585)) conv=notrunc status=none
 { head -c 26 "$page"; printf '\0'; tail -c +28 "$page"; } > "$work/pages/dark.page"
+# with ACD on, the cells that set attributes show their characters; strike line 5 covers the hyphen of what is struck
+{ head -c 26 "$latching"; printf '\x31\x09\x05'; tail -c +30 "$latching"; } > "$work/pages/acd.page"
 pages=("$work/pages/bulletin-fr.page" "$work/pages/de.page" "$work/more/BULLETIN-fr.page" "$work/pages/index.page" "$work/none.page")
-pages+=("$work/pages/<b>&\"ü.page" "$work/pages/dark.page" "$work/pages/quoted.page")
+pages+=("$work/pages/<b>&\"ü.page" "$work/pages/dark.page" "$work/pages/acd.page" "$work/pages/quoted.page")
 ends 1 "de.page: refused 2, " "${feldrime[@]}" site "$font" "$site" "${pages[@]}"
 for text in "none.page: cannot be read: No such file" "index.page: its name is that of the site's index" "BULLETIN-fr.page: an earlier page has the same name"; do
     [[ $said == *"$text"* ]] || say "the site does not say: $text"
@@ -34,6 +36,9 @@ shows de.html "This page is not shown: refused 2"
 shows bulletin-fr.html '<html lang="fr">'
 shows dark.html 'alt="The picture shows no text."'
 shows dark.html "<title>dark</title>"
+shows acd.html " Danger below 1800 m:[4, high]"
+shows acd.html "<s>[open one-way until noon to vehicles</s>"
+shows acd.html "<s>with chains</s>]closed]and"
 quoted="&lt;b&gt;&amp;&quot;'.HE BULLETIN"
 shows quoted.html "alt=\" $quoted"
 shows quoted.html "<title>$quoted</title>"

@@ -36,6 +36,12 @@ done
 python3 tests/rows.py "${feldrime[@]}" || failed=1
 
 ends 0 "fr.page: a page of 19 rows and 48 columns, 384 x 266 dots" "${feldrime[@]}" check "$page"
+[[ $said != *"field mode"* ]] || say "a page in character mode is told as one in field mode"
+ends 0 "warning.page: a page of 23 rows and 64 columns, 576 x 322 dots, field mode" "${feldrime[@]}" check "$latching"
+# its switch 4 off
+{ head -c 26 "$latching"; printf '\1'; tail -c +28 "$latching"; } > "$work/character.page"
+ends 0 "character.page: a page of 23 rows and 64 columns, 576 x 322 dots" "${feldrime[@]}" check "$work/character.page"
+[[ $said != *"field mode"* ]] || say "a page of version 2 in character mode is told as one in field mode"
 ends 0 "deck.font: a font" "${feldrime[@]}" check "$page" "$font"
 head -c 100 "$font" > "$work/short.font"
 ends 1 "short.font: refused 2, " "${feldrime[@]}" check "$page" "$work/short.font"

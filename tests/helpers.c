@@ -1,5 +1,6 @@
 /* The header's short forms beside the calls that they stand for: helpers FONT PAGE..
-   Each is asked with the same bytes and counts, good and bad, and both have to answer the same and to leave the same behind. Then two
+   Each is asked with the same bytes and counts, good and bad, and both have to answer the same and to leave the same behind. The pages
+   have to be of both attribute modes. Then two
    sentences of the header: in which fields a picture can change, and that every refusal has words of its own. C99 and C++11. */
 #include <stdio.h>
 #include <stdlib.h>
@@ -8,6 +9,7 @@
 #include "feldrime.h"
 
 enum { ROOM = FELDRIME_PICTURE + 64, STEPS = 20000 };
+enum { FIELD_MODE = 1 << 4 }; /* of the switches */
 
 /* What the calls are lent, buffer by buffer. */
 static uint8_t numbers[FELDRIME_NUMBERS], chars[FELDRIME_MEMORY], attrs[FELDRIME_MEMORY];
@@ -21,6 +23,7 @@ static feldrime_font font;
 static uint8_t file[FELDRIME_PAGE_FILE + 1], out[2][ROOM];
 static uint16_t cells[2][FELDRIME_CELLS + 8];
 static unsigned long compared, refused, failed;
+static unsigned latching; /* pages of version 2 in field mode */
 
 static void expect(int holds, const char *what)
 {
@@ -62,7 +65,7 @@ static size_t load(const char *name)
     return count;
 }
 
-static void read_font(size_t count)
+static uint32_t read_font(size_t count)
 {
     feldrime_answer ours = feldrime_read_font(&font, file, count);
     feldrime_answer theirs = feldrime_font_read(file, count, words, FELDRIME_WORDS, flags, FELDRIME_FLAGS,
@@ -73,9 +76,10 @@ static void read_font(size_t count)
     same(font.flags, flags, sizeof flags, "feldrime_read_font: flags");
     same(font.unshifted, unshifted, sizeof unshifted, "feldrime_read_font: unshifted");
     same(font.shifted, shifted, sizeof shifted, "feldrime_read_font: shifted");
+    return theirs.refusal;
 }
 
-static void read_page(size_t count)
+static uint32_t read_page(size_t count)
 {
     feldrime_answer ours = feldrime_read_page(&page, file, count);
     feldrime_answer theirs = feldrime_page_read(file, count, numbers, FELDRIME_NUMBERS, chars, FELDRIME_MEMORY,
@@ -85,18 +89,21 @@ static void read_page(size_t count)
     same(page.numbers, numbers, sizeof numbers, "feldrime_read_page: numbers");
     same(page.chars, chars, sizeof chars, "feldrime_read_page: chars");
     same(page.attrs, attrs, sizeof attrs, "feldrime_read_page: attrs");
+    return theirs.refusal;
 }
 
-/* A byte more, a byte less, no byte and another version, then the file as it is. */
-static void read_all(void (*read_one)(size_t), size_t count)
+/* A byte more, a byte less, no byte and a version that no file has, then the file as it is. */
+static void read_all(uint32_t (*read_one)(size_t), size_t count)
 {
-    read_one(count + 1);
-    read_one(count - 1);
-    read_one(0);
-    file[0]++;
-    read_one(count);
-    file[0]--;
-    read_one(count);
+    uint8_t version = file[0];
+
+    expect(read_one(count + 1) == FELDRIME_REFUSED_LENGTH, "a file that is too long is not refused 2");
+    expect(read_one(count - 1) == FELDRIME_REFUSED_LENGTH, "a file that is too short is not refused 2");
+    expect(read_one(0) == FELDRIME_REFUSED_VERSION, "an empty file is not refused 1");
+    file[0] = 255;
+    expect(read_one(count) == FELDRIME_REFUSED_VERSION, "version 255 is not refused 1");
+    file[0] = version;
+    expect(read_one(count) == FELDRIME_DONE, "a whole file is refused");
 }
 
 static void write_page(size_t room)
@@ -172,8 +179,9 @@ static void tick(void)
 
         answers(&a, &b, sizeof a, b.refusal, "feldrime_tick answers otherwise");
         expect(ours.place.line == theirs.place.line && ours.place.clock == theirs.place.clock
-                   && ours.place.beam.address == theirs.place.beam.address,
-               "feldrime_tick: the board stands elsewhere");
+                   && ours.place.beam.address == theirs.place.beam.address
+                   && ours.place.beam.latch == theirs.place.beam.latch,
+               "feldrime_tick: the board stands elsewhere, or has another byte latched");
     }
     memcpy(page.numbers, numbers, sizeof numbers);
 }
@@ -197,6 +205,7 @@ static unsigned changes(size_t dots)
 static unsigned compare_page(size_t count)
 {
     read_all(read_page, count);
+    latching += numbers[0] == 2 && numbers[22] & FIELD_MODE;
     write_page(FELDRIME_PAGE_FILE - 1);
     write_page(FELDRIME_PAGE_FILE + 1);
 
@@ -240,7 +249,8 @@ int main(int count, char *arguments[])
         different += compare_page(load(arguments[i]));
     meanings();
     expect(different > 0, "no page blinks, so that fields were compared in vain");
-    printf("helpers: %lu answers compared, %lu of them refused, %lu differ; %u looks of blinking pages\n", compared, refused,
-           failed, different);
+    expect(latching > 0 && latching < (unsigned)count - 2, "not both attribute modes were met");
+    printf("helpers: %lu answers compared, %lu of them refused, %lu differ; %u looks of blinking pages; %u in field mode\n",
+           compared, refused, failed, different, latching);
     return failed == 0 ? 0 : 1;
 }

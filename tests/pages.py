@@ -1,8 +1,11 @@
-"""What the samples say, from the texts that they are made of, and where the rows of a page file come from, by document 01.
+"""What the samples say, from the texts that they are made of, and where the rows of a page file of version 1 or 2 come from, by
+documents 01 and 02.
 
 It shares nothing with programs/ or with the library."""
 import configparser
+import itertools
 import pathlib
+import re
 
 SAMPLES = pathlib.Path(__file__).resolve().parent.parent / "samples"
 MEMORY = 16384
@@ -15,26 +18,51 @@ def ini(name):
     return parser
 
 
-def sheet_rows():
-    """A row's letters, and under each the letters that mark it."""
+def is_sheet(name):
+    return "sheet" in ini("pages.ini")[name]
+
+
+def marked(page):
+    """A sheet's rows: the letters, and for each column under which there are marks, these."""
     rows = []
-    for line in (SAMPLES / "sheet.txt").read_text("ascii").splitlines():
+    for line in (SAMPLES / page["sheet"]).read_text("ascii").splitlines():
         if line[0] == "|":
-            rows.append([line[1:], set(), set()])
-        else:
-            rows[-1][1] |= {i for i, mark in enumerate(line[1:]) if mark == "x"}
-            rows[-1][2] |= {i for i, mark in enumerate(line[1:]) if mark == "s"}
+            rows.append((line[1:].ljust(page.getint("columns")), {}))
+            continue
+        for i, mark in enumerate(line[1:]):
+            if mark not in " c":
+                rows[-1][1].setdefault(i, set()).add(mark)
     return rows
 
 
-def sheet_text(opening, closing):
-    """The typed sheet as a reader sees it: hidden letters are blanks, struck ones stand between the two."""
+def sheet_rows(name):
+    """A row's letters, the columns of those that are hidden, and those that a line goes through. In field mode (02, R-1) marks run on
+    up to the next cell with marks of its own, from row to row; with ACD low such a cell shows no letter, but its lines."""
+    page = ini("pages.ini")[name]
+    switches = page["switches"].split()
+    rows, valid = [], set()
+    for letters, marks in marked(page):
+        hidden, struck = set(), set()
+        for i in range(len(letters)):
+            valid = marks.get(i, valid if "field" in switches else set())
+            setting = "field" in switches and "acd" not in switches and i in marks
+            if "x" in valid or setting:
+                hidden.add(i)
+            if "s" in valid and "x" not in valid:
+                struck.add(i)
+        rows.append((letters, hidden, struck))
+    return rows
+
+
+def sheet_text(name, opening, closing):
+    """The typed sheet as a reader sees it: hidden letters are blanks, struck ones stand between the two, with the blanks between them."""
     lines = []
-    for letters, hidden, struck in sheet_rows():
-        shown = [" " if i in hidden else letter for i, letter in enumerate(letters)]
-        for i in sorted(struck):
-            shown[i] = (opening if i - 1 not in struck else "") + shown[i] + (closing if i + 1 not in struck else "")
-        lines.append("".join(shown).rstrip())
+    for letters, hidden, struck in sheet_rows(name):
+        line = ""
+        for is_struck, run in itertools.groupby(range(len(letters)), struck.__contains__):
+            part = "".join(" " if i in hidden else letters[i] for i in run)
+            line += re.sub(r"\S(.*\S)?", lambda found: opening + found[0] + closing, part) if is_struck else part
+        lines.append(line.rstrip())
     return "\n".join(lines) + "\n"
 
 
@@ -48,7 +76,12 @@ def catalogue_text(language):
 
 
 def sample_text(name, opening, closing):
-    return sheet_text(opening, closing) if name == "sheet" else catalogue_text(name)
+    return sheet_text(name, opening, closing) if is_sheet(name) else catalogue_text(name)
+
+
+def typed_rows(name):
+    """What stands in the cells of a sample's rows, hidden or not."""
+    return [row[0].rstrip() for row in sheet_rows(name)] if is_sheet(name) else catalogue_text(name).splitlines()
 
 
 def walk(page):

@@ -8,6 +8,7 @@ use Rattle.units.specs.Units.{clocksOf}
 use Rattle.refusal.specs.Number.{numberOf}
 use Rattle.raster.specs.Moves.{advance, advanceBy, toLast, around}
 use Rattle.raster.specs.Cells.{startOf, cellOf}
+use Rattle.raster.specs.Latch.{latched}
 use Rattle.board.specs.declared.Page.{Page}
 use Rattle.board.specs.State.{boardOf}
 use Rattle.board.specs.Range.{addressRefused}
@@ -16,12 +17,13 @@ use Rattle.timing.specs.Check.{pageCheck}
 use Rattle.fetch.specs.Rows.{rowStart, cellAt}
 use Rattle.video.specs.declared.Look.{Look}
 use Rattle.video.specs.Scene.{sceneOf}
-use Rattle.video.specs.Look.{effective, lookOf}
+use Rattle.video.specs.Look.{lookOf}
 use Rattle.video.specs.Cell.{bits, lead, cellBits, litBits, cellDots}
 
 -- HSYNC 8 and HBP 7, 24 rows of 10 lines, VFP 4, VSYNC 3, VBP 20, display on, 8 dots; EC, HACT, the buffer, screen start 1 and BKGND as given
 unfoldable pub page : (ec hact first last start1 bkgnd : ℕ) → Page
 page ec hact first last start1 bkgnd = record {
+  version = 1;
   irs =
       72 ∷ (ec - 1) ∷ 26 ∷ 8 ∷ 23 ∷ (hact - 1) ∷ 0 ∷ 0 ∷ (first % 256) ∷ (16 * (last / 1024) + first / 256) ∷ 0 ∷ 0 ∷ 0 ∷ 0 ∷ 0 ∷ [];
   starts = record { start1 = start1; cursor = 0; start2 = 0 };
@@ -61,7 +63,7 @@ ones = record { lit = false; symbol = 1; surround = 0 }
 
 -- the look of a cell with AFLG and these attributes, away from cursor, underline line and strike line
 pub look : Page → ℕ → Look
-look p a = lookOf (sceneOf (boardOf p) 1 0) (effective (128 + a)) false
+look p a = lookOf (sceneOf (boardOf p) 1 0) (latched (128 + a) 0) false
 
 pub holds : Page → Fact → Bool
 holds p (HT n) = eqb (htOf (p .irs)) n

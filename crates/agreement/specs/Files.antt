@@ -7,7 +7,7 @@ use mathlib.Core.List.{List, _++_}
 use native.Mathlib.Omega.{arith}
 use borrow.Author.Tests.{eqb-true, le-ltb, not-false}
 use lib.Dec.{eqb, ltb}
-use lib.ListN.{length, getD, take, drop, replicate, length-append}
+use lib.ListN.{length, take, drop, replicate, length-append}
 use lib.Seq.{take-all, take-at, drop-at, drop-drop}
 use Rattle.lists.specs.Choice.{neither}
 use Rattle.lists.specs.Tab.{length-tab}
@@ -19,21 +19,18 @@ use Rattle.board.specs.Range.{memoriesRefused}
 use Rattle.timing.specs.Check.{pageCheck, stateRefused}
 use Rattle.shape.specs.Font.{Font, fontRefused}
 use Rattle.copies.specs.Put.{length-part}
-use Rattle.files.specs.Page.{wordAt, pageAt}
+use Rattle.files.specs.Page.{wordAt, pageAt, keptPage}
 use Rattle.files.specs.File.{longAt, versionRefused, lengthRefused, fileCheck, readCheck, pageRead, readPageOf, charsRead, attrsRead, headOf, fileOf, writeCheck, written}
 use Rattle.files.specs.FontFile.{fontCheck, fontIn, fontRead, fontWriteCheck, fontWritten}
 use Rattle.files.specs.Laws.{file-sized, FilePassed, file-passed, head-all, write-passed}
-use Rattle.files.specs.Round.{Bytes, page-from, page-again, page-kept}
+use Rattle.files.specs.Round.{Bytes, page-again, page-kept, kept-check, written-known}
 use Rattle.files.specs.FontRound.{font-again}
 use Rattle.numbers.specs.Numbers.{numbersRefused}
 use Rattle.numbers.specs.Files.{numbersRead}
 use Rattle.numbers.specs.Laws.{numbers-page}
 use Rattle.agreement.specs.Steps.{range-ok, call-ok, call-page}
 
--- an accepted file's version and length
-version-is : (file : List ℕ) → versionRefused file ≡ false → getD file 0 0 ≡ 1
-version-is file e = eqb-true _ _ (not-false _ e)
-
+-- an accepted file's length
 length-is : (file : List ℕ) (n : ℕ) → lengthRefused file n ≡ false → longAt file 1 ≡ n
 unfolding lengthRefused
 length-is file n e = eqb-true _ _ (not-false _ (neither (not (eqb (length file) (n + 5))) (not (eqb (longAt file 1) n)) e .1))
@@ -48,9 +45,9 @@ write-ok p n ok l = call-ok (boardOf p) (ltb n 32797) (le-ltb n 32797 l) ok (zer
 -- ---- a page file, read and written again
 
 module _ (file : List ℕ) (size : Bool) (ok : readCheck file size ≡ Done) where
-  pub file-ok : FilePassed file 32792 size (pageCheck (pageAt file 5))
+  pub file-ok : FilePassed file 2 32792 size (pageCheck (pageAt file 5))
   unfolding readCheck
-  file-ok = file-passed file 32792 size (pageCheck (pageAt file 5)) ok
+  file-ok = file-passed file 2 32792 size (pageCheck (pageAt file 5)) ok
 
   file-length : length file ≡ 32797
   file-length = file-sized file 32792 (file-ok .length-ok)
@@ -67,7 +64,7 @@ module _ (file : List ℕ) (size : Bool) (ok : readCheck file size ≡ Done) whe
   -- as C has them, the numbers are refused by nothing, and are the file's page
   pub numbers-fine : (numbers : List ℕ) → numbersRefused (numbersRead file size numbers) ≡ false
   unfolding numbersRead numbersRefused
-  numbers-fine numbers = rw (ok, length-append (take 24 (drop 5 file)) (replicate 7 0), length-part file 5 24 (omega (arith, file-length)))
+  numbers-fine numbers = rw (ok, length-append (take 24 (drop 5 file)) (replicate 7 0), length-part file 5 24 (omega (arith, file-length))) (file-ok .version-ok)
 
   pub numbers-are : (numbers : List ℕ) → pageAt (numbersRead file size numbers) 1 ≡ pageAt file 5
   unfolding numbersRead
@@ -77,7 +74,7 @@ module _ (file : List ℕ) (bytes : Bytes file) (size : Bool) (ok : readCheck fi
   same-bytes : fileOf (pageAt file 5) (take 16384 (drop 29 file)) (take 16384 (drop 16413 file)) ≡ file
   same-bytes =
       let passed = file-ok file size ok in
-      page-again file bytes (file-length file size ok) (version-is file (passed .version-ok)) (length-is file 32792 (passed .length-ok))
+      page-again file bytes (file-length file size ok) (passed .version-ok) (length-is file 32792 (passed .length-ok))
 
   pub again : (chars attrs out : List ℕ) → 32797 ≤ length out
       → (writeCheck (boardOf (pageAt file 5)) (length (charsRead file size chars)) (length (attrsRead file size attrs)) (length out) ≡ Done)
@@ -115,13 +112,13 @@ module _ (b : Board) (irs-all : length (b .page .irs) ≡ 15) (chars attrs out :
   unfolding written
   file-is = rw ok (take-at (fileOf (b .page) chars attrs) (drop 32797 out) 32797 (length-file (b .page) chars attrs irs-all (memories .0) (memories .1)))
 
-  page-is : pageAt (fileOf (b .page) chars attrs) 5 ≡ b .page
+  page-is : pageAt (fileOf (b .page) chars attrs) 5 ≡ keptPage (b .page)
   unfolding fileOf headOf
-  page-is = page-from (fileOf (b .page) chars attrs) 5 ∙ page-kept (b .page) (chars ++ attrs) irs-all
+  page-is = page-kept (b .page) (chars ++ attrs) irs-all (fileOf (b .page) chars attrs) 5 refl refl
 
-  version : versionRefused (fileOf (b .page) chars attrs) ≡ false
+  version : versionRefused (fileOf (b .page) chars attrs) 2 ≡ false
   unfolding fileOf headOf
-  version = refl
+  version = written-known (b .page)
 
   long : longAt (fileOf (b .page) chars attrs) 1 ≡ 32792
   unfolding fileOf headOf longAt wordAt
@@ -129,7 +126,7 @@ module _ (b : Board) (irs-all : length (b .page .irs) ≡ 15) (chars attrs out :
 
   read-ok : readCheck (fileOf (b .page) chars attrs) false ≡ Done
   unfolding readCheck fileCheck lengthRefused
-  read-ok = rw (version, length-file (b .page) chars attrs irs-all (memories .0) (memories .1), long, page-is) page-ok
+  read-ok = rw (version, length-file (b .page) chars attrs irs-all (memories .0) (memories .1), long, page-is) (kept-check (b .page) ∙ page-ok)
 
   chars-are : take 16384 (drop 29 (fileOf (b .page) chars attrs)) ≡ chars
   unfolding fileOf
@@ -142,17 +139,17 @@ module _ (b : Board) (irs-all : length (b .page .irs) ≡ 15) (chars attrs out :
       rw (sym (drop-drop 16384 29 (headOf (b .page) ++ (chars ++ attrs))), head, drop-at chars attrs 16384 (memories .0))
       (take-all 16384 attrs (omega (arith, memories .1)))
 
-  -- the file is read as that page at clock 0, and its memories are those that were written
+  -- the file is read as that page at clock 0, its version as it counts, and its memories are those that were written
   pub board-same : (c a file : List ℕ) → file ≡ take 32797 (written b chars attrs out)
-      → (readPageOf file false ≡ pageRead Done (boardOf (b .page))) × (charsRead file false c ≡ chars) × (attrsRead file false a ≡ attrs)
+      → (readPageOf file false ≡ pageRead Done (boardOf (keptPage (b .page)))) × (charsRead file false c ≡ chars) × (attrsRead file false a ≡ attrs)
   unfolding readPageOf charsRead attrsRead
   board-same c a file e = rw (e ∙ file-is, read-ok) (rw page-is, chars-are, attrs-are)
 
 -- ---- a font file, read and written again
 
 module _ (file : List ℕ) (f : Font) (ok : fontCheck file (fontRefused f) ≡ Done) where
-  font-ok : FilePassed file 2450 (fontRefused f) Done
-  font-ok = file-passed file 2450 (fontRefused f) Done ok
+  font-ok : FilePassed file 1 2450 (fontRefused f) Done
+  font-ok = file-passed file 1 2450 (fontRefused f) Done ok
 
   font-length : length file ≡ 2455
   font-length = file-sized file 2450 (font-ok .length-ok)
@@ -177,4 +174,4 @@ module _ (file : List ℕ) (f : Font) (ok : fontCheck file (fontRefused f) ≡ D
   unfolding fontRead fontWriteCheck fontWritten
   font-same bytes out l =
       rw (ok, parts-fine, le-ltb (length out) 2455 l)
-      (refl, rw (font-again file bytes font-length (version-is file (font-ok .version-ok)) (length-is file 2450 (font-ok .length-ok))))
+      (refl, rw (font-again file bytes font-length (font-ok .version-ok) (length-is file 2450 (font-ok .length-ok))))

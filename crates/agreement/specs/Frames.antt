@@ -7,11 +7,12 @@ use mathlib.Core.List.{List}
 use native.Mathlib.Nat.{mul-comm}
 use Rattle.units.specs.Units.{clocksOf}
 use Rattle.refusal.specs.declared.Refusal.the-variants.{Done}
-use Rattle.raster.specs.Moves.{cell, Inside}
+use Rattle.raster.specs.Moves.{Inside}
 use Rattle.raster.specs.Tick.{by-frame}
 use Rattle.raster.specs.Raster.{Good, scanAt}
 use Rattle.raster.specs.Frame.{frame→, frame←}
 use Rattle.raster.specs.Cells.{cells-inside}
+use Rattle.raster.specs.Beams.{beam}
 use Rattle.board.specs.declared.Board.{Board}
 use Rattle.timing.specs.Fields.{htOf, vtOf, hactOf, linesOf, visibleOf, tableOf, bufferOf, countsOf}
 use Rattle.timing.specs.Laws.{accepted-good, buffer-bounded, frame-bound}
@@ -47,10 +48,10 @@ module _ (b : Board) (chars attrs : List ℕ) (f : Font) (ok : stepCheck b chars
   every-frame n =
       let at-n = steps-are b chars attrs f ok n in
       let counts = countsIn (b .page) in
-      let rows = rowsIn (b .page) chars in
+      let rows = rowsIn (b .page) chars attrs in
       record {
-        ends = λ e. rw at-n (frame→ counts rows good (cell 0) n (rw frame-product at e));
-        nowhere-else = λ p q. rw frame-product (frame← counts rows good (cell 0) n (rw at-n at p) (rw at-n at q));
+        ends = λ e. rw at-n (frame→ counts rows good (beam 0 0) n (rw frame-product at e));
+        nowhere-else = λ p q. rw frame-product (frame← counts rows good (beam 0 0) n (rw at-n at p) (rw at-n at q));
         counted = rw (at-n, frame-product) (ap (λ (x : ℕ). x % 256) (sym (by-frame n (htOf (b .page .irs)) (vtOf (b .page .irs)))));
       }
 

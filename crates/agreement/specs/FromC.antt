@@ -1,7 +1,7 @@
 -- The sentence for which the project exists, as its users call it. A generator draws whole lines with `feldrime_line_draw` from a page's 32 numbers; an editor
 -- makes a board of the same numbers with `feldrime_board_of` and takes it from clock to clock with `feldrime_step`. Both show the same cells and the same dots.
 -- All of it speaks of the definitions that the contracts of these calls cite, over the same numbers, memories and font parts. Assumes nothing.
-use Prim.Native.Nat.{ℕ, zero, suc, _+_, _*_, _%_, _≤_, _<_}
+use Prim.Native.Nat.{ℕ, zero, suc, _+_, _*_, _/_, _%_, _≤_, _<_}
 use mathlib.Core.Path.{_≡_, refl, sym, ap, _∙_}
 use mathlib.Core.Bool.{Bool, true, false}
 use mathlib.Core.List.{List, _++_}
@@ -23,6 +23,7 @@ use Rattle.fetch.specs.Rows.{entryOf}
 use Rattle.fetch.specs.Run.{spanOf}
 use Rattle.fetch.specs.RowCells.{cellsPut}
 use Rattle.fetch.specs.Laws.{span-number}
+use Rattle.latch.specs.Held.{heldAt}
 use Rattle.shape.specs.Font.{Font, fontOf}
 use Rattle.line.specs.Line.{lineLength, drawCheck, drawnOf}
 use Rattle.picture.specs.Picture.{picturedOf}
@@ -232,7 +233,8 @@ module _ (numbers chars attrs words flags unshifted shifted : List ℕ) where
     abbrev pub DrawnFromC : (line : ℕ) → (address : ℕ → ℕ) → Type 0
     DrawnFromC line address = (field : ℕ) (out : List ℕ) → sizeFor numbers .dots ≤ length out
         → drawnC line field out
-        ≡ joined 0 (hactOf (b .page .irs)) (λ c. dotsAt b chars attrs f (scanOf (line % linesOf (b .page .irs))) field (address c)) ++ drop (sizeFor numbers .dots) out
+        ≡ joined 0 (hactOf (b .page .irs)) (λ c. dotsAt b chars attrs f (scanOf (line % linesOf (b .page .irs))) field (heldAt (b .page) chars attrs (line / linesOf (b .page .irs)) c) (address c))
+        ++ drop (sizeFor numbers .dots) out
 
     drawn-from-c : (line : ℕ) (address : ℕ → ℕ) → DrawnFrom b chars attrs f line address → DrawnFromC line address
     drawn-from-c line address d field out room = drawn-is line field out ∙ rw size-from-c (d field out (room-in (length out) room))
@@ -305,7 +307,7 @@ module _ (numbers chars attrs words flags unshifted shifted : List ℕ) where
     pub picture-from-cells-from-c : (field : ℕ) (cells : List ℕ) → 256 ≤ length cells → (out : List ℕ) → sizeFor numbers .lines * sizeFor numbers .dots ≤ length out
         → picturedC field out
         ≡ joined 0 (rowsOf (b .page .irs)) (λ r. joined 0 (linesOf (b .page .irs)) (λ l.
-        joined 0 (hactOf (b .page .irs)) (λ c. dotsAt b chars attrs f (scanOf l) field (getD (cellsPutFor numbers chars r cells) c 0))))
+        joined 0 (hactOf (b .page .irs)) (λ c. dotsAt b chars attrs f (scanOf l) field (heldAt (b .page) chars attrs r c) (getD (cellsPutFor numbers chars r cells) c 0))))
         ++ drop (sizeFor numbers .lines * sizeFor numbers .dots) out
     unfolding cellsPutFor
     picture-from-cells-from-c field cells wide out room =

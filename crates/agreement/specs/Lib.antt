@@ -9,6 +9,7 @@ pub mod Steps
 pub mod Lines
 pub mod Frames
 pub mod Rows
+pub mod Before
 pub mod Pictures
 pub mod FromC
 pub mod FilesFromC

@@ -15,12 +15,14 @@ use Rattle.refusal.specs.Number.{numberOf, doneOf}
 use Rattle.raster.specs.declared.Buffer.{Buffer}
 use Rattle.raster.specs.declared.Cell.{Cell}
 use Rattle.raster.specs.Moves.{cell, advance, advanceBy}
+use Rattle.raster.specs.Latch.{latched}
 use Rattle.board.specs.declared.Starts.{Starts}
 use Rattle.board.specs.declared.Page.{Page}
 use Rattle.board.specs.declared.Place.{Place}
 use Rattle.board.specs.declared.Board.{Board}
 use Rattle.board.specs.State.{clockZero, powerOf}
-use Rattle.board.specs.Range.{memoriesRefused, startsRefused, addressRefused, cellsRefused, pointerRefused}
+use Rattle.board.specs.Modes.{versionOf, fieldMode, settersHidden}
+use Rattle.board.specs.Range.{memoriesRefused, startsRefused, switchesRefused, addressRefused, cellsRefused, pointerRefused}
 use Rattle.timing.specs.Fields.{linesOf, timingOf, visibleOf, bufferOf, tableOf, cursorOf, underlineOf, blinkOf}
 use Rattle.timing.specs.Check.{widthRefused, pageCheck, sizeOf, callCheck}
 use Rattle.registers.specs.Write.{writeOf}
@@ -111,6 +113,9 @@ advance-one-one b c = only (cell (advance b (c .address)))
 pub advance-by-one : (b : Buffer) (k : Clocks) (c : Cell) → OneAnswer (λ r. r ≡ cell (advanceBy b (k .0) (c .address)))
 advance-by-one b k c = only (cell (advanceBy b (k .0) (c .address)))
 
+pub latched-one : (byte held : ℕ) → OneAnswer (λ r. r ≡ latched byte held)
+latched-one byte held = only (latched byte held)
+
 -- ---- `board`
 
 pub power-one : OneAnswer (λ r. r ≡ powerOf)
@@ -124,6 +129,18 @@ memories-refused-one chars attrs = only (memoriesRefused chars attrs)
 
 pub starts-refused-one : (s : Starts) → OneAnswer (λ r. r ≡ startsRefused s)
 starts-refused-one s = only (startsRefused s)
+
+pub switches-refused-one : (version switches : ℕ) → OneAnswer (λ r. r ≡ switchesRefused version switches)
+switches-refused-one version switches = only (switchesRefused version switches)
+
+pub version-of-one : (p : Page) → OneAnswer (λ r. r ≡ versionOf p)
+version-of-one p = only (versionOf p)
+
+pub field-mode-one : (p : Page) → OneAnswer (λ r. r ≡ fieldMode p)
+field-mode-one p = only (fieldMode p)
+
+pub setters-hidden-one : (p : Page) → OneAnswer (λ r. r ≡ settersHidden p)
+setters-hidden-one p = only (settersHidden p)
 
 pub address-refused-one : (p : Page) → OneAnswer (λ r. r ≡ addressRefused p)
 address-refused-one p = only (addressRefused p)

@@ -23,18 +23,20 @@ use Rattle.fetch.specs.Run.{runCheck, spanOf, runOf}
 use Rattle.fetch.specs.RowCells.{cellsGiven, cellsPut}
 use Rattle.fetch.specs.Laws.{span-fits}
 use Rattle.fetch.specs.Rows.{entryOf, rowStart, cellAt}
+use Rattle.latch.specs.Held.{heldAt}
 use Rattle.shape.specs.Font.{Font, fontRefused, positionOf, wordBy, wordOf}
 use Rattle.video.specs.declared.Scene.{Scene}
 use Rattle.video.specs.declared.Look.{Look}
+use Rattle.video.specs.declared.Reading.{Reading}
 use Rattle.video.specs.Scene.{sceneOf, cursorAt}
-use Rattle.video.specs.Look.{effective, lookOf}
+use Rattle.video.specs.Look.{lookOf}
 use Rattle.video.specs.Cell.{cellDots}
 use Rattle.dots.specs.Stores.{spreadOf, wideOf, underOf, dotsBy}
 use Rattle.dots.specs.Width.{shades}
-use Rattle.tables.specs.Tables.{cellBy, levelsOf, levelsAt, spreadsAt, lastSpreads}
+use Rattle.tables.specs.Tables.{heldBy, cellBy, levelsOf, levelsAt, spreadsAt, lastSpreads}
 use Rattle.line.specs.Line.{lineDots, lineLength, drawCheck, drawnOf}
 use Rattle.picture.specs.Picture.{pictureCheck, picturedOf}
-use Rattle.video.specs.At.{lentRefused}
+use Rattle.video.specs.At.{lentRefused, readingOf, shownCode}
 use Rattle.step.specs.Step.{stepOf}
 use Rattle.place.specs.declared.Carried.{Carried}
 use Rattle.place.specs.Place.{activeAt, loadedIn, movedIn, turnedIn}
@@ -73,6 +75,11 @@ row-start-one p chars row = only (cell (rowStart p chars row))
 pub cell-at-one : (p : Page) (chars : List ℕ) (row column : ℕ) → OneAnswer (λ r. r ≡ cell (cellAt p chars row column))
 cell-at-one p chars row column = only (cell (cellAt p chars row column))
 
+-- ---- `latch`
+
+pub held-at-one : (p : Page) (chars attrs : List ℕ) (row column : ℕ) → OneAnswer (λ r. r ≡ heldAt p chars attrs row column)
+held-at-one p chars attrs row column = only (heldAt p chars attrs row column)
+
 -- ---- `shape`
 
 pub position-one : (list : List ℕ) (scan : ℕ) → OneAnswer (λ r. r ≡ positionOf list scan)
@@ -95,8 +102,11 @@ scene-of-one b scan field = only (sceneOf b scan field)
 pub cursor-at-one : (s : Scene) (at : ℕ) → OneAnswer (λ r. r ≡ cursorAt s at)
 cursor-at-one s at = only (cursorAt s at)
 
-pub effective-of-one : (byte : ℕ) → OneAnswer (λ r. r ≡ effective byte)
-effective-of-one byte = only (effective byte)
+pub reading-of-one : (p : Page) → OneAnswer (λ r. r ≡ readingOf p)
+reading-of-one p = only (readingOf p)
+
+pub shown-code-one : (hidden : Bool) (code byte : ℕ) → OneAnswer (λ r. r ≡ shownCode hidden code byte)
+shown-code-one hidden code byte = only (shownCode hidden code byte)
 
 pub look-of-one : (s : Scene) (attributes : ℕ) (cursor : Bool) → OneAnswer (λ r. r ≡ lookOf s attributes cursor)
 look-of-one s attributes cursor = only (lookOf s attributes cursor)
@@ -124,10 +134,11 @@ write-cell-one symbol surround word d out = only (shades symbol surround d (wide
 pub draw-cell-one : (look : Look) (word : ℕ) (width : Dots) (out : List ℕ) → OneAnswer (λ r. r ≡ cellDots look word (width .0) ++ drop (width .0) out)
 draw-cell-one look word width out = only (cellDots look word (width .0) ++ drop (width .0) out)
 
--- ---- `tables`: the lent table
+-- ---- `tables`: the lent table, and for `gather` what is valid after the row
 
-pub gather-one : (chars attrs : List ℕ) (buffer : Buffer) (cursor start n : ℕ) (cells : List ℕ) → OneAnswer (λ r. r ≡ tab n (cellBy chars attrs buffer cursor start) ++ drop n cells)
-gather-one chars attrs buffer cursor start n cells = only (tab n (cellBy chars attrs buffer cursor start) ++ drop n cells)
+pub gather-one : (k : Reading) (chars attrs : List ℕ) (buffer : Buffer) (held start n : ℕ) (cells : List ℕ)
+    → OneAnswer (λ (r : ℕ × List ℕ). (r .0 ≡ heldBy (k .runs) attrs buffer held start n) × (r .1 ≡ tab n (cellBy k chars attrs buffer held start) ++ drop n cells))
+gather-one k chars attrs buffer held start n cells = only-both (heldBy (k .runs) attrs buffer held start n) (tab n (cellBy k chars attrs buffer held start) ++ drop n cells)
 
 pub looks-one : (s : Scene) (table : List ℕ) → OneAnswer (λ r. r ≡ tab 128 (levelsOf s) ++ drop 128 table)
 looks-one s table = only (tab 128 (levelsOf s) ++ drop 128 table)
@@ -170,8 +181,8 @@ active-at-one p q = only (activeAt p q)
 pub loaded-at-one : (p : Page) (chars : List ℕ) (q : Place) → OneAnswer (λ r. r ≡ loadedIn p chars q)
 loaded-at-one p chars q = only (loadedIn p chars q)
 
-pub place-after-one : (p : Page) (q : Place) (c : Carried) → OneAnswer (λ r. r ≡ turnedIn p q (movedIn p q c))
-place-after-one p q c = only (turnedIn p q (movedIn p q c))
+pub place-after-one : (p : Page) (attrs : List ℕ) (q : Place) (c : Carried) → OneAnswer (λ r. r ≡ turnedIn p q (movedIn p attrs q c))
+place-after-one p attrs q c = only (turnedIn p q (movedIn p attrs q c))
 
 pub with-place-one : (b : Board) (q : Place) → OneAnswer (λ r. r ≡ withPlace b q)
 with-place-one b q = only (withPlace b q)

@@ -13,7 +13,7 @@ use Rattle.shape.specs.Font.{Font, fontRefused}
 use Rattle.video.specs.At.{lentRefused}
 use Rattle.copies.specs.Put.{putAt}
 use Rattle.files.specs.declared.PageRead.{PageRead}
-use Rattle.files.specs.File.{readCheck, readPageOf, charsRead, attrsRead, writeCheck, written}
+use Rattle.files.specs.File.{versionRefused, readCheck, readPageOf, charsRead, attrsRead, writeCheck, written}
 use Rattle.files.specs.FontFile.{fontCheck, fontRead, fontWriteCheck, fontWritten}
 use Rattle.files.specs.Page.{pageAt, boardAt, pageBytes}
 use Rattle.numbers.specs.Numbers.{numbersRefused, numbersCheck, numbersOfCheck, numbersOf}
@@ -52,6 +52,9 @@ read-font-one file f = only-both (fontCheck file (fontRefused f)) (fontRead file
 pub write-font-one : (f : Font) (out : List ℕ)
     → OneAnswer (λ (r : Refusal × List ℕ). (r .0 ≡ fontWriteCheck f (length out)) × (r .1 ≡ fontWritten f out))
 write-font-one f out = only-both (fontWriteCheck f (length out)) (fontWritten f out)
+
+pub version-refused-one : (file : List ℕ) (newest : ℕ) → OneAnswer (λ r. r ≡ versionRefused file newest)
+version-refused-one file newest = only (versionRefused file newest)
 
 pub read-check-one : (file : List ℕ) (size : Bool) → OneAnswer (λ r. r ≡ readCheck file size)
 read-check-one file size = only (readCheck file size)

@@ -13,6 +13,7 @@ use Rattle.board.specs.declared.Board.{Board}
 use Rattle.timing.specs.Fields.{hactOf, linesOf, rowsOf, visibleOf}
 use Rattle.fetch.specs.RowCells.{cellsPut}
 use Rattle.fetch.specs.RowLaws.{cells-at}
+use Rattle.latch.specs.Held.{heldAt}
 use Rattle.shape.specs.Font.{Font}
 use Rattle.video.specs.At.{scanOf, dotsAt, lentRefused}
 use Rattle.line.specs.Line.{columnDots, lineDots, lineLength, drawnOf}
@@ -68,9 +69,10 @@ module _ (b : Board) (chars attrs : List ℕ) (f : Font) (ok : stepCheck b chars
   -- ---- the cells of its rows
 
   module _ (field : ℕ) (cells : List ℕ) (wide : 256 ≤ length cells) where
-    -- line l of row r from what `row_cells` leaves of the row in a buffer
+    -- line l of row r from what `row_cells` leaves of the row in a buffer, and what is valid before each of its cells
     abbrev pub cellLine : (r l : ℕ) → List ℕ
-    cellLine r l = joined 0 (hactOf (b .page .irs)) (λ c. dotsAt b chars attrs f (scanOf l) field (getD (cellsPut b chars r cells) c 0))
+    cellLine r l =
+        joined 0 (hactOf (b .page .irs)) (λ c. dotsAt b chars attrs f (scanOf l) field (heldAt (b .page) chars attrs r c) (getD (cellsPut b chars r cells) c 0))
 
     line-from-cells : (r l : ℕ) → r < rowsOf (b .page .irs) → l < linesOf (b .page .irs) → lineDots b chars attrs f (r * linesOf (b .page .irs) + l) field ≡ cellLine r l
     unfolding lineDots columnDots
@@ -79,7 +81,7 @@ module _ (b : Board) (chars attrs : List ℕ) (f : Font) (ok : stepCheck b chars
         let m : (r * linesOf (b .page .irs) + l) % linesOf (b .page .irs) ≡ l = digits-mod r hl in
         let s = cells-shown b chars attrs f ok r l hr hl cells wide in
         same-joined 0 (hactOf (b .page .irs)) _ _ (λ c _ h.
-        rw (q, m) (ap (dotsAt b chars attrs f (scanOf l) field) (sym (cells-at b chars r cells c (rw (s .answered) (omega arith))))))
+        rw (q, m) (ap (dotsAt b chars attrs f (scanOf l) field (heldAt (b .page) chars attrs r c)) (sym (cells-at b chars r cells c (rw (s .answered) (omega arith))))))
 
     -- the picture is the dots of the cells that `row_cells` gives, row by row, line by line, column by column; bytes beyond stay
     pub picture-from-cells : (out : List ℕ) → pictureLength (b .page) ≤ length out

@@ -1,17 +1,20 @@
 -- The sentence for which the project exists. With the row table on, on every line of row r the addresses that `step` puts out, and the cells whose dots
 -- `draw_line` writes, are those that follow from the row's own table entry, whatever the rest of memory holds; with it off, those that follow from screen
--- start 1. They are the cells that `row_cells` gives, and the run that `row_run` gives is the first of them. Assumes nothing.
-use Prim.Native.Nat.{ℕ, _+_, _*_, _/_, _≤_, _<_}
-use mathlib.Core.Path.{_≡_, sym, ap, _∙_}
+-- start 1. They are the cells that `row_cells` gives, and the run that `row_run` gives is the first of them. In character mode the row's dots depend on these
+-- cells alone; in field mode also on what the rows above it latched. Assumes nothing.
+use Prim.Native.Nat.{ℕ, _+_, _*_, _/_, _%_, _≤_, _<_}
+use mathlib.Core.Path.{_≡_, sym, ap, ap₂, _∙_}
 use mathlib.Core.Bool.{true, false}
 use mathlib.Core.List.{List, _++_}
 use borrow.Author.Tests.{lt-leb, eq-eqb}
-use lib.Arith.{digits-div, digits-lt}
+use lib.Arith.{digits-div, digits-mod, digits-lt}
 use lib.ListN.{length, getD, drop}
+use Rattle.lists.specs.Join.{joined, same-joined}
 use Rattle.lists.specs.Tab.{tab, same-tab}
 use Rattle.refusal.specs.declared.Refusal.the-variants.{Done}
 use Rattle.raster.specs.Moves.{advanceBy}
 use Rattle.board.specs.declared.Board.{Board}
+use Rattle.board.specs.Modes.{fieldMode}
 use Rattle.board.specs.Range.{memoryRefused}
 use Rattle.timing.specs.Fields.{hactOf, linesOf, rowsOf, visibleOf, tableOf, bufferOf}
 use Rattle.fetch.specs.Rows.{entryOf, rowStart, cellAt}
@@ -19,7 +22,10 @@ use Rattle.fetch.specs.Run.{runCheck, spanOf}
 use Rattle.fetch.specs.RowCells.{cellsOf, cellsCheck, rowOf, cellsGiven, cellsPut}
 use Rattle.fetch.specs.Laws.{cell-along, start-table, start-sheet}
 use Rattle.fetch.specs.RowLaws.{cells-as-run, cells-at, run-at}
+use Rattle.latch.specs.Laws.{held-plain}
 use Rattle.shape.specs.Font.{Font}
+use Rattle.video.specs.At.{scanOf, dotsAt}
+use Rattle.line.specs.Line.{lineLength, drawnOf}
 use Rattle.step.specs.Step.{stepCheck}
 use Rattle.agreement.specs.Steps.{range-ok, call-ok, fits, page-ok}
 use Rattle.agreement.specs.Lines.{addressAt, DrawnFrom, address-is, drawn-from}
@@ -62,6 +68,17 @@ module _ (b : Board) (chars attrs : List ℕ) (f : Font) (ok : stepCheck b chars
   -- with it off: from the cell r x HACT moves after screen start 1
   pub row-from-start : tableOf (b .page .irs) ≡ false → Shown (follows b (b .page .starts .start1) (r * hactOf (b .page .irs)))
   row-from-start t = shown (follows b (b .page .starts .start1) (r * hactOf (b .page .irs))) (start-sheet (b .page) chars r t)
+
+  -- in character mode nothing that stands before a cell plays a part in its dots
+  pub plain-row : fieldMode (b .page) ≡ false → (start : ℕ) → Shown start → (field : ℕ) (out : List ℕ) → lineLength b ≤ length out
+      → drawnOf b chars attrs f (lineOf b r l) field out
+      ≡ joined 0 (hactOf (b .page .irs)) (λ c. dotsAt b chars attrs f (scanOf l) field 0 (follows b start c)) ++ drop (lineLength b) out
+  plain-row m start s field out room =
+      let q : lineOf b r l % linesOf (b .page .irs) ≡ l = digits-mod r hl in
+      s .drawn field out room
+      ∙ ap (λ (d : List ℕ). d ++ drop (lineLength b) out)
+      (same-joined 0 (hactOf (b .page .irs)) _ _ (λ c _ h.
+      ap₂ (λ (scan held : ℕ). dotsAt b chars attrs f (scanOf scan) field held (follows b start c)) q (held-plain (b .page) chars attrs m _ c)))
 
   -- ---- the row's run
 

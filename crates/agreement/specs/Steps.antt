@@ -4,21 +4,22 @@ use mathlib.Core.Path.{_≡_, refl, sym, ap, _∙_}
 use mathlib.Core.Bool.{Bool, false}
 use mathlib.Core.List.{List}
 use native.Mathlib.Nat.{mod-lt, zero-div, zero-mod}
-use native.Mathlib.Decide.{decLt}
 use native.Mathlib.Omega.{arith}
 use borrow.Author.Tests.{lt-leb, le-ltb, eq-eqb}
 use lib.ListN.{length}
 use Rattle.refusal.specs.declared.Refusal.the-variants.{Done, Size}
 use Rattle.refusal.specs.Laws.{not-refused, passed}
-use Rattle.raster.specs.Moves.{cell}
-use Rattle.raster.specs.Raster.{carriedAt, scanAt}
-use Rattle.raster.specs.Agree.{step-meets}
-use Rattle.raster.specs.Cells.{cells-lawful}
+use Rattle.raster.specs.Raster.{step, carriedAt, scanAt}
+use Rattle.raster.specs.Agree.{Laws, step-meets}
+use Rattle.raster.specs.Latch.{setsOf}
+use Rattle.raster.specs.Beams.{beam, beams-lawful}
 use Rattle.board.specs.declared.Page.{Page}
+use Rattle.board.specs.declared.Place.{Place}
 use Rattle.board.specs.declared.Board.{Board}
 use Rattle.board.specs.State.{clockZero}
+use Rattle.board.specs.Modes.{fieldMode}
 use Rattle.board.specs.Range.{memoriesRefused}
-use Rattle.timing.specs.Fields.{htOf, vtOf, visibleOf, countsOf}
+use Rattle.timing.specs.Fields.{htOf, vtOf, countsOf}
 use Rattle.timing.specs.Check.{pageCheck, stateRefused, callCheck}
 use Rattle.timing.specs.Laws.{Accepted, InRange, accepted-good, call-passed}
 use Rattle.fetch.specs.Rows.{feedIn, tallyIn}
@@ -26,11 +27,12 @@ use Rattle.fetch.specs.Laws.{fed, tallied, cell-at-lt, row-start-lt}
 use Rattle.shape.specs.Font.{Font}
 use Rattle.video.specs.At.{lentRefused}
 use Rattle.place.specs.declared.Carried.{Carried}
-use Rattle.place.specs.Place.{countsIn, carrierIn, rowsIn, placeOf, nextPlace, rowAt, lineAt, carriedBefore, placeAt}
+use Rattle.place.specs.Place.{countsIn, carrierIn, rowsIn, rasterOf, placeOf, nextPlace, rowAt, carriedBefore, placeAt}
 use Rattle.step.specs.Step.{steppedOf, stepCheck, stepOf, Fit}
 use Rattle.place.specs.State.{withPlace, stateCheck, stateOf}
 use Rattle.step.specs.Laws.{fit}
-use Rattle.place.specs.Laws.{line-shown, line-idle, carried-on, carried-line, carried-frame, carried-zero}
+use Rattle.place.specs.Laws.{carried-all}
+use Rattle.place.specs.Settled.{at-settled}
 
 -- ---- a place in range is not refused
 
@@ -57,30 +59,23 @@ record Small (c : Carried) : Type 0 where
   beam-lt : c .beam .address < 16384
   row-address-lt : c .row .address < 16384
 
-module _ (p : Page) (chars : List ℕ) (a : Accepted p) where
-  row-small : (r c : ℕ) → Small (rowAt p chars r c)
+module _ (p : Page) (chars attrs : List ℕ) (a : Accepted p) where
+  row-small : (r c : ℕ) → Small (rowAt p chars attrs r c)
   unfolding rowAt
   row-small r c = record { beam-lt = cell-at-lt p chars r c; row-address-lt = row-start-lt p chars a r }
 
-  line-small : (c line : ℕ) → Small (lineAt p chars c line)
-  line-small c line = go (decLt line (visibleOf (p .irs) .0))
-    where
-      go : Dec (line < visibleOf (p .irs) .0) → Small (lineAt p chars c line)
-      go (yes h) = rw (← line-shown p chars c line h) (row-small _ c)
-      go (no f) = rw (← line-idle p chars c line (omega arith)) (row-small _ (htOf (p .irs)))
+  carried-small : (c line frame : ℕ) → Small (carriedBefore p chars attrs c line frame)
+  carried-small = carried-all p chars attrs Small row-small (record { beam-lt = omega arith; row-address-lt = omega arith })
 
-  carried-small : (c line frame : ℕ) → Small (carriedBefore p chars c line frame)
-  carried-small (suc c) line frame = rw (← carried-on p chars (suc c) line frame (omega arith)) (line-small (suc c) line)
-  carried-small zero (suc line) frame = rw (← carried-line p chars 0 (suc line) frame refl (omega arith)) (line-small (htOf (p .irs)) _)
-  carried-small zero zero (suc frame) = rw (← carried-frame p chars 0 0 (suc frame) refl refl (omega arith)) (row-small _ (htOf (p .irs)))
-  carried-small zero zero zero = rw (← carried-zero p chars 0 0 0 refl refl refl) (record { beam-lt = omega arith; row-address-lt = omega arith })
+  -- the laws by which the beam's rows, at once, fit its steps
+  pub lawful : Laws (countsIn p) (carrierIn p chars (setsOf (fieldMode p) attrs)) (rowsIn p chars attrs)
+  lawful = beams-lawful (countsIn p) (feedIn p chars) (setsOf (fieldMode p) attrs) (tallyIn p) (fed p chars a) (tallied p chars a) (accepted-good p a)
 
-  pub next-place : (n : ℕ) → nextPlace p chars (placeAt p chars n) ≡ placeAt p chars (suc n)
+  pub next-place : (n : ℕ) → nextPlace p chars attrs (placeAt p chars attrs n) ≡ placeAt p chars attrs (suc n)
   unfolding nextPlace placeAt
   next-place n =
-      ap placeOf
-      (step-meets (countsIn p) (carrierIn p chars) (rowsIn p chars) (accepted-good p a)
-      (cells-lawful (countsIn p) (feedIn p chars) (tallyIn p) (fed p chars a) (tallied p chars a)) (cell 0) n)
+      ap (λ (q : Place). placeOf (step (countsIn p) (carrierIn p chars (setsOf (fieldMode p) attrs)) (rasterOf q))) (at-settled p chars attrs n)
+      ∙ ap placeOf (step-meets (countsIn p) (carrierIn p chars (setsOf (fieldMode p) attrs)) (rowsIn p chars attrs) (accepted-good p a) lawful (beam 0 0) n)
 
 -- ---- the steps
 
@@ -101,7 +96,7 @@ module _ (b : Board) (chars attrs : List ℕ) (f : Font) (ok : stepCheck b chars
 
   -- the board at clock n, at once
   abbrev pub atClock : ℕ → Board
-  atClock n = withPlace b (placeAt (b .page) chars n)
+  atClock n = withPlace b (placeAt (b .page) chars attrs n)
 
   clock-in-range : (n : ℕ) → InRange (atClock n)
   unfolding placeAt scanAt carriedBefore countsOf
@@ -109,7 +104,7 @@ module _ (b : Board) (chars attrs : List ℕ) (f : Font) (ok : stepCheck b chars
       let h : 0 < htOf (b .page .irs) = omega arith in
       let v : 0 < vtOf (b .page .irs) = omega arith in
       let y = n / htOf (b .page .irs) in
-      let c = carried-small (b .page) chars (fits .page) (n % htOf (b .page .irs)) (y % vtOf (b .page .irs)) (y / vtOf (b .page .irs)) in
+      let c = carried-small (b .page) chars attrs (fits .page) (n % htOf (b .page .irs)) (y % vtOf (b .page .irs)) (y / vtOf (b .page .irs)) in
       record {
         line-lt = mod-lt (n / htOf (b .page .irs)) v;
         clock-lt = mod-lt n h;
@@ -132,7 +127,7 @@ module _ (b : Board) (chars attrs : List ℕ) (f : Font) (ok : stepCheck b chars
 
   step-on : (n : ℕ) → stepOf (atClock n) chars attrs f .board ≡ atClock (suc n)
   unfolding steppedOf
-  step-on n = rw (step-is n) (ap (withPlace b) (next-place (b .page) chars (fits .page) n))
+  step-on n = rw (step-is n) (ap (withPlace b) (next-place (b .page) chars attrs (fits .page) n))
 
   pub steps-are : (n : ℕ) → after b chars attrs f n ≡ atClock n
   unfolding after

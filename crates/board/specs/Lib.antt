@@ -1,4 +1,5 @@
 -- The record, and what its numbers may be.
 pub mod State
+pub mod Modes
 pub mod Range
 pub mod Laws

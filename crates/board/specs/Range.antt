@@ -1,6 +1,6 @@
 -- Refusals 3, 12 and 7 of 01's table, as far as they need no timing.
 use Prim.Native.Nat.{ℕ}
-use mathlib.Core.Bool.{Bool, _||_, not}
+use mathlib.Core.Bool.{Bool, _&&_, _||_, not}
 use lib.Dec.{eqb, ltb}
 use Rattle.board.specs.declared.Starts.{Starts}
 use Rattle.board.specs.declared.Page.{Page}
@@ -17,9 +17,13 @@ memoriesRefused chars attrs = memoryRefused chars || memoryRefused attrs
 abbrev pub startsRefused : Starts → Bool
 startsRefused s = ltb 16383 (s .start1) || ltb 16383 (s .cursor) || ltb 16383 (s .start2)
 
--- 12: a start or cursor address above 16383, switches 4 to 7, or strike line above 15
+-- switches 6 and 7, and but in version 2 also 4 and 5; a version that is not known counts as 1
+abbrev pub switchesRefused : (version switches : ℕ) → Bool
+switchesRefused version switches = ltb 63 switches || (not (eqb version 2) && ltb 15 switches)
+
+-- 12: a start or cursor address above 16383, a switch that the version does not know, or strike line above 15
 unfoldable pub addressRefused : Page → Bool
-addressRefused p = startsRefused (p .starts) || ltb 15 (p .switches) || ltb 15 (p .video .strike)
+addressRefused p = startsRefused (p .starts) || switchesRefused (p .version) (p .switches) || ltb 15 (p .video .strike)
 
 -- 7: a state's address or row start out of range
 abbrev pub cellsRefused : Place → Bool

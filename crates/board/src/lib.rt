@@ -1,7 +1,8 @@
 // The board's whole state, by value. It holds numbers only and is laid out as C lays it out, so that every bit pattern is a value.
 ghost use mathlib.Core.Path.{_≡_};
 ghost use Rattle.board.specs.State.{clockZero, powerOf};
-ghost use Rattle.board.specs.Range.{memoriesRefused, startsRefused, addressRefused, cellsRefused, pointerRefused};
+ghost use Rattle.board.specs.Modes.{versionOf, fieldMode, settersHidden};
+ghost use Rattle.board.specs.Range.{memoriesRefused, startsRefused, switchesRefused, addressRefused, cellsRefused, pointerRefused};
 
 #[repr(C)]
 pub struct Starts {
@@ -16,23 +17,25 @@ pub struct Video {
     pub strike: u8,
 }
 
-// What a page file holds beside the memories. The switches are the file's byte: bit 0 display, 1 cursor, 2 BKGND, 3 RBLANK.
+// What a page file holds beside the memories. The switches are the file's byte: bit 0 display, 1 cursor, 2 BKGND, 3 RBLANK, and in version 2 bit 4
+// field mode, 5 ACD.
 #[repr(C)]
 pub struct Page {
+    pub version: u8,
     pub irs: [u8; 15],
     pub starts: Starts,
     pub switches: u8,
     pub video: Video,
 }
 
-// Where the beam is, the cell it carries, and the cell that its row began with.
+// Where the beam is, what it carries, and what its row began with.
 #[repr(C)]
 pub struct Place {
     pub field: u8,
     pub line: units::Lines,
     pub clock: units::Clocks,
-    pub beam: raster::Cell,
-    pub row: raster::Cell,
+    pub beam: raster::Beam,
+    pub row: raster::Beam,
 }
 
 // The pointer names an IR. The count of master resets in a row is the power state: 0 or 1 is inactive, 2 and above active.
@@ -51,8 +54,14 @@ pub fn clock_zero() -> Place
         field: 0,
         line: units::Lines(0),
         clock: units::Clocks(0),
-        beam: raster::Cell { address: 0 },
-        row: raster::Cell { address: 0 },
+        beam: raster::Beam {
+            address: 0,
+            latch: 0,
+        },
+        row: raster::Beam {
+            address: 0,
+            latch: 0,
+        },
     }
 }
 
@@ -61,6 +70,7 @@ pub fn power() -> Board
 {
     Board {
         page: Page {
+            version: 1,
             irs: [0u8; 15],
             starts: Starts {
                 start1: 0,
@@ -92,12 +102,40 @@ pub fn starts_refused(s: Starts) -> bool
     (16383 < s.start1) | (16383 < s.cursor) | (16383 < s.start2)
 }
 
+// Switches 6 and 7, and but in version 2 also 4 and 5.
+pub fn switches_refused(version: u8, switches: u8) -> bool
+    ensures { λ r. ⌜ r ≡ switchesRefused version switches ⌝ }
+{
+    (63 < switches) | ((version != 2) & (15 < switches))
+}
+
 // 12, for a page.
 pub fn address_refused(p: Page) -> bool
     ensures { λ r. ⌜ r ≡ addressRefused p ⌝ }
 {
     let s = p.starts;
-    starts_refused(s) | (15 < p.switches) | (15 < p.video.strike)
+    starts_refused(s) | switches_refused(p.version, p.switches) | (15 < p.video.strike)
+}
+
+// The version as it is written.
+pub fn version_of(p: Page) -> u8
+    ensures { λ r. ⌜ r ≡ versionOf p ⌝ }
+{
+    if p.version == 2 { 2 } else { 1 }
+}
+
+// Whether attributes run on from cell to cell.
+pub fn field_mode(p: Page) -> bool
+    ensures { λ r. ⌜ r ≡ fieldMode p ⌝ }
+{
+    (p.version == 2) & (p.switches / 16 % 2 == 1)
+}
+
+// Whether a cell that sets attributes has zero dots.
+pub fn setters_hidden(p: Page) -> bool
+    ensures { λ r. ⌜ r ≡ settersHidden p ⌝ }
+{
+    field_mode(p) & !(p.switches / 32 % 2 == 1)
 }
 
 // 7, for the two cells of a place.

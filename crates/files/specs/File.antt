@@ -4,13 +4,14 @@ use mathlib.Core.Bool.{Bool, false, _||_, not}
 use mathlib.Core.List.{List, [], _∷_, _++_}
 use lib.ListN.{length, getD, take, drop}
 use lib.Dec.{eqb, ltb}
-use Rattle.lists.specs.Choice.{pick, firstOf}
+use Rattle.lists.specs.Choice.{pick, firstOf, within}
 use Rattle.refusal.specs.declared.Refusal.{Refusal}
 use Rattle.refusal.specs.declared.Refusal.the-variants.{Version, Length, Size}
 use Rattle.refusal.specs.Number.{doneOf}
 use Rattle.board.specs.declared.Page.{Page}
 use Rattle.board.specs.declared.Board.{Board}
 use Rattle.board.specs.State.{powerOf}
+use Rattle.board.specs.Modes.{versionOf}
 use Rattle.board.specs.Range.{memoriesRefused}
 use Rattle.timing.specs.Check.{pageCheck, callCheck}
 use Rattle.files.specs.declared.PageRead.{PageRead}
@@ -20,21 +21,21 @@ use Rattle.files.specs.Page.{wordAt, pageAt, boardAt, pageBytes}
 unfoldable pub longAt : List ℕ → ℕ → ℕ
 longAt bytes i = wordAt bytes i * 65536 + wordAt bytes (i + 2)
 
--- 1: version byte missing or not 1
-abbrev pub versionRefused : List ℕ → Bool
-versionRefused file = not (eqb (getD file 0 0) 1)
+-- 1: version byte missing or none of 1 to the newest
+abbrev pub versionRefused : List ℕ → (newest : ℕ) → Bool
+versionRefused file newest = not (within 1 newest (getD file 0 0))
 
 -- 2: length field or bytes present wrong, where n bytes follow the length
 unfoldable pub lengthRefused : List ℕ → ℕ → Bool
 lengthRefused file n = not (eqb (length file) (n + 5)) || not (eqb (longAt file 1) n)
 
--- 1, 2, 3 in this order, then the rest; n bytes follow the length, and size says that a lent part has a wrong size
-unfoldable pub fileCheck : List ℕ → (n : ℕ) → (size : Bool) → Refusal → Refusal
-fileCheck file n size rest = firstOf ((versionRefused file, Version) ∷ (lengthRefused file n, Length) ∷ (size, Size) ∷ []) rest
+-- 1, 2, 3 in this order, then the rest; versions from 1 to the newest are known, n bytes follow the length, and size says that a lent part has a wrong size
+unfoldable pub fileCheck : List ℕ → (newest n : ℕ) → (size : Bool) → Refusal → Refusal
+fileCheck file newest n size rest = firstOf ((versionRefused file newest, Version) ∷ (lengthRefused file n, Length) ∷ (size, Size) ∷ []) rest
 
--- 1, 2, 3, then the page's own 12, 4, 5, 6
+-- 1, 2, 3, then the page's own 12, 4, 5, 6; versions 1 and 2 are known
 unfoldable pub readCheck : List ℕ → (size : Bool) → Refusal
-readCheck file size = fileCheck file 32792 size (pageCheck (pageAt file 5))
+readCheck file size = fileCheck file 2 32792 size (pageCheck (pageAt file 5))
 
 abbrev pub pageRead : Refusal → Board → PageRead
 pageRead r b = record { refusal = r; board = b }
@@ -52,13 +53,13 @@ attrsRead file size attrs = pick (doneOf (readCheck file size)) (take 16384 (dro
 
 -- ---- writing
 
--- version 1, the length 32,792 in four bytes
-abbrev pub pageHead : List ℕ
-pageHead = 1 ∷ 0 ∷ 0 ∷ 128 ∷ 24 ∷ []
+-- the version, the length 32,792 in four bytes
+abbrev pub pageHead : Page → List ℕ
+pageHead p = versionOf p ∷ 0 ∷ 0 ∷ 128 ∷ 24 ∷ []
 
 -- what stands before the memories
 unfoldable pub headOf : Page → List ℕ
-headOf p = pageHead ++ pageBytes p
+headOf p = pageHead p ++ pageBytes p
 
 -- a page's file
 unfoldable pub fileOf : Page → (chars attrs : List ℕ) → List ℕ

@@ -25,9 +25,9 @@ byteOf words k = pick (eqb (k % 2) 0) (getD words (k / 2) 0 / 256) (getD words (
 abbrev pub bytesIn : List ℕ → List ℕ
 bytesIn words = tab 2304 (byteOf words)
 
--- 1, 2, and 3 where a lent part has another size
+-- 1, 2, and 3 where a lent part has another size; version 1 alone is known
 abbrev pub fontCheck : List ℕ → (size : Bool) → Refusal
-fontCheck file size = fileCheck file 2450 size Done
+fontCheck file size = fileCheck file 1 2450 size Done
 
 -- 1,152 words, 128 flags, unshifted list, shifted list
 unfoldable pub fontIn : List ℕ → Font

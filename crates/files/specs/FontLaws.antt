@@ -19,7 +19,7 @@ use Rattle.files.specs.Laws.{file-sized, file-passed}
 
 pub font-passed : (file : List ℕ) (f : Font) → fontCheck file (fontRefused f) ≡ Done → (length file ≡ 2455) × Whole f
 font-passed file f e =
-    let p = file-passed file 2450 (fontRefused f) Done e in
+    let p = file-passed file 1 2450 (fontRefused f) Done e in
     (file-sized file 2450 (p .length-ok), font-whole f (p .size-ok))
 
 -- what a read leaves

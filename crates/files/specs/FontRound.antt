@@ -2,6 +2,7 @@
 --     font-again     a font file's parts, written again, are the same bytes
 use Prim.Native.Nat.{ℕ, _+_, _*_, _/_, _%_, _<_, _≤_}
 use mathlib.Core.Path.{_≡_, sym, ap, _∙_}
+use mathlib.Core.Bool.{false}
 use mathlib.Core.List.{List, _++_}
 use mathlib.Core.Logic.{_⊎_, inl, inr}
 use native.Mathlib.Nat.{eq-zero-or-pos}
@@ -11,9 +12,10 @@ use lib.ListN.{length, getD, take, drop, take-append-drop, length-take, length-d
 use lib.Seq.{take-all, ext-getD, getD-drop, getD-take}
 use Rattle.lists.specs.Tab.{length-tab, getD-tab}
 use Rattle.files.specs.Page.{wordAt}
-use Rattle.files.specs.File.{longAt}
+use Rattle.files.specs.File.{longAt, versionRefused}
 use Rattle.files.specs.FontFile.{wordsOf, byteOf, bytesIn, fontIn, fontFileOf}
 use Rattle.copies.specs.Put.{length-part}
+use Rattle.files.specs.Laws.{version-known}
 use Rattle.files.specs.Round.{Bytes, word-high, word-low, word-kept, front-again, on}
 
 -- ---- words and their bytes
@@ -77,10 +79,12 @@ part-bytes f a n fits i = go (decLt i n)
         rw (List·getD-eq-default (take n (drop a f)) 0 short) (omega arith)
 
 -- a font file's parts, written again, are the same bytes
-pub font-again : (f : List ℕ) → Bytes f → length f ≡ 2455 → getD f 0 0 ≡ 1 → longAt f 1 ≡ 2450 → fontFileOf (fontIn f) ≡ f
+pub font-again : (f : List ℕ) → Bytes f → length f ≡ 2455 → versionRefused f 1 ≡ false → longAt f 1 ≡ 2450 → fontFileOf (fontIn f) ≡ f
 unfolding fontFileOf fontIn
 font-again f fits n v e =
+    let k = version-known f 1 v in
+    let one : getD f 0 0 ≡ 1 = omega (arith, k .0, k .1) in
     let last : take 9 (drop 2446 f) ≡ drop 2446 f = take-all 9 (drop 2446 f) (rw (length-drop 2446 f) (omega (arith, n))) in
     let words = bytes-again (take 2304 (drop 5 f)) (part-bytes f 5 2304 fits) (length-part f 5 2304 (omega (arith, n))) in
     rw (words, last, on f 2437 9, on f 2309 128, on f 5 2304)
-    (ap (λ (x : List ℕ). x ++ drop 5 f) (sym (front-again f fits 2450 (omega arith) n v e)) ∙ take-append-drop 5 f)
+    (ap (λ (x : List ℕ). x ++ drop 5 f) (rw one at (sym (front-again f fits 2450 (omega arith) n e))) ∙ take-append-drop 5 f)

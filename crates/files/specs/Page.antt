@@ -1,4 +1,4 @@
--- 01, "Files": what a page file holds between its length and its character memory.
+-- 01, "Files": what a page file holds before its character memory.
 use Prim.Native.Nat.{ℕ, _+_, _*_, _/_, _%_}
 use mathlib.Core.List.{List, [], _∷_, _++_}
 use lib.ListN.{getD, take, drop}
@@ -8,6 +8,7 @@ use Rattle.board.specs.declared.Video.{Video}
 use Rattle.board.specs.declared.Page.{Page}
 use Rattle.board.specs.declared.Board.{Board}
 use Rattle.board.specs.State.{boardOf}
+use Rattle.board.specs.Modes.{versionOf}
 
 -- two bytes big-endian: the high byte first
 unfoldable pub wordAt : List ℕ → ℕ → ℕ
@@ -20,9 +21,10 @@ startsAt bytes at = record { start1 = wordAt bytes at; cursor = wordAt bytes (at
 abbrev pub videoOf : (n strike : ℕ) → Video
 videoOf n strike = record { dots = dots n; strike = strike }
 
--- 15 IRs, the three addresses, switches, dots, strike line
+-- the version stands first; from a place on 15 IRs, the three addresses, switches, dots, strike line
 unfoldable pub pageAt : List ℕ → ℕ → Page
 pageAt bytes at = record {
+  version = getD bytes 0 0;
   irs = take 15 (drop at bytes);
   starts = startsAt bytes (at + 15);
   switches = getD bytes (at + 21) 0;
@@ -47,6 +49,10 @@ tailOf p =
     ++ (bytesOf (p .starts .start2)
     ++ (p .switches ∷ p .video .dots .0 ∷ p .video .strike ∷ [])))
 
--- the page as it is written
+-- the page as it is written, but for its version
 abbrev pub pageBytes : Page → List ℕ
 pageBytes p = p .irs ++ tailOf p
+
+-- the page that is kept: a version that is not known is written as 1
+abbrev pub keptPage : Page → Page
+keptPage p = record { version = versionOf p; irs = p .irs; starts = p .starts; switches = p .switches; video = p .video }

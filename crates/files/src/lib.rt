@@ -62,12 +62,13 @@ fn video(dots: u8, strike: u8) -> board::Video
     }
 }
 
-// The 24 bytes that stand between a page file's length and its character memory.
+// The version, which stands first, and the 24 bytes that stand between a page file's length and its character memory.
 pub fn page_at(bytes: &[u8], at: usize) -> board::Page
     requires { ⌜ at + 24 ≤ length (now bytes) ⌝ }
     ensures { λ r. ⌜ r ≡ pageAt (now (bytes .entry)) at ⌝ }
 {
     board::Page {
+        version: bytes[0],
         irs: irs_at(bytes, at),
         starts: starts_at(bytes, at + 15),
         switches: bytes[at + 21],
@@ -96,14 +97,14 @@ fn long_at(bytes: &[u8], i: usize) -> u32
     word_at(bytes, i) as u32 * 65536 + word_at(bytes, i + 2) as u32
 }
 
-// 1.
-fn version_refused(file: &[u8]) -> bool
-    ensures { λ r. ⌜ r ≡ versionRefused (now (file .entry)) ⌝ }
+// 1, where versions from 1 to the newest are known.
+pub fn version_refused(file: &[u8], newest: u8) -> bool
+    ensures { λ r. ⌜ r ≡ versionRefused (now (file .entry)) newest ⌝ }
 {
     if file.len() == 0 {
         return true;
     }
-    file[0] != 1
+    !((1 <= file[0]) & (file[0] <= newest))
 }
 
 // 2, where n bytes follow the length.
@@ -118,11 +119,11 @@ fn length_refused(file: &[u8], n: u32) -> bool
 }
 
 // 1, 2, 3, where n bytes follow the length.
-fn file_check(file: &[u8], n: u32, size: bool) -> refusal::Refusal
+fn file_check(file: &[u8], newest: u8, n: u32, size: bool) -> refusal::Refusal
     requires { ⌜ n ≤ 65536 ⌝ }
-    ensures { λ r. ⌜ r ≡ fileCheck (now (file .entry)) n size Refusal.Done ⌝ }
+    ensures { λ r. ⌜ r ≡ fileCheck (now (file .entry)) newest n size Refusal.Done ⌝ }
 {
-    if version_refused(file) {
+    if version_refused(file, newest) {
         return refusal::Refusal::Version;
     }
     if length_refused(file, n) {
@@ -138,7 +139,7 @@ fn file_check(file: &[u8], n: u32, size: bool) -> refusal::Refusal
 pub fn read_check(file: &[u8], size: bool) -> refusal::Refusal
     ensures { λ r. ⌜ r ≡ readCheck (now (file .entry)) size ⌝ }
 {
-    let refused = file_check(file, 32792, size);
+    let refused = file_check(file, 2, 32792, size);
     if refusal::is_done(refused) {
         return timing::page_check(page_at(file, 5));
     }
@@ -199,7 +200,7 @@ fn tail_of(p: board::Page) -> [u8; 9]
     ]
 }
 
-// The 24 bytes that `page_at` reads.
+// The 24 bytes that `page_at` reads behind the version.
 pub fn page_bytes(p: board::Page) -> [u8; 24]
     requires { ⌜ p .video .dots .0 ≤ 12 ⌝ }
     ensures { λ r. ⌜ r ≡ pageBytes p ⌝ }
@@ -218,7 +219,8 @@ fn put_file(p: board::Page, chars: &[u8], attrs: &[u8], out: &mut [u8])
         × (length (now chars) ≡ 16384) × (length (now attrs) ≡ 16384) × (32797 ≤ length (now out)) ⌝ }
     ensures { λ _. ⌜ now (out .exit) ≡ fileOf p (now (chars .entry)) (now (attrs .entry)) ++ drop 32797 (now (out .entry)) ⌝ }
 {
-    let head = [1, 0, 0, 128, 24];
+    let version = board::version_of(p);
+    let head = [version, 0, 0, 128, 24];
     let page = page_bytes(p);
     copies::put(&head, 0, out);
     copies::put(&page, 5, out);
@@ -295,7 +297,7 @@ pub fn read_font(
         × (leftFont words flags unshifted shifted ≡ fontRead (now (file .entry)) f) ⌝ }
 {
     let size = shape::font_refused(words, flags, unshifted, shifted);
-    let refused = file_check(file, 2450, size);
+    let refused = file_check(file, 1, 2450, size);
     if refusal::is_done(refused) {
         read_words(&file[5..2309], words);
         copies::take_from(file, 2309, flags);

@@ -1,6 +1,6 @@
 -- The line as the drawer makes it, from the row's cells and the levels of their marks, and that this is the line of `Line.antt`. Assumes nothing.
 use Prim.Native.Nat.{ℕ, _+_, _*_, _/_, _%_, _≤_, _<_}
-use mathlib.Core.Path.{_≡_, refl, ap, _∙_}
+use mathlib.Core.Path.{_≡_, refl, sym, ap, ap₂, _∙_}
 use mathlib.Core.Bool.{Bool, true, false, _||_, not, true≢false}
 use mathlib.Core.List.{List, [], _∷_, _++_}
 use native.Mathlib.Nat.{div-lt-iff-lt-mul}
@@ -22,6 +22,7 @@ use Rattle.raster.specs.declared.Cell.{Cell}
 use Rattle.raster.specs.Moves.{cell, advanceBy}
 use Rattle.board.specs.declared.Page.{Page}
 use Rattle.board.specs.declared.Board.{Board}
+use Rattle.board.specs.Modes.{fieldMode}
 use Rattle.board.specs.Range.{memoriesRefused}
 use Rattle.board.specs.Laws.{memories-all}
 use Rattle.timing.specs.declared.Timing.{Timing}
@@ -30,15 +31,18 @@ use Rattle.timing.specs.Check.{pageCheck, stateRefused, callCheck}
 use Rattle.timing.specs.Laws.{Accepted, call-passed}
 use Rattle.fetch.specs.Rows.{rowStart}
 use Rattle.fetch.specs.Laws.{cell-along}
+use Rattle.latch.specs.Held.{heldAt}
+use Rattle.latch.specs.Laws.{held-along}
 use Rattle.shape.specs.Font.{Font, Whole, fontRefused, positionOf, wordBy}
 use Rattle.shape.specs.Laws.{font-whole}
 use Rattle.video.specs.declared.Scene.{Scene}
+use Rattle.video.specs.declared.Reading.{Reading}
 use Rattle.video.specs.Scene.{sceneOf}
-use Rattle.video.specs.At.{Content, lentRefused, contentAt, scanDots, dotsAt}
+use Rattle.video.specs.At.{Content, lentRefused, readingOf, contentAt, scanDots, dotsAt}
 use Rattle.dots.specs.Stores.{wideOf}
 use Rattle.dots.specs.Width.{shades, length-shades}
-use Rattle.tables.specs.Tables.{markOf, numberFor, cellBy, levelsOf}
-use Rattle.tables.specs.Laws.{gathered, gathered-lt, looked-up, code-of, mark-of, by-word}
+use Rattle.tables.specs.Tables.{markOf, numberFor, heldBy, cellBy, levelsOf}
+use Rattle.tables.specs.Laws.{shown-lt, gathered, gathered-lt, looked-up, code-of, mark-of, by-word}
 use Rattle.line.specs.declared.Walk.{Walk}
 use Rattle.line.specs.Line.{columnDots, lineDots, lineLength, drawCheck, drawnOf}
 
@@ -134,15 +138,27 @@ draw-passed b chars attrs f line room e =
       roomy = ltb-false _ _ (k .roomy);
     }
 
--- a column shows the cell so many moves from the row's start
+-- what is valid so many moves from the row's start
+pub valid-along : (p : Page) (chars attrs : List ℕ) (r c : ℕ) → c ≤ hactOf (p .irs)
+    → heldBy (fieldMode p) attrs (bufferOf (p .irs)) (heldAt p chars attrs r 0) (rowStart p chars r) c ≡ heldAt p chars attrs r c
+unfolding heldBy
+valid-along p chars attrs r c h = sym (held-along p chars attrs r c h)
+
+-- the cell so many moves from the row's start
+abbrev pub contentBy : Page → (chars attrs : List ℕ) → (held start c : ℕ) → Content
+contentBy p chars attrs held start c =
+    contentAt (readingOf p) chars attrs (heldBy (fieldMode p) attrs (bufferOf (p .irs)) held start c) (advanceBy (bufferOf (p .irs)) c start)
+
+-- a column shows it
 pub column-content : (b : Board) (chars attrs : List ℕ) (f : Font) (line field c : ℕ) → c < hactOf (b .page .irs)
     → scanDots b f (line % linesOf (b .page .irs)) field
-    (contentAt (b .page .starts .cursor) chars attrs (advanceBy (bufferOf (b .page .irs)) c (rowStart (b .page) chars (line / linesOf (b .page .irs)))))
+    (contentBy (b .page) chars attrs (heldAt (b .page) chars attrs (line / linesOf (b .page .irs)) 0) (rowStart (b .page) chars (line / linesOf (b .page .irs))) c)
     ≡ columnDots b chars attrs f line field c
 unfolding columnDots dotsAt
 column-content b chars attrs f line field c h =
-    ap (λ (x : ℕ). scanDots b f (line % linesOf (b .page .irs)) field (contentAt (b .page .starts .cursor) chars attrs x))
-    (cell-along (b .page) chars (line / linesOf (b .page .irs)) c h)
+    let r = line / linesOf (b .page .irs) in
+    ap₂ (λ (v x : ℕ). scanDots b f (line % linesOf (b .page .irs)) field (contentAt (readingOf (b .page)) chars attrs v x))
+    (valid-along (b .page) chars attrs r c (omega (arith, h))) (cell-along (b .page) chars r c h)
 
 -- what the drawer has before it goes along the line: how many cells, the line's constants, the row's cells, and the levels of the scan line's marks
 pub record Prepared (b : Board) (chars attrs : List ℕ) (f : Font) (line field n : ℕ) (w : Walk) (row looks : List ℕ) : Type 0 where
@@ -150,22 +166,23 @@ pub record Prepared (b : Board) (chars attrs : List ℕ) (f : Font) (line field 
   pub walked : w ≡ walkOf (b .page) (f .unshifted) (f .shifted) (line % linesOf (b .page .irs))
   pub beyond : List ℕ
   pub row-is : row
-      ≡ tab n (cellBy chars attrs (bufferOf (b .page .irs)) (b .page .starts .cursor) (rowStart (b .page) chars (line / linesOf (b .page .irs)))) ++ beyond
+      ≡ tab n (cellBy (readingOf (b .page)) chars attrs (bufferOf (b .page .irs)) (heldAt (b .page) chars attrs (line / linesOf (b .page .irs)) 0)
+      (rowStart (b .page) chars (line / linesOf (b .page .irs)))) ++ beyond
   pub above : List ℕ
   pub looks-is : looks ≡ tab 128 (levelsOf (sceneOf b (line % linesOf (b .page .irs)) field)) ++ above
 
 -- the same in the words of the calls that made it
-pub prepared-of : (b : Board) (chars attrs : List ℕ) (f : Font) (line field : ℕ) {row looks : List ℕ} (beyond above : List ℕ) {t : Timing} {r : ℕ} {s : Lines} {w : Walk} {start : Cell} {u : Buffer} {scene : Scene}
+pub prepared-of : (b : Board) (chars attrs : List ℕ) (f : Font) (line field : ℕ) {row looks : List ℕ} (beyond above : List ℕ) {t : Timing} {r : ℕ} {s : Lines} {w : Walk} {start : Cell} {v : ℕ} {k : Reading} {u : Buffer} {scene : Scene}
     → t ≡ timingOf (b .page .irs) → r ≡ line / linesOf (b .page .irs) → s ≡ lines (line % linesOf (b .page .irs)) → w ≡ walkOf (b .page) (f .unshifted) (f .shifted) (s .0)
-    → start ≡ cell (rowStart (b .page) chars r) → u ≡ bufferOf (b .page .irs)
-    → row ≡ tab (t .counts .hact .0) (cellBy chars attrs u (b .page .starts .cursor) (start .address)) ++ beyond → scene ≡ sceneOf b (s .0) field → looks ≡ tab 128 (levelsOf scene) ++ above
+    → start ≡ cell (rowStart (b .page) chars r) → v ≡ heldAt (b .page) chars attrs r 0 → k ≡ readingOf (b .page) → u ≡ bufferOf (b .page .irs)
+    → row ≡ tab (t .counts .hact .0) (cellBy k chars attrs u v (start .address)) ++ beyond → scene ≡ sceneOf b (s .0) field → looks ≡ tab 128 (levelsOf scene) ++ above
     → Prepared b chars attrs f line field (t .counts .hact .0) w row looks
 unfolding timingOf countsOf
-prepared-of b chars attrs f line field beyond above te re se we starts ue row-e scene-e looks-e = record {
+prepared-of b chars attrs f line field beyond above te re se we starts helds ke ue row-e scene-e looks-e = record {
   counted = rw te;
   walked = rw se at we;
   beyond = beyond;
-  row-is = rw (starts, re, ue) at row-e;
+  row-is = rw (starts, helds, ke, re, ue) at row-e;
   above = above;
   looks-is = rw (scene-e, se) at looks-e;
 }
@@ -179,15 +196,20 @@ module _ (b : Board) (chars attrs : List ℕ) (f : Font) (line field n : ℕ) (w
   r = line / linesOf (b .page .irs)
 
   abbrev content : ℕ → Content
-  content c = contentAt (b .page .starts .cursor) chars attrs (advanceBy (bufferOf (b .page .irs)) c (rowStart (b .page) chars r))
+  content c = contentBy (b .page) chars attrs (heldAt (b .page) chars attrs r 0) (rowStart (b .page) chars r) c
 
   numbered : (c : ℕ) → c < n → getD row c 0 ≡ numberFor (content c)
-  numbered c h = gathered chars attrs _ _ _ n row (q .beyond) (q .row-is) c h
+  numbered c h = gathered (readingOf (b .page)) chars attrs _ _ _ n row (q .beyond) (q .row-is) c h
+
+  byte-code : (c : ℕ) → content c .code < 256
+  byte-code c =
+      let held = heldBy (fieldMode (b .page)) attrs (bufferOf (b .page .irs)) (heldAt (b .page) chars attrs r 0) (rowStart (b .page) chars r) c in
+      shown-lt (readingOf (b .page)) chars attrs held (advanceBy (bufferOf (b .page .irs)) c (rowStart (b .page) chars r)) bytes
 
   same-column : Accepted (b .page) → (c : ℕ) → c < n → columnFor w row looks (f .words) (f .flags) c ≡ columnDots b chars attrs f line field c
   unfolding columnFor dotsFor walkOf
   same-column a c h =
-      rw (q .walked, numbered c h, code-of (content c) (bytes _), mark-of (content c) (bytes _))
+      rw (q .walked, numbered c h, code-of (content c) (byte-code c), mark-of (content c) (byte-code c))
       (by-word b f scan field a (content c) (getD looks (markOf (content c .attributes) (content c .here)) 0)
       (looked-up (sceneOf b scan field) (content c .attributes) (content c .here) looks (q .above) (q .looks-is)) ∙ column-content b chars attrs f line field c (omega (arith, q .counted)))
 
@@ -198,7 +220,7 @@ module _ (b : Board) (chars attrs : List ℕ) (f : Font) (line field n : ℕ) (w
       least = rw (q .walked) (k .page .least);
       most = rw (q .walked) (k .page .most);
       few = l;
-      marked = gathered-lt chars attrs _ _ _ n row (q .beyond) (q .row-is) bytes;
+      marked = gathered-lt (readingOf (b .page)) chars attrs _ _ _ n row (q .beyond) (q .row-is) bytes;
       looks-all = all;
       words-all = k .font .words-all;
       flags-all = k .font .flags-all;

@@ -120,6 +120,7 @@ pub fn whole_line(
     let scan = timing::line_of_row(irs, line);
     let w = walk_of(page, unshifted, shifted, scan);
     let start = fetch::row_start(page, chars, row);
+    let held = latch::held_at(page, chars, attrs, row, units::Clocks(0));
     let n = t.counts.hact;
     let mut row_cells = [0u16; 256];
     let mut looks = [0u16; 128];
@@ -127,9 +128,10 @@ pub fn whole_line(
         &mut row_cells,
         chars,
         attrs,
+        video::reading_of(page),
         timing::buffer_of(irs),
         start,
-        page.starts.cursor,
+        held,
         n.0 as usize,
     );
     tables::looks(&mut looks, video::scene_of(b, scan, field));

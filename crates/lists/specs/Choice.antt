@@ -2,8 +2,8 @@
 use mathlib.Core.Bool.{Bool, true, false, _&&_, _||_, and-false, true≢false}
 use mathlib.Core.List.{List, [], _∷_}
 use mathlib.Core.Path.{_≡_, refl, sym}
-use Prim.Native.Nat.{ℕ, _≤_, _<_}
-use lib.Dec.{leb}
+use Prim.Native.Nat.{ℕ, _/_, _%_, _≤_, _<_}
+use lib.Dec.{eqb, leb}
 use borrow.Author.Tests.{le-leb, lt-leb}
 
 -- a where the test holds, else b
@@ -19,6 +19,10 @@ firstOf (t ∷ ts) last = pick (t .0) (t .1) (firstOf ts last)
 -- lo to hi, both counted
 abbrev pub within : ℕ → ℕ → ℕ → Bool
 within lo hi a = leb lo a && leb a hi
+
+-- the bit of a weight, of switches or of attributes
+abbrev pub hasBit : (byte weight : ℕ) → Bool
+hasBit byte weight = eqb (byte / weight % 2) 1
 
 -- a proof that the test holds, or does not, and of the branch that is left; `_` stands for the other branch
 pub stop : {A : Type 0} {t : Bool} {a x : A} (b : A) → t ≡ true → x ≡ a → x ≡ pick t a b

@@ -2,9 +2,9 @@
 --     numbers-put    version, page and zeros, put into a buffer part by part
 --     numbers-page   the numbers of a file are the file's page
 --     file-read, numbers-kept        what a read leaves
---     saved-page, saved-numbers      a page as numbers is that page, and numbers come back
+--     saved-page, saved-numbers      a page as numbers is the page that is kept, and numbers come back
 use Prim.Native.Nat.{ℕ, _+_, _*_, _<_, _≤_}
-use mathlib.Core.Path.{_≡_, refl, sym, ap, _∙_}
+use mathlib.Core.Path.{_≡_, refl, sym, ap, ap₂, _∙_}
 use mathlib.Core.Bool.{Bool, true, false, not}
 use mathlib.Core.List.{List, [], _∷_, _++_}
 use native.Mathlib.Omega.{arith}
@@ -23,10 +23,10 @@ use Rattle.board.specs.declared.Board.{Board}
 use Rattle.board.specs.Range.{memoriesRefused}
 use Rattle.timing.specs.Check.{pageCheck}
 use Rattle.copies.specs.Put.{length-part, putAt, laid-none, put-on, laid-all}
-use Rattle.files.specs.Page.{wordAt, pageAt, pageBytes}
-use Rattle.files.specs.File.{readCheck, charsRead, attrsRead}
+use Rattle.files.specs.Page.{wordAt, pageAt, pageBytes, keptPage}
+use Rattle.files.specs.File.{versionRefused, readCheck, charsRead, attrsRead}
 use Rattle.files.specs.Laws.{file-sized, FilePassed, file-passed, bytes-all}
-use Rattle.files.specs.Round.{Bytes, page-from, bytes-again, page-kept}
+use Rattle.files.specs.Round.{Bytes, bytes-again, version-again, written-known, page-kept}
 use Rattle.numbers.specs.Numbers.{numbersRefused, numbersCheck, numbersWith, numbersIn, pageNumbers, numbersOfCheck, numbersOf}
 use Rattle.numbers.specs.Files.{pageReadSize, numbersRead}
 
@@ -38,16 +38,17 @@ pub numbers-passed : (numbers : List ℕ) → numbersCheck numbers ≡ Done → 
 unfolding numbersCheck
 numbers-passed numbers e = passed (numbersRefused numbers) Size _ refl e .0
 
-pub numbers-put : (page out : List ℕ) → length page ≡ 24 → length out ≡ 32 → {one two three : List ℕ}
-    → one ≡ putAt 0 (1 ∷ []) out → two ≡ putAt 1 page one → three ≡ putAt 25 (replicate 7 0) two → three ≡ numbersWith page
-numbers-put page out n all e₁ e₂ e₃ =
-    let l₁ = put-on [] (1 ∷ []) out 0 1 (laid-none out) refl e₁ in
-    let l₂ = put-on (1 ∷ []) page out 1 24 l₁ n e₂ in
-    laid-all (numbersWith page) out 32 (put-on (1 ∷ page) (replicate 7 0) out 25 7 l₂ refl e₃) all
+pub numbers-put : (v : ℕ) (page out : List ℕ) → length page ≡ 24 → length out ≡ 32 → {one two three : List ℕ}
+    → one ≡ putAt 0 (v ∷ []) out → two ≡ putAt 1 page one → three ≡ putAt 25 (replicate 7 0) two → three ≡ numbersWith v page
+numbers-put v page out n all e₁ e₂ e₃ =
+    let l₁ = put-on [] (v ∷ []) out 0 1 (laid-none out) refl e₁ in
+    let l₂ = put-on (v ∷ []) page out 1 24 l₁ n e₂ in
+    laid-all (numbersWith v page) out 32 (put-on (v ∷ page) (replicate 7 0) out 25 7 l₂ refl e₃) all
 
 pub numbers-page : (file : List ℕ) → 29 ≤ length file → pageAt (numbersIn file) 1 ≡ pageAt file 5
 unfolding pageAt wordAt
 numbers-page file l = λ i. record {
+  version = getD file 0 0;
   irs = irs-same i;
   starts = record { start1 = both 15 (omega arith) i; cursor = both 17 (omega arith) i; start2 = both 19 (omega arith) i };
   switches = same 21 (omega arith) i;
@@ -71,9 +72,9 @@ numbers-page file l = λ i. record {
 
 -- a page that is read: the sizes are right, and they are those that the memories are read by
 module _ (file : List ℕ) (n c a : ℕ) (ok : readCheck file (pageReadSize n c a) ≡ Done) where
-  read-passed : FilePassed file 32792 (pageReadSize n c a) (pageCheck (pageAt file 5))
+  read-passed : FilePassed file 2 32792 (pageReadSize n c a) (pageCheck (pageAt file 5))
   unfolding readCheck
-  read-passed = file-passed file 32792 (pageReadSize n c a) (pageCheck (pageAt file 5)) ok
+  read-passed = file-passed file 2 32792 (pageReadSize n c a) (pageCheck (pageAt file 5)) ok
 
   pub read-fits : (length file ≡ 32797) × (n ≡ 32)
   read-fits =
@@ -98,26 +99,26 @@ numbers-kept file size numbers₀ t = rw t
 
 -- ---- a board's page as numbers
 
-pub numbers-version : (numbers : List ℕ) → numbersRefused numbers ≡ false → getD numbers 0 0 ≡ 1
+pub numbers-version : (numbers : List ℕ) → numbersRefused numbers ≡ false → versionRefused numbers 2 ≡ false
 unfolding numbersRefused
-numbers-version numbers e = eqb-true _ _ (not-false _ (neither (not (eqb (length numbers) 32)) (not (eqb (getD numbers 0 0) 1)) e .1))
+numbers-version numbers e = neither (not (eqb (length numbers) 32)) (versionRefused numbers 2) e .1
 
--- numbers of a page are refused by nothing, and are that page
+-- numbers of a page are refused by nothing, and are the page that is kept
 module _ (p : Page) (n : length (p .irs) ≡ 15) where
   pub saved-fine : numbersRefused (pageNumbers p) ≡ false
   unfolding numbersRefused
-  saved-fine = rw (length-append (pageBytes p) (replicate 7 0), bytes-all p n)
+  saved-fine = rw (length-append (pageBytes p) (replicate 7 0), bytes-all p n) (written-known p)
 
-  pub saved-page : pageAt (pageNumbers p) 1 ≡ p
-  saved-page = page-from (pageNumbers p) 1 ∙ page-kept p (replicate 7 0) n
+  pub saved-page : pageAt (pageNumbers p) 1 ≡ keptPage p
+  saved-page = page-kept p (replicate 7 0) n (pageNumbers p) 1 refl refl
 
 -- the page of numbers, as numbers: those, with zeros where numbers are ignored
-pub saved-numbers : (numbers : List ℕ) → Bytes numbers → length numbers ≡ 32 → getD numbers 0 0 ≡ 1 → pageNumbers (pageAt numbers 1) ≡ take 25 numbers ++ replicate 7 0
+pub saved-numbers : (numbers : List ℕ) → Bytes numbers → length numbers ≡ 32 → versionRefused numbers 2 ≡ false → pageNumbers (pageAt numbers 1) ≡ take 25 numbers ++ replicate 7 0
 saved-numbers numbers fits n v =
-    ap numbersWith (bytes-again numbers fits 1 (omega (arith, n))) ∙ ap (λ (l : List ℕ). l ++ replicate 7 0) (sym front)
+    ap₂ numbersWith (version-again numbers 1 v) (bytes-again numbers fits 1 (omega (arith, n))) ∙ ap (λ (l : List ℕ). l ++ replicate 7 0) (sym front)
   where
-    front : take 25 numbers ≡ 1 ∷ take 24 (drop 1 numbers)
-    front = ap (take 25) (drop-cons numbers 0 0 (omega (arith, n))) ∙ rw v
+    front : take 25 numbers ≡ getD numbers 0 0 ∷ take 24 (drop 1 numbers)
+    front = ap (take 25) (drop-cons numbers 0 0 (omega (arith, n)))
 
 -- what the call leaves
 module _ (b : Board) (numbers₀ : List ℕ) where

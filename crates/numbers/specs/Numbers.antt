@@ -10,12 +10,14 @@ use Rattle.refusal.specs.declared.Refusal.the-variants.{Size}
 use Rattle.refusal.specs.Number.{doneOf}
 use Rattle.board.specs.declared.Page.{Page}
 use Rattle.board.specs.declared.Board.{Board}
+use Rattle.board.specs.Modes.{versionOf}
 use Rattle.timing.specs.Check.{pageCheck}
 use Rattle.files.specs.Page.{pageAt, boardAt, pageBytes}
+use Rattle.files.specs.File.{versionRefused}
 
--- 3: another size than 32 bytes, or an unknown version
+-- 3: another size than 32 bytes, or a version that pages do not know
 unfoldable pub numbersRefused : List ℕ → Bool
-numbersRefused numbers = not (eqb (length numbers) 32) || not (eqb (getD numbers 0 0) 1)
+numbersRefused numbers = not (eqb (length numbers) 32) || versionRefused numbers 2
 
 -- 3 for the numbers, then the page's own 12, 4, 5, 6
 unfoldable pub numbersCheck : List ℕ → Refusal
@@ -25,17 +27,17 @@ numbersCheck numbers = pick (numbersRefused numbers) Size (pageCheck (pageAt num
 abbrev pub numbersBoard : List ℕ → Board
 numbersBoard numbers = boardAt numbers 1
 
--- the numbers of a page's 24 bytes
-abbrev pub numbersWith : List ℕ → List ℕ
-numbersWith page = 1 ∷ (page ++ replicate 7 0)
+-- the numbers of a version and a page's 24 bytes
+abbrev pub numbersWith : (version : ℕ) → List ℕ → List ℕ
+numbersWith version page = version ∷ (page ++ replicate 7 0)
 
 -- those of a page file
 abbrev pub numbersIn : List ℕ → List ℕ
-numbersIn file = numbersWith (take 24 (drop 5 file))
+numbersIn file = numbersWith (getD file 0 0) (take 24 (drop 5 file))
 
--- those of a page: version 1, IR0 to IR14, screen start 1, cursor and screen start 2 high byte first, switches, dots, strike line, seven zeros
+-- those of a page: its version, IR0 to IR14, screen start 1, cursor and screen start 2 high byte first, switches, dots, strike line, seven zeros
 abbrev pub pageNumbers : Page → List ℕ
-pageNumbers p = numbersWith (pageBytes p)
+pageNumbers p = numbersWith (versionOf p) (pageBytes p)
 
 -- ---- a board's page as numbers
 

@@ -5,14 +5,11 @@ ghost use Rattle.files.specs.File.{readCheck, charsRead, attrsRead};
 ghost use Rattle.numbers.specs.Numbers.{numbersRefused, numbersCheck, numbersWith, numbersOfCheck, numbersOf};
 ghost use Rattle.numbers.specs.Files.{pageReadSize, numbersRead, pageWriteCheck, pageWritten};
 
-// 3, for a page's numbers. The version is looked at only where there is one.
+// 3, for a page's numbers.
 pub fn numbers_refused(numbers: &[u8]) -> bool
     ensures { λ r. ⌜ r ≡ numbersRefused (now (numbers .entry)) ⌝ }
 {
-    if numbers.len() != 32 {
-        return true;
-    }
-    numbers[0] != 1
+    (numbers.len() != 32) | files::version_refused(numbers, 2)
 }
 
 // The page check: 3, 12, 4, 5, 6.
@@ -26,13 +23,13 @@ pub fn numbers_check(numbers: &[u8]) -> refusal::Refusal
 }
 
 // The version, a page's 24 bytes, and zeros.
-fn put_numbers(page: &[u8], numbers: &mut [u8])
+fn put_numbers(version: u8, page: &[u8], numbers: &mut [u8])
     requires { ⌜ (length (now page) ≡ 24) × (length (now numbers) ≡ 32) ⌝ }
-    ensures { λ _. ⌜ now (numbers .exit) ≡ numbersWith (now (page .entry)) ⌝ }
+    ensures { λ _. ⌜ now (numbers .exit) ≡ numbersWith version (now (page .entry)) ⌝ }
 {
-    let version = [1];
+    let front = [version];
     let rest = [0u8; 7];
-    copies::put(&version, 0, numbers);
+    copies::put(&front, 0, numbers);
     copies::put(page, 1, numbers);
     copies::put(&rest, 25, numbers);
 }
@@ -54,7 +51,7 @@ pub fn read_file(
     let judged = files::read_check(file, size);
     if refusal::is_done(judged) {
         files::read_page(file, chars, attrs);
-        put_numbers(&file[5..29], numbers);
+        put_numbers(file[0], &file[5..29], numbers);
     }
     judged
 }
@@ -82,7 +79,7 @@ pub fn numbers_of(b: board::Board, numbers: &mut [u8]) -> refusal::Refusal
     let refused = timing::page_check(b.page);
     if refusal::is_done(refused) {
         let bytes = files::page_bytes(b.page);
-        put_numbers(&bytes, numbers);
+        put_numbers(board::version_of(b.page), &bytes, numbers);
     }
     refused
 }

@@ -2,6 +2,7 @@
 use Prim.Native.Nat.{ℕ, _+_, _*_, _/_, _%_, _≤_, _<_}
 use mathlib.Core.Path.{_≡_, sym, ap, _∙_}
 use mathlib.Core.List.{List, _++_}
+use native.Mathlib.Numerals.{add-one}
 use native.Mathlib.Omega.{arith}
 use lib.ListN.{length, getD, drop, List·getD-append}
 use Rattle.units.specs.Units.{clocks, lines}
@@ -12,9 +13,13 @@ use Rattle.raster.specs.Moves.{cell, Bounded}
 use Rattle.board.specs.declared.Page.{Page}
 use Rattle.timing.specs.Fields.{hactOf, linesOf, rowsOf, bufferOf}
 use Rattle.fetch.specs.Rows.{rowStart}
+use Rattle.latch.specs.Held.{heldAt}
+use Rattle.latch.specs.Laws.{held-next}
+use Rattle.video.specs.At.{readingOf}
 use Rattle.dots.specs.Stores.{dotsBy}
 use Rattle.dots.specs.Spread.{length-dots}
-use Rattle.tables.specs.Tables.{cellBy}
+use Rattle.tables.specs.Tables.{heldBy, cellBy}
+use Rattle.line.specs.Walk.{valid-along}
 use Rattle.picture.specs.declared.Plan.{Plan}
 
 -- the dots of a cell's number on a scan line
@@ -67,53 +72,54 @@ pub as-line : (cells low high looks : List ℕ) (n d w s : ℕ) (out part : List
 unfolding lineFrom
 as-line cells low high looks n d w s out part h e = rw h e
 
--- the row that begins at an address
-unfoldable pub rowLine : Plan → (chars attrs low high looks : List ℕ) → (start scan : ℕ) → List ℕ
-rowLine p chars attrs low high looks start s =
-    joined 0 (p .columns .0) (λ (c : ℕ). cellDotsOf low high looks (p .dots .0) s (cellBy chars attrs (p .buffer) (p .cursor) start c))
+-- the row that begins at an address, where held is valid before it
+unfoldable pub rowLine : Plan → (chars attrs low high looks : List ℕ) → (held start scan : ℕ) → List ℕ
+rowLine p chars attrs low high looks held start s =
+    joined 0 (p .columns .0) (λ (c : ℕ). cellDotsOf low high looks (p .dots .0) s (cellBy (p .reading) chars attrs (p .buffer) held start c))
 
-unfoldable pub rowFrom : Plan → (chars attrs low high looks : List ℕ) → (start : ℕ) → List ℕ
-rowFrom p chars attrs low high looks start = joined 0 (p .lines .0) (rowLine p chars attrs low high looks start)
+unfoldable pub rowFrom : Plan → (chars attrs low high looks : List ℕ) → (held start : ℕ) → List ℕ
+rowFrom p chars attrs low high looks held start = joined 0 (p .lines .0) (rowLine p chars attrs low high looks held start)
 
-pub same-row : (p : Plan) (chars attrs low high looks cells rest : List ℕ) (start : ℕ) → cells ≡ tab (p .columns .0) (cellBy chars attrs (p .buffer) (p .cursor) start) ++ rest
-    → joined 0 (p .lines .0) (lineFrom cells low high looks (p .columns .0) (p .dots .0)) ≡ rowFrom p chars attrs low high looks start
+pub same-row : (p : Plan) (chars attrs low high looks cells rest : List ℕ) (held start : ℕ) → cells ≡ tab (p .columns .0) (cellBy (p .reading) chars attrs (p .buffer) held start) ++ rest
+    → joined 0 (p .lines .0) (lineFrom cells low high looks (p .columns .0) (p .dots .0)) ≡ rowFrom p chars attrs low high looks held start
 unfolding rowFrom rowLine lineFrom columnOf
-same-row p chars attrs low high looks cells rest start e =
+same-row p chars attrs low high looks cells rest held start e =
     same-joined 0 (p .lines .0) _ _ (λ s l u. same-joined 0 (p .columns .0) _ _ (λ c k v. ap (cellDotsOf low high looks (p .dots .0) s) (at c (omega (arith, v)))))
   where
     f : ℕ → ℕ
-    f = cellBy chars attrs (p .buffer) (p .cursor) start
+    f = cellBy (p .reading) chars attrs (p .buffer) held start
 
     at : (c : ℕ) → c < p .columns .0 → getD cells c 0 ≡ f c
     at c h = rw e (List·getD-append (tab (p .columns .0) f) rest 0 c (rw (length-tab (p .columns .0) f) h)) ∙ getD-tab (p .columns .0) f c h
 
-pub as-row : (p : Plan) (chars attrs low high looks cells rest : List ℕ) (start : ℕ) (out back : List ℕ) → cells ≡ tab (p .columns .0) (cellBy chars attrs (p .buffer) (p .cursor) start) ++ rest
-    → out ≡ joined 0 (p .lines .0) (lineFrom cells low high looks (p .columns .0) (p .dots .0)) ++ back → out ≡ rowFrom p chars attrs low high looks start ++ back
-as-row p chars attrs low high looks cells rest start out back e q = q ∙ ap (λ (l : List ℕ). l ++ back) (same-row p chars attrs low high looks cells rest start e)
+pub as-row : (p : Plan) (chars attrs low high looks cells rest : List ℕ) (held start : ℕ) (out back : List ℕ) → cells ≡ tab (p .columns .0) (cellBy (p .reading) chars attrs (p .buffer) held start) ++ rest
+    → out ≡ joined 0 (p .lines .0) (lineFrom cells low high looks (p .columns .0) (p .dots .0)) ++ back → out ≡ rowFrom p chars attrs low high looks held start ++ back
+as-row p chars attrs low high looks cells rest held start out back e q = q ∙ ap (λ (l : List ℕ). l ++ back) (same-row p chars attrs low high looks cells rest held start e)
 
 pub length-row : (p : Plan) (chars attrs low high looks : List ℕ) → 6 ≤ p .dots .0 → p .dots .0 ≤ 12 → p .width ≡ p .columns .0 * p .dots .0 → p .size ≡ p .lines .0 * p .width
-    → (start : ℕ) → length (rowFrom p chars attrs low high looks start) ≡ p .size
+    → (held start : ℕ) → length (rowFrom p chars attrs low high looks held start) ≡ p .size
 unfolding rowFrom rowLine cellDotsOf
-length-row p chars attrs low high looks h m w z start =
-    length-joined (rowLine p chars attrs low high looks start) (p .width) each 0 (p .lines .0) ∙ sym z
+length-row p chars attrs low high looks h m w z held start =
+    length-joined (rowLine p chars attrs low high looks held start) (p .width) each 0 (p .lines .0) ∙ sym z
   where
-    each : (s : ℕ) → length (rowLine p chars attrs low high looks start s) ≡ p .width
+    each : (s : ℕ) → length (rowLine p chars attrs low high looks held start s) ≡ p .width
     each s = length-joined _ (p .dots .0) (λ c. length-dots _ _ _ _ (p .dots .0) m) 0 (p .columns .0) ∙ sym w
 
 -- row r of a page
 unfoldable pub rowDrawn : Plan → Page → (chars attrs low high looks : List ℕ) → (r : ℕ) → List ℕ
-rowDrawn p page chars attrs low high looks r = rowFrom p chars attrs low high looks (rowStart page chars r)
+rowDrawn p page chars attrs low high looks r = rowFrom p chars attrs low high looks (heldAt page chars attrs r 0) (rowStart page chars r)
 
 pub length-row-at : (p : Plan) (page : Page) (chars attrs low high looks : List ℕ) → 6 ≤ p .dots .0 → p .dots .0 ≤ 12 → p .width ≡ p .columns .0 * p .dots .0 → p .size ≡ p .lines .0 * p .width
     → (r : ℕ) → length (rowDrawn p page chars attrs low high looks r) ≡ p .size
 unfolding rowDrawn
-length-row-at p page chars attrs low high looks h m w z r = length-row p chars attrs low high looks h m w z (rowStart page chars r)
+length-row-at p page chars attrs low high looks h m w z r = length-row p chars attrs low high looks h m w z (heldAt page chars attrs r 0) (rowStart page chars r)
 
-pub as-row-at : (p : Plan) (page : Page) (chars attrs low high looks : List ℕ) (r : ℕ) (start : Cell) (out part : List ℕ) → start ≡ cell (rowStart page chars r) → p .size ≡ p .lines .0 * p .width
-    → out ≡ rowFrom p chars attrs low high looks (start .address) ++ drop (p .lines .0 * p .width) part → out ≡ rowDrawn p page chars attrs low high looks r ++ drop (p .size) part
+pub as-row-at : (p : Plan) (page : Page) (chars attrs low high looks : List ℕ) (r held : ℕ) (start : Cell) (out part : List ℕ) → held ≡ heldAt page chars attrs r 0 → start ≡ cell (rowStart page chars r)
+    → p .size ≡ p .lines .0 * p .width → out ≡ rowFrom p chars attrs low high looks held (start .address) ++ drop (p .lines .0 * p .width) part
+    → out ≡ rowDrawn p page chars attrs low high looks r ++ drop (p .size) part
 unfolding rowDrawn
-as-row-at p page chars attrs low high looks r start out part q z e =
-    (rw q at e) ∙ ap (λ (k : ℕ). rowFrom p chars attrs low high looks (rowStart page chars r) ++ drop k part) (sym z)
+as-row-at p page chars attrs low high looks r held start out part v q z e =
+    (rw (v, q) at e) ∙ ap (λ (k : ℕ). rowFrom p chars attrs low high looks (heldAt page chars attrs r 0) (rowStart page chars r) ++ drop k part) (sym z)
 
 unfoldable pub planOf : Page → Plan
 planOf p = record {
@@ -124,5 +130,12 @@ planOf p = record {
   width = hactOf (p .irs) * p .video .dots .0;
   size = linesOf (p .irs) * (hactOf (p .irs) * p .video .dots .0);
   buffer = bufferOf (p .irs);
-  cursor = p .starts .cursor;
+  reading = readingOf p;
 }
+
+-- what is valid after a row is what the next begins with
+pub carried-on : (p : Plan) (page : Page) (chars attrs : List ℕ) (r held v : ℕ) (start : Cell) → p ≡ planOf page → held ≡ heldAt page chars attrs r 0 → start ≡ cell (rowStart page chars r)
+    → v ≡ heldBy (p .reading .runs) attrs (p .buffer) held (start .address) (p .columns .0) → v ≡ heldAt page chars attrs (r + 1) 0
+unfolding planOf
+carried-on p page chars attrs r held v start q e s d =
+    (rw (q, e, s) at d) ∙ valid-along page chars attrs r (hactOf (page .irs)) (omega arith) ∙ held-next page chars attrs r ∙ rw (add-one r)

@@ -9,12 +9,13 @@ ghost use Rattle.lists.specs.Join.{joined};
 ghost use Rattle.shape.specs.Font.{fontNow, lentFont};
 ghost use Rattle.timing.specs.Laws.{Accepted};
 ghost use Rattle.video.specs.At.{lentRefused};
+ghost use Rattle.tables.specs.Tables.{heldBy};
 ghost use Rattle.line.specs.Walk.{lastOf};
 ghost use Rattle.picture.specs.Picture.{pictureCheck, pictureDots, pictureLength, picturedOf};
 ghost use Rattle.picture.specs.Plan.{planOf, columnOf, lineFrom, rowFrom, rowDrawn, Sheet};
 ghost use Rattle.picture.specs.Agree.{Pictured};
 
-// What is the same for all rows: columns, dots a cell, lines a row, rows, the bytes of a line and of a row, the buffer, the cursor.
+// What is the same for all rows: columns, dots a cell, lines a row, rows, the bytes of a line and of a row, the buffer, how cells are read.
 pub struct Plan {
     pub columns: units::Clocks,
     pub dots: units::Dots,
@@ -23,7 +24,7 @@ pub struct Plan {
     pub width: usize,
     pub size: usize,
     pub buffer: raster::Buffer,
-    pub cursor: u16,
+    pub reading: video::Reading,
 }
 
 // One line from its row's cells. No branch goes by what a cell is.
@@ -83,7 +84,7 @@ fn draw_lines(out: &mut [u8], p: Plan, cells: &[u16], low: &[u64], high: &[u64],
     }
 }
 
-// A row from where it starts: its cells once, then its lines.
+// A row from where it starts: its cells once, then its lines. What is valid before it goes in, and what is valid after it comes out.
 fn draw_row(
     out: &mut [u8],
     p: Plan,
@@ -93,28 +94,33 @@ fn draw_row(
     high: &[u64],
     looks: &[u16],
     start: raster::Cell,
-)
+    held: u8,
+) -> u8
     requires { ⌜ Sheet p (now low) (now high) (now looks) × (length (now chars) ≡ 16384) × (length (now attrs) ≡ 16384) ⌝ }
     requires { ⌜ (start .address < 16384) × (p .lines .0 * p .width ≤ length (now out)) ⌝ }
-    ensures { λ _. ⌜ now (out .exit)
-        ≡ rowFrom p (now (chars .entry)) (now (attrs .entry)) (now (low .entry)) (now (high .entry)) (now (looks .entry)) (start .address)
-        ++ drop (p .lines .0 * p .width) (now (out .entry)) ⌝ }
+    ensures { λ r. ⌜ (r ≡ heldBy (p .reading .runs) (now (attrs .entry)) (p .buffer) held (start .address) (p .columns .0))
+        × (now (out .exit)
+        ≡ rowFrom p (now (chars .entry)) (now (attrs .entry)) (now (low .entry)) (now (high .entry)) (now (looks .entry)) held (start .address)
+        ++ drop (p .lines .0 * p .width) (now (out .entry))) ⌝ }
 {
     let mut cells = [0u16; 256];
     let buffer = p.buffer;
-    tables::gather(
+    let reading = p.reading;
+    let valid = tables::gather(
         &mut cells,
         chars,
         attrs,
+        reading,
         buffer,
         start,
-        p.cursor,
+        held,
         p.columns.0 as usize,
     );
     draw_lines(out, p, &cells, low, high, looks);
+    valid
 }
 
-// All rows.
+// All rows. What is latched in one goes on in the next.
 fn draw_rows(
     out: &mut [u8],
     p: Plan,
@@ -126,18 +132,29 @@ fn draw_rows(
     looks: &[u16],
 )
     requires { ⌜ Sheet p (now low) (now high) (now looks) × (length (now chars) ≡ 16384) × (length (now attrs) ≡ 16384) ⌝ }
-    requires { ⌜ Accepted page × (p .rows ≤ 128) × (p .rows * p .size ≤ length (now out)) ⌝ }
+    requires { ⌜ Accepted page × (p ≡ planOf page) × (p .rows * p .size ≤ length (now out)) ⌝ }
     ensures { λ _. ⌜ now (out .exit)
         ≡ joined 0 (p .rows) (rowDrawn p page (now (chars .entry)) (now (attrs .entry)) (now (low .entry)) (now (high .entry)) (now (looks .entry)))
         ++ drop (p .rows * p .size) (now (out .entry)) ⌝ }
 {
     let n = p.rows;
     let size = p.size;
+    let mut held = 0;
     let mut r: u32 = 0;
     while r < n {
         let start = fetch::row_start(page, chars, r);
         let a = r as usize * size;
-        draw_row(&mut out[a..], p, chars, attrs, low, high, looks, start);
+        held = draw_row(
+            &mut out[a..],
+            p,
+            chars,
+            attrs,
+            low,
+            high,
+            looks,
+            start,
+            held,
+        );
         r += 1;
     }
 }
@@ -161,7 +178,7 @@ fn plan_of(p: board::Page) -> Plan
         width: width,
         size: size,
         buffer: timing::buffer_of(irs),
-        cursor: p.starts.cursor,
+        reading: video::reading_of(p),
     }
 }
 

@@ -1,6 +1,9 @@
--- The definitions as the code has them: one law for each way out of a function. Assumes nothing.
+-- The definitions as the code has them: one law for each way out of a function. And what callers use. Assumes nothing.
+--     one-clock      loaded, moved on and turned is one step
+--     loaded-lt      what is fetched or held is an address
+--     carried-all    what holds at every column of every row, and at clock 0, holds at every clock
 use Prim.Native.Nat.{ℕ, zero, suc, _+_, _-_, _/_, _%_, _≤_, _<_}
-use mathlib.Core.Path.{_≡_, refl, _∙_}
+use mathlib.Core.Path.{_≡_, refl, subst, _∙_}
 use mathlib.Core.Bool.{Bool, true, false, _&&_, true≢false}
 use mathlib.Core.List.{List}
 use native.Mathlib.Nat.{div-lt-iff-lt-mul}
@@ -15,23 +18,27 @@ use Rattle.units.specs.declared.Clocks.{Clocks}
 use Rattle.units.specs.declared.Lines.{Lines}
 use Rattle.units.specs.Units.{clocks, lines}
 use Rattle.refusal.specs.declared.Refusal.the-variants.{Done}
+use Rattle.raster.specs.declared.Beam.{Beam}
 use Rattle.raster.specs.declared.Cell.{Cell}
-use Rattle.raster.specs.Moves.{cell, advance}
+use Rattle.raster.specs.Moves.{cell}
 use Rattle.raster.specs.Raster.{Pair, pair, loaded, onward, turn, step, tail, inLine, carriedAt, scanAt}
 use Rattle.raster.specs.Cells.{begins, movesOn}
+use Rattle.raster.specs.Beams.{beam}
 use Rattle.board.specs.declared.Page.{Page}
 use Rattle.board.specs.declared.Place.{Place}
 use Rattle.board.specs.declared.Board.{Board}
 use Rattle.board.specs.Range.{memoriesRefused}
 use Rattle.board.specs.Laws.{memories-all}
 use Rattle.timing.specs.declared.Timing.{Timing}
-use Rattle.timing.specs.Fields.{linesOf, rowsOf, hactOf, htOf, vtOf, tableOf, visibleOf, bufferOf, timingOf, countsOf}
+use Rattle.timing.specs.Fields.{linesOf, rowsOf, hactOf, htOf, vtOf, tableOf, visibleOf, timingOf, countsOf}
 use Rattle.timing.specs.Laws.{Accepted, call-passed}
 use Rattle.fetch.specs.Rows.{entryOf, feedIn, rowStart, cellAt}
 use Rattle.fetch.specs.Laws.{entry-lt}
+use Rattle.latch.specs.Held.{heldAt}
+use Rattle.latch.specs.Laws.{held-valid}
 use Rattle.place.specs.declared.Carried.{Carried}
 use Rattle.place.specs.declared.Spot.{Spot}
-use Rattle.place.specs.Place.{countsIn, carrierIn, carriedOf, activeAt, loadsAt, loadedIn, movedIn, turnedIn, nextPlace, rowAt, lineAt, carriedBefore, placeAt}
+use Rattle.place.specs.Place.{countsIn, carrierIn, rowsIn, rasterOf, carriedOf, settled, settledIn, activeAt, loadsAt, begunIn, loadedIn, pastCell, movedIn, turnedIn, nextPlace, rowAt, lineAt, carriedBefore, placeAt}
 use Rattle.place.specs.Spot.{lastSpot, spotIn, spotBefore, originAt}
 use Rattle.place.specs.State.{stateCheck}
 
@@ -63,43 +70,46 @@ module _ (p : Page) (chars : List ℕ) (q : Place) where
   loads-row t = row-of p (q .line .0) (ltb-true _ _ (both (ltb (q .line .0) (visibleOf (p .irs) .0)) (eqb (q .clock .0) 0) t .0))
 
   pub loaded-first : loadsAt p q ≡ true → eqb (q .line .0 % linesOf (p .irs)) 0 ≡ true
-      → (x : Cell) → x ≡ cell (begins (feedIn p chars) (q .line .0 / linesOf (p .irs)) (q .beam .address)) → carriedOf (pair x x) ≡ loadedIn p chars q
+      → (x : Beam) → x ≡ begunIn p chars (q .line .0 / linesOf (p .irs)) (settled p (q .beam)) → carriedOf (pair x x) ≡ loadedIn p chars q
   unfolding loadedIn loaded countsOf
   loaded-first t z x e =
       let b = both (ltb (q .line .0) (visibleOf (p .irs) .0)) (eqb (q .clock .0) 0) t in
       rw (b .0, b .1, z, e)
 
-  pub loaded-again : loadsAt p q ≡ true → eqb (q .line .0 % linesOf (p .irs)) 0 ≡ false → carriedOf (pair (q .row) (q .row)) ≡ loadedIn p chars q
+  pub loaded-again : loadsAt p q ≡ true → eqb (q .line .0 % linesOf (p .irs)) 0 ≡ false
+      → (x : Beam) → x ≡ settled p (q .row) → carriedOf (pair x x) ≡ loadedIn p chars q
   unfolding loadedIn loaded countsOf
-  loaded-again t z =
+  loaded-again t z x e =
       let b = both (ltb (q .line .0) (visibleOf (p .irs) .0)) (eqb (q .clock .0) 0) t in
-      rw (b .0, b .1, z)
+      rw (b .0, b .1, z, e)
 
-  pub loaded-on : loadsAt p q ≡ false → carriedOf (pair (q .beam) (q .row)) ≡ loadedIn p chars q
+  pub loaded-on : loadsAt p q ≡ false → (x y : Beam) → x ≡ settled p (q .beam) → y ≡ settled p (q .row) → carriedOf (pair x y) ≡ loadedIn p chars q
   unfolding loadedIn loaded countsOf
-  loaded-on t = go (ltb (q .line .0) (visibleOf (p .irs) .0)) (eqb (q .clock .0) 0) t
+  loaded-on t x y e d = rw (e, d) (go (ltb (q .line .0) (visibleOf (p .irs) .0)) (eqb (q .clock .0) 0) t)
     where
-      first : Cell
-      first = cell (begins (feedIn p chars) (q .line .0 / linesOf (p .irs)) (q .beam .address))
+      held : Pair Beam
+      held = rasterOf (settledIn p q) .carried
 
-      m : Pair Cell
-      m = pick (eqb (q .line .0 % linesOf (p .irs)) 0) (pair first first) (pair (q .row) (q .row))
+      first : Beam
+      first = begunIn p chars (q .line .0 / linesOf (p .irs)) (held .beam)
 
-      go : (u v : Bool) → (u && v) ≡ false
-          → carriedOf (pair (q .beam) (q .row)) ≡ carriedOf (pick u (pick v m (pair (q .beam) (q .row))) (pair (q .beam) (q .row)))
+      m : Pair Beam
+      m = pick (eqb (q .line .0 % linesOf (p .irs)) 0) (pair first first) (pair (held .row) (held .row))
+
+      go : (u v : Bool) → (u && v) ≡ false → carriedOf held ≡ carriedOf (pick u (pick v m held) held)
       go true true w = absurd (true≢false w)
       go true false w = refl
       go false v w = refl
 
 -- ---- the place after a clock
 
-module _ (p : Page) (q : Place) (c : Carried) where
-  pub moved-active : activeAt p q ≡ true → (x : Cell) → x ≡ cell (advance (bufferOf (p .irs)) (c .beam .address))
-      → _≡_ {A = Carried} (record { beam = x; row = c .row }) (movedIn p q c)
+module _ (p : Page) (attrs : List ℕ) (q : Place) (c : Carried) where
+  pub moved-active : activeAt p q ≡ true → (x : Beam) → x ≡ pastCell p attrs (c .beam)
+      → _≡_ {A = Carried} (record { beam = x; row = c .row }) (movedIn p attrs q c)
   unfolding movedIn
   moved-active t x e = rw (t, e)
 
-  pub moved-held : activeAt p q ≡ false → c ≡ movedIn p q c
+  pub moved-held : activeAt p q ≡ false → c ≡ movedIn p attrs q c
   unfolding movedIn
   moved-held t = rw t
 
@@ -130,19 +140,22 @@ module _ (p : Page) (q : Place) (c : Carried) (t : Timing) (et : t ≡ timingOf 
   turned-frame h g f e = rw (clock-test false h, line-test false g, e)
 
 -- loaded, moved on and turned is one step
-pub one-clock : (p : Page) (chars : List ℕ) (q : Place) → turnedIn p q (movedIn p q (loadedIn p chars q)) ≡ nextPlace p chars q
-unfolding nextPlace step turnedIn movedIn loadedIn onward movesOn countsOf
-one-clock p chars q = go (ltb (q .line .0) (visibleOf (p .irs) .0)) (ltb (q .clock .0) (hactOf (p .irs)))
+pub one-clock : (p : Page) (chars attrs : List ℕ) (q : Place) → turnedIn p q (movedIn p attrs q (loadedIn p chars q)) ≡ nextPlace p chars attrs q
+unfolding nextPlace step turnedIn movedIn loadedIn loaded onward movesOn countsOf
+one-clock p chars attrs q = go (ltb (q .line .0) (visibleOf (p .irs) .0)) (ltb (q .clock .0) (hactOf (p .irs)))
   where
-    a : Pair Cell
-    a = loaded (countsIn p) (carrierIn p chars) (q .line .0) (q .clock .0) (pair (q .beam) (q .row))
+    a : Pair Beam
+    a = loaded (countsIn p) (carrierIn p chars (λ _. 0)) (q .line .0) (q .clock .0) (rasterOf (settledIn p q) .carried)
 
-    b : Pair Cell
-    b = pair (q .beam) (q .row)
+    b : Pair Beam
+    b = rasterOf (settledIn p q) .carried
+
+    next : Beam
+    next = pastCell p attrs (a .beam)
 
     go : (u v : Bool)
-        → turnedIn p q (pick (u && v) (record { beam = cell (advance (bufferOf (p .irs)) (carriedOf (pick u a b) .beam .address)); row = carriedOf (pick u a b) .row }) (carriedOf (pick u a b)))
-        ≡ turnedIn p q (carriedOf (pick u (pair (cell (pick v (advance (bufferOf (p .irs)) (a .beam .address)) (a .beam .address))) (a .row)) b))
+        → turnedIn p q (pick (u && v) (record { beam = pastCell p attrs (carriedOf (pick u a b) .beam); row = carriedOf (pick u a b) .row }) (carriedOf (pick u a b)))
+        ≡ turnedIn p q (carriedOf (pick u (pair (beam (pick v (next .address) (a .beam .address)) (pick v (next .latch) (a .beam .latch))) (a .row)) b))
     go true true = refl
     go true false = refl
     go false v = refl
@@ -159,13 +172,13 @@ module _ (p : Page) (chars : List ℕ) (a : Accepted p) where
   unfolding loadedIn loaded countsOf
   loaded-lt q h k = go (ltb (q .line .0) (visibleOf (p .irs) .0)) (eqb (q .clock .0) 0) (eqb (q .line .0 % linesOf (p .irs)) 0)
     where
-      x : ℕ
-      x = begins (feedIn p chars) (q .line .0 / linesOf (p .irs)) (q .beam .address)
+      first : Beam
+      first = begunIn p chars (q .line .0 / linesOf (p .irs)) (settled p (q .beam))
 
-      held : Pair Cell
-      held = pair (q .beam) (q .row)
+      held : Pair Beam
+      held = pair (settled p (q .beam)) (settled p (q .row))
 
-      go : (u v w : Bool) → carriedOf (pick u (pick v (pick w (pair (cell x) (cell x)) (pair (q .row) (q .row))) held) held) .beam .address < 16384
+      go : (u v w : Bool) → carriedOf (pick u (pick v (pick w (pair first first) (pair (held .row) (held .row))) held) held) .beam .address < 16384
       go true true true = begins-lt (q .line .0 / linesOf (p .irs)) (q .beam .address) (omega arith)
       go true true false = omega arith
       go true false w = omega arith
@@ -173,62 +186,68 @@ module _ (p : Page) (chars : List ℕ) (a : Accepted p) where
 
 -- ---- at once
 
-module _ (p : Page) (chars : List ℕ) where
-  pub row-at : (r c : ℕ) (a s : Cell) → a ≡ cell (cellAt p chars r c) → s ≡ cell (rowStart p chars r)
-      → _≡_ {A = Carried} (record { beam = a; row = s }) (rowAt p chars r c)
+module _ (p : Page) (chars attrs : List ℕ) where
+  pub row-at : (r c : ℕ) (a s : Cell) (l k : ℕ) → a ≡ cell (cellAt p chars r c) → s ≡ cell (rowStart p chars r)
+      → l ≡ heldAt p chars attrs r c → k ≡ heldAt p chars attrs r 0
+      → _≡_ {A = Carried} (record { beam = beam (a .address) l; row = beam (s .address) k }) (rowAt p chars attrs r c)
   unfolding rowAt
-  row-at r c a s e d = rw (e, d)
+  row-at r c a s l k e d m n = rw (e, d, m, n)
 
-  pub line-shown : (c line : ℕ) → line < visibleOf (p .irs) .0 → rowAt p chars (line / linesOf (p .irs)) c ≡ lineAt p chars c line
-  unfolding rowAt cellAt rowStart lineAt inLine countsOf
-  line-shown c line h = rw (lt-ltb line (visibleOf (p .irs) .0) h)
+  -- it is the raster's
+  row-walked : (r c : ℕ) → rowAt p chars attrs r c ≡ carriedOf (pair (rowsIn p chars attrs .walk r c) (rowsIn p chars attrs .start r))
+  unfolding rowAt cellAt rowStart
+  row-walked r c = rw (held-valid p chars attrs r c, held-valid p chars attrs r 0)
 
-  pub line-idle : (c line : ℕ) → visibleOf (p .irs) .0 ≤ line → rowAt p chars (rowsOf (p .irs) - 1) (htOf (p .irs)) ≡ lineAt p chars c line
-  unfolding rowAt cellAt rowStart lineAt inLine tail countsOf
-  line-idle c line h = rw (le-ltb line (visibleOf (p .irs) .0) h, sub-one (rowsOf (p .irs)))
+  pub line-shown : (c line : ℕ) → line < visibleOf (p .irs) .0 → rowAt p chars attrs (line / linesOf (p .irs)) c ≡ lineAt p chars attrs c line
+  unfolding lineAt inLine countsOf
+  line-shown c line h = row-walked _ c ∙ rw (lt-ltb line (visibleOf (p .irs) .0) h)
 
-  pub carried-on : (c line frame : ℕ) → 0 < c → lineAt p chars c line ≡ carriedBefore p chars c line frame
+  pub line-idle : (c line : ℕ) → visibleOf (p .irs) .0 ≤ line → rowAt p chars attrs (rowsOf (p .irs) - 1) (htOf (p .irs)) ≡ lineAt p chars attrs c line
+  unfolding lineAt inLine tail countsOf
+  line-idle c line h = row-walked _ _ ∙ rw (le-ltb line (visibleOf (p .irs) .0) h, sub-one (rowsOf (p .irs)))
+
+  pub carried-on : (c line frame : ℕ) → 0 < c → lineAt p chars attrs c line ≡ carriedBefore p chars attrs c line frame
   unfolding lineAt carriedBefore carriedAt
   carried-on zero line frame h = absurd (omega arith)
   carried-on (suc c) line frame h = refl
 
-  pub carried-line : (c line frame : ℕ) → c ≡ 0 → 0 < line → lineAt p chars (htOf (p .irs)) (line - 1) ≡ carriedBefore p chars c line frame
+  pub carried-line : (c line frame : ℕ) → c ≡ 0 → 0 < line → lineAt p chars attrs (htOf (p .irs)) (line - 1) ≡ carriedBefore p chars attrs c line frame
   unfolding lineAt carriedBefore carriedAt countsOf
   carried-line c zero frame e h = absurd (omega arith)
   carried-line c (suc line) frame e h = rw (e, sub-one (suc line))
 
-  pub carried-frame : (c line frame : ℕ) → c ≡ 0 → line ≡ 0 → 0 < frame → rowAt p chars (rowsOf (p .irs) - 1) (htOf (p .irs)) ≡ carriedBefore p chars c line frame
-  unfolding rowAt cellAt rowStart carriedBefore carriedAt tail countsOf
+  pub carried-frame : (c line frame : ℕ) → c ≡ 0 → line ≡ 0 → 0 < frame → rowAt p chars attrs (rowsOf (p .irs) - 1) (htOf (p .irs)) ≡ carriedBefore p chars attrs c line frame
+  unfolding carriedBefore carriedAt tail countsOf
   carried-frame c line zero e d h = absurd (omega arith)
-  carried-frame c line (suc frame) e d h = rw (e, d, sub-one (rowsOf (p .irs)))
+  carried-frame c line (suc frame) e d h = row-walked _ _ ∙ rw (e, d, sub-one (rowsOf (p .irs)))
 
-  pub carried-zero : (c line frame : ℕ) → c ≡ 0 → line ≡ 0 → frame ≡ 0 → carriedOf (pair (cell 0) (cell 0)) ≡ carriedBefore p chars c line frame
+  pub carried-zero : (c line frame : ℕ) → c ≡ 0 → line ≡ 0 → frame ≡ 0 → carriedOf (pair (beam 0 0) (beam 0 0)) ≡ carriedBefore p chars attrs c line frame
   unfolding carriedBefore carriedAt
   carried-zero c line frame e d f = rw (e, d, f)
 
   -- where the beam last moved gives what is carried, but at clock 0
-  spot-line : (c line : ℕ) → rowAt p chars (spotIn p c line .row) (spotIn p c line .clocks .0) ≡ lineAt p chars c line
+  spot-line : (c line : ℕ) → rowAt p chars attrs (spotIn p c line .row) (spotIn p c line .clocks .0) ≡ lineAt p chars attrs c line
   unfolding spotIn
   spot-line c line = go (decLt line (visibleOf (p .irs) .0))
     where
-      go : Dec (line < visibleOf (p .irs) .0) → rowAt p chars (spotIn p c line .row) (spotIn p c line .clocks .0) ≡ lineAt p chars c line
+      go : Dec (line < visibleOf (p .irs) .0) → rowAt p chars attrs (spotIn p c line .row) (spotIn p c line .clocks .0) ≡ lineAt p chars attrs c line
       go (yes h) = rw (lt-ltb line (visibleOf (p .irs) .0) h) (line-shown c line h)
       go (no f) = rw (le-ltb line (visibleOf (p .irs) .0) (omega arith)) (line-idle c line (omega arith))
 
-  pub spot-carried : (c line frame : ℕ) → 0 < c + line + frame → rowAt p chars (spotBefore p c line .row) (spotBefore p c line .clocks .0) ≡ carriedBefore p chars c line frame
+  pub spot-carried : (c line frame : ℕ) → 0 < c + line + frame → rowAt p chars attrs (spotBefore p c line .row) (spotBefore p c line .clocks .0) ≡ carriedBefore p chars attrs c line frame
   unfolding spotBefore
   spot-carried (suc c) line frame h = rw (lt-ltb 0 (suc c) (omega arith)) (spot-line (suc c) line ∙ carried-on (suc c) line frame (omega arith))
   spot-carried zero (suc line) frame h = rw (lt-ltb 0 (suc line) (omega arith)) (spot-line (htOf (p .irs)) (suc line - 1) ∙ carried-line 0 (suc line) frame refl (omega arith))
   spot-carried zero zero frame h = carried-frame 0 0 frame refl refl (omega arith)
 
-  pub at-zero : (c line frame : ℕ) → originAt c line frame ≡ true → carriedOf (pair (cell 0) (cell 0)) ≡ carriedBefore p chars c line frame
+  pub at-zero : (c line frame : ℕ) → originAt c line frame ≡ true → carriedOf (pair (beam 0 0) (beam 0 0)) ≡ carriedBefore p chars attrs c line frame
   at-zero c line frame t =
       let a = both (eqb c 0 && eqb line 0) (eqb frame 0) t in
       let b = both (eqb c 0) (eqb line 0) (a .0) in
       carried-zero c line frame (eqb-true _ _ (b .0)) (eqb-true _ _ (b .1)) (eqb-true _ _ (a .1))
 
   pub past-zero : (c line frame : ℕ) → originAt c line frame ≡ false → (s : Spot) → s ≡ spotBefore p c line
-      → (x : Carried) → x ≡ rowAt p chars (s .row) (s .clocks .0) → x ≡ carriedBefore p chars c line frame
+      → (x : Carried) → x ≡ rowAt p chars attrs (s .row) (s .clocks .0) → x ≡ carriedBefore p chars attrs c line frame
   past-zero c line frame t s e x q = q ∙ rw e (spot-carried c line frame (some c line frame t))
     where
       some : (c line frame : ℕ) → originAt c line frame ≡ false → 0 < c + line + frame
@@ -237,16 +256,24 @@ module _ (p : Page) (chars : List ℕ) where
       some zero zero (suc frame) u = omega arith
       some zero zero zero u = absurd (true≢false u)
 
+  pub carried-all : (P : Carried → Type 0) → ((r c : ℕ) → P (rowAt p chars attrs r c)) → P (carriedOf (pair (beam 0 0) (beam 0 0)))
+      → (c line frame : ℕ) → P (carriedBefore p chars attrs c line frame)
+  carried-all P rows first c line frame = go (originAt c line frame) refl
+    where
+      go : (t : Bool) → originAt c line frame ≡ t → P (carriedBefore p chars attrs c line frame)
+      go true e = subst P (at-zero c line frame e) first
+      go false e = subst P (past-zero c line frame e _ refl _ refl) (rows _ _)
+
   -- the parts of clock n
   module _ (n : ℕ) (t : Timing) (et : t ≡ timingOf (p .irs)) (whole : Lines) (ew : whole ≡ lines (n / t .counts .ht .0))
       (clock : Clocks) (ec : clock ≡ clocks (n % t .counts .ht .0)) (line : Lines) (el : line ≡ lines (whole .0 % t .counts .vt .0))
       (frame : ℕ) (ef : frame ≡ whole .0 / t .counts .vt .0) where
-    pub place-at : (x : Carried) → x ≡ carriedBefore p chars (clock .0) (line .0) frame
-        → _≡_ {A = Place} (record { field = frame % 256; line = line; clock = clock; beam = x .beam; row = x .row }) (placeAt p chars n)
+    pub place-at : (x : Carried) → x ≡ carriedBefore p chars attrs (clock .0) (line .0) frame
+        → _≡_ {A = Place} (record { field = frame % 256; line = line; clock = clock; beam = x .beam; row = x .row }) (placeAt p chars attrs n)
     unfolding carriedBefore placeAt scanAt timingOf countsOf
     place-at x e = rw (e, ec, el, ef, ew, et)
 
-pub state-whole : (b : Board) (chars attrs : List ℕ) → stateCheck b chars attrs ≡ Done → length chars ≡ 16384
+pub state-whole : (b : Board) (chars attrs : List ℕ) → stateCheck b chars attrs ≡ Done → (length chars ≡ 16384) × (length attrs ≡ 16384)
 state-whole b chars attrs e =
     let k = call-passed b (memoriesRefused (length chars) (length attrs)) false false e in
-    memories-all (length chars) (length attrs) (k .sized) .0
+    memories-all (length chars) (length attrs) (k .sized)

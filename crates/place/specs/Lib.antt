@@ -3,3 +3,4 @@ pub mod Place
 pub mod Spot
 pub mod State
 pub mod Laws
+pub mod Settled

@@ -1,26 +1,29 @@
--- The board's place: the raster at a page and its character memory, one clock on and at once (01, "Clock and frame", "Which cell is fetched").
+-- The board's place: the raster at a page and its memories, one clock on and at once (01, "Clock and frame", "Which cell is fetched"; 02, R-1).
 use Prim.Native.Nat.{ℕ, _*_}
 use mathlib.Core.Bool.{Bool, _&&_}
 use mathlib.Core.List.{List}
 use lib.Dec.{ltb, eqb}
 use Rattle.lists.specs.Choice.{pick}
 use Rattle.units.specs.Units.{clocks, lines}
-use Rattle.raster.specs.declared.Cell.{Cell}
+use Rattle.raster.specs.declared.Beam.{Beam}
 use Rattle.raster.specs.declared.Counts.{Counts}
-use Rattle.raster.specs.Moves.{cell, advance}
+use Rattle.raster.specs.Moves.{advance}
 use Rattle.raster.specs.Raster.{L, R, Carrier, Rows, Pair, pair, Scan, scan, loaded, turn, step, inLine, carriedAt, scanAt}
-use Rattle.raster.specs.Cells.{carrier, cellRows}
+use Rattle.raster.specs.Latch.{latched, setsOf}
+use Rattle.raster.specs.Beams.{beam, beamCarrier, beamRows}
 use Rattle.board.specs.declared.Page.{Page}
 use Rattle.board.specs.declared.Place.{Place}
+use Rattle.board.specs.Modes.{fieldMode}
 use Rattle.timing.specs.Fields.{hactOf, visibleOf, bufferOf, countsOf}
 use Rattle.fetch.specs.Rows.{feedIn, tallyIn, rowStart, cellAt}
+use Rattle.latch.specs.Held.{heldAt}
 use Rattle.place.specs.declared.Carried.{Carried}
 
 -- a place as the raster has it, and back
-abbrev pub rasterOf : Place → Scan Cell
+abbrev pub rasterOf : Place → Scan Beam
 rasterOf p = scan (p .field) (p .line .0) (p .clock .0) (pair (p .beam) (p .row))
 
-abbrev pub placeOf : Scan Cell → Place
+abbrev pub placeOf : Scan Beam → Place
 placeOf s = record {
   field = s .field;
   line = lines (s .line);
@@ -29,17 +32,35 @@ placeOf s = record {
   row = s .carried .row;
 }
 
-abbrev pub carriedOf : Pair Cell → Carried
+abbrev pub carriedOf : Pair Beam → Carried
 carriedOf p = record { beam = p .beam; row = p .row }
 
 abbrev pub countsIn : Page → Counts
 countsIn p = countsOf (p .irs)
 
-abbrev pub carrierIn : Page → List ℕ → Carrier Cell
-carrierIn p chars = carrier (feedIn p chars)
+-- sets: the attribute byte that the cell at an address sets
+abbrev pub carrierIn : Page → (chars : List ℕ) → (sets : ℕ → ℕ) → Carrier Beam
+carrierIn p chars sets = beamCarrier (countsIn p) (feedIn p chars) sets
 
-abbrev pub rowsIn : Page → List ℕ → Rows Cell
-rowsIn p chars = cellRows (feedIn p chars) (tallyIn p)
+abbrev pub rowsIn : Page → (chars attrs : List ℕ) → Rows Beam
+rowsIn p chars attrs = beamRows (countsIn p) (feedIn p chars) (setsOf (fieldMode p) attrs) (tallyIn p)
+
+-- ---- what a latch byte counts as
+
+-- what a byte sets: nothing in character mode
+abbrev pub setBy : Page → (byte : ℕ) → ℕ
+setBy p byte = pick (fieldMode p) byte 0
+
+-- one that is handed over without AFLG, or in character mode, counts as none
+unfoldable pub countedLatch : Page → (latch : ℕ) → ℕ
+countedLatch p latch = latched (setBy p latch) 0
+
+abbrev pub settled : Page → Beam → Beam
+settled p x = beam (x .address) (countedLatch p (x .latch))
+
+-- a place with its two latch bytes as they count
+abbrev pub settledIn : Page → Place → Place
+settledIn p q = record { field = q .field; line = q .line; clock = q .clock; beam = settled p (q .beam); row = settled p (q .row) }
 
 -- ---- one clock
 
@@ -51,38 +72,46 @@ activeAt p q = ltb (q .line .0) (visibleOf (p .irs) .0) && ltb (q .clock .0) (ha
 abbrev pub loadsAt : Page → Place → Bool
 loadsAt p q = ltb (q .line .0) (visibleOf (p .irs) .0) && eqb (q .clock .0) 0
 
+-- what a row begins with, where x is held; no attribute plays a part in it
+abbrev pub begunIn : Page → (chars : List ℕ) → (row : ℕ) → Beam → Beam
+begunIn p chars r x = carrierIn p chars (λ _. 0) .begin r x
+
 -- what a clock works on: on column 0 of a visible line it is loaded, elsewhere it is held
-unfoldable pub loadedIn : Page → List ℕ → Place → Carried
+unfoldable pub loadedIn : Page → (chars : List ℕ) → Place → Carried
 loadedIn p chars q =
     carriedOf
     (pick (ltb (q .line .0) (R (countsIn p) * L (countsIn p)))
-    (loaded (countsIn p) (carrierIn p chars) (q .line .0) (q .clock .0) (pair (q .beam) (q .row)))
-    (pair (q .beam) (q .row)))
+    (loaded (countsIn p) (carrierIn p chars (λ _. 0)) (q .line .0) (q .clock .0) (rasterOf (settledIn p q) .carried))
+    (rasterOf (settledIn p q) .carried))
 
--- each active clock of a visible line moves on
-unfoldable pub movedIn : Page → Place → Carried → Carried
-movedIn p q c =
-    pick (activeAt p q)
-    (record { beam = cell (advance (bufferOf (p .irs)) (c .beam .address)); row = c .row })
-    c
+-- past the cell that is fetched, whose byte is latched where it has AFLG
+abbrev pub pastCell : Page → (attrs : List ℕ) → Beam → Beam
+pastCell p attrs x = beam (advance (bufferOf (p .irs)) (x .address)) (latched (setsOf (fieldMode p) attrs (x .address)) (x .latch))
+
+-- each active clock of a visible line fetches its cell and moves on
+unfoldable pub movedIn : Page → (attrs : List ℕ) → Place → Carried → Carried
+movedIn p attrs q c = pick (activeAt p q) (record { beam = pastCell p attrs (c .beam); row = c .row }) c
 
 unfoldable pub turnedIn : Page → Place → Carried → Place
 turnedIn p q c = placeOf (turn (countsIn p) (q .field) (q .line .0) (q .clock .0) (pair (c .beam) (c .row)))
 
-unfoldable pub nextPlace : Page → List ℕ → Place → Place
-nextPlace p chars q = placeOf (step (countsIn p) (carrierIn p chars) (rasterOf q))
+unfoldable pub nextPlace : Page → (chars attrs : List ℕ) → Place → Place
+nextPlace p chars attrs q = placeOf (step (countsIn p) (carrierIn p chars (setsOf (fieldMode p) attrs)) (rasterOf (settledIn p q)))
 
 -- ---- at once
 
-unfoldable pub rowAt : Page → List ℕ → (row c : ℕ) → Carried
-rowAt p chars r c = record { beam = cell (cellAt p chars r c); row = cell (rowStart p chars r) }
+unfoldable pub rowAt : Page → (chars attrs : List ℕ) → (row c : ℕ) → Carried
+rowAt p chars attrs r c = record {
+  beam = beam (cellAt p chars r c) (heldAt p chars attrs r c);
+  row = beam (rowStart p chars r) (heldAt p chars attrs r 0);
+}
 
-unfoldable pub lineAt : Page → List ℕ → (c line : ℕ) → Carried
-lineAt p chars c line = carriedOf (inLine (countsIn p) (rowsIn p chars) c line)
+unfoldable pub lineAt : Page → (chars attrs : List ℕ) → (c line : ℕ) → Carried
+lineAt p chars attrs c line = carriedOf (inLine (countsIn p) (rowsIn p chars attrs) c line)
 
-unfoldable pub carriedBefore : Page → List ℕ → (c line frame : ℕ) → Carried
-carriedBefore p chars c line frame = carriedOf (carriedAt (countsIn p) (rowsIn p chars) (cell 0) c line frame)
+unfoldable pub carriedBefore : Page → (chars attrs : List ℕ) → (c line frame : ℕ) → Carried
+carriedBefore p chars attrs c line frame = carriedOf (carriedAt (countsIn p) (rowsIn p chars attrs) (beam 0 0) c line frame)
 
 -- the place for clock n, counted from clock 0
-unfoldable pub placeAt : Page → List ℕ → ℕ → Place
-placeAt p chars n = placeOf (scanAt (countsIn p) (rowsIn p chars) (cell 0) n)
+unfoldable pub placeAt : Page → (chars attrs : List ℕ) → ℕ → Place
+placeAt p chars attrs n = placeOf (scanAt (countsIn p) (rowsIn p chars attrs) (beam 0 0) n)

@@ -27,4 +27,4 @@ stated r b = record { refusal = r; board = b }
 unfoldable pub stateOf : Board → (chars attrs : List ℕ) → ℕ → StateAt
 stateOf b chars attrs n =
     stated (stateCheck b chars attrs)
-    (pick (doneOf (stateCheck b chars attrs)) (withPlace b (placeAt (b .page) chars n)) b)
+    (pick (doneOf (stateCheck b chars attrs)) (withPlace b (placeAt (b .page) chars attrs n)) b)

@@ -2,17 +2,19 @@
 ghost use mathlib.Core.Path.{_≡_};
 ghost use Prim.Native.Nat.{_<_};
 ghost use lib.ListN.{length};
+ghost use lib.Dec.{eqb};
+ghost use Rattle.lists.specs.Choice.{pick};
 ghost use Rattle.raster.specs.Moves.{cell};
 ghost use Rattle.raster.specs.Cells.{begins};
 ghost use Rattle.fetch.specs.Rows.{feedIn};
-ghost use Rattle.place.specs.Place.{activeAt, loadsAt, loadedIn, movedIn, turnedIn, rowAt, carriedBefore, placeAt};
+ghost use Rattle.place.specs.Place.{setBy, settled, activeAt, loadsAt, begunIn, loadedIn, pastCell, movedIn, turnedIn, rowAt, carriedBefore, placeAt};
 ghost use Rattle.place.specs.Spot.{lastSpot, spotIn, spotBefore, originAt};
 ghost use Rattle.place.specs.State.{withPlace, stateOf};
 
 // What the beam carries along, and what its row began with.
 pub struct Carried {
-    pub beam: raster::Cell,
-    pub row: raster::Cell,
+    pub beam: raster::Beam,
+    pub row: raster::Beam,
 }
 
 pub struct StateAt {
@@ -20,8 +22,25 @@ pub struct StateAt {
     pub board: board::Board,
 }
 
-// What a row begins with, where a cell is held. The row table is fetched with the display off too.
-fn begun(p: board::Page, chars: &[u8], row: u32, held: raster::Cell) -> raster::Cell
+// What a byte sets: nothing in character mode.
+fn set_by(p: board::Page, byte: u8) -> u8
+    ensures { λ r. ⌜ r ≡ setBy p byte ⌝ }
+{
+    if board::field_mode(p) { byte } else { 0 }
+}
+
+// A beam with its latch byte as it counts.
+fn settled(p: board::Page, x: raster::Beam) -> raster::Beam
+    ensures { λ r. ⌜ r ≡ settled p x ⌝ }
+{
+    raster::Beam {
+        address: x.address,
+        latch: raster::latched(set_by(p, x.latch), 0),
+    }
+}
+
+// The cell that a row begins at, where one is held. The row table is fetched with the display off too.
+fn begun_at(p: board::Page, chars: &[u8], row: u32, held: raster::Cell) -> raster::Cell
     requires { ⌜ (length (now chars) ≡ 16384) × (row < 8192) ⌝ }
     ensures { λ r. ⌜ r ≡ cell (begins (feedIn p (now (chars .entry))) row (held .address)) ⌝ }
 {
@@ -35,6 +54,26 @@ fn begun(p: board::Page, chars: &[u8], row: u32, held: raster::Cell) -> raster::
         };
     }
     held
+}
+
+// What is latched when a row begins: nothing at the start of a frame.
+fn begun_latch(row: u32, held: u8) -> u8
+    ensures { λ r. ⌜ r ≡ pick (eqb row 0) 0 held ⌝ }
+{
+    if 0 < row { held } else { 0 }
+}
+
+// What a row begins with, where x is held.
+fn begun(p: board::Page, chars: &[u8], row: u32, x: raster::Beam) -> raster::Beam
+    requires { ⌜ (length (now chars) ≡ 16384) × (row < 8192) ⌝ }
+    ensures { λ r. ⌜ r ≡ begunIn p (now (chars .entry)) row x ⌝ }
+{
+    let held = raster::Cell { address: x.address };
+    let at = begun_at(p, chars, row, held);
+    raster::Beam {
+        address: at.address,
+        latch: begun_latch(row, x.latch),
+    }
 }
 
 // Column 0 of a visible line.
@@ -51,8 +90,10 @@ pub fn loaded_at(p: board::Page, chars: &[u8], q: board::Place) -> Carried
     ensures { λ r. ⌜ r ≡ loadedIn p (now (chars .entry)) q ⌝ }
 {
     let irs = p.irs;
-    let held = q.beam;
-    let row = q.row;
+    let beam = q.beam;
+    let kept = q.row;
+    let held = settled(p, beam);
+    let row = settled(p, kept);
     let line = q.line;
     if loads_at(p, q) {
         if timing::line_of_row(irs, line).same(units::Lines(0)) {
@@ -82,16 +123,31 @@ pub fn active_at(p: board::Page, q: board::Place) -> bool
     q.line.below(timing::visible_of(irs)) & q.clock.below(t.counts.hact)
 }
 
-// Each active clock moves on.
-fn moved_on(p: board::Page, q: board::Place, c: Carried) -> Carried
-    ensures { λ r. ⌜ r ≡ movedIn p q c ⌝ }
+// Past the cell that is fetched, whose byte is latched where it has AFLG.
+fn past_cell(p: board::Page, attrs: &[u8], x: raster::Beam) -> raster::Beam
+    requires { ⌜ (length (now attrs) ≡ 16384) × (x .address < 16384) ⌝ }
+    ensures { λ r. ⌜ r ≡ pastCell p (now (attrs .entry)) x ⌝ }
 {
     let irs = p.irs;
+    let held = raster::Cell { address: x.address };
+    let next = raster::advance_one(timing::buffer_of(irs), held);
+    let byte = attrs[x.address as usize];
+    raster::Beam {
+        address: next.address,
+        latch: raster::latched(set_by(p, byte), x.latch),
+    }
+}
+
+// Each active clock fetches its cell and moves on, with the display off too.
+fn moved_on(p: board::Page, attrs: &[u8], q: board::Place, c: Carried) -> Carried
+    requires { ⌜ (length (now attrs) ≡ 16384) × (c .beam .address < 16384) ⌝ }
+    ensures { λ r. ⌜ r ≡ movedIn p (now (attrs .entry)) q c ⌝ }
+{
     let held = c.beam;
     let row = c.row;
     if active_at(p, q) {
         return Carried {
-            beam: raster::advance_one(timing::buffer_of(irs), held),
+            beam: past_cell(p, attrs, held),
             row: row,
         };
     }
@@ -138,21 +194,29 @@ fn turned(p: board::Page, q: board::Place, c: Carried) -> board::Place
 }
 
 // The place after a clock that works on c.
-pub fn place_after(p: board::Page, q: board::Place, c: Carried) -> board::Place
-    requires { ⌜ (q .line .0 < 8192) × (q .clock .0 < 384) ⌝ }
-    ensures { λ r. ⌜ r ≡ turnedIn p q (movedIn p q c) ⌝ }
+pub fn place_after(p: board::Page, attrs: &[u8], q: board::Place, c: Carried) -> board::Place
+    requires { ⌜ (length (now attrs) ≡ 16384) × (c .beam .address < 16384) × (q .line .0 < 8192) × (q .clock .0 < 384) ⌝ }
+    ensures { λ r. ⌜ r ≡ turnedIn p q (movedIn p (now (attrs .entry)) q c) ⌝ }
 {
-    turned(p, q, moved_on(p, q, c))
+    turned(p, q, moved_on(p, attrs, q, c))
 }
 
 // What is carried after c clocks of a row.
-fn row_at(p: board::Page, chars: &[u8], row: u32, c: units::Clocks) -> Carried
-    requires { ⌜ (length (now chars) ≡ 16384) × (row < 8192) ⌝ }
-    ensures { λ r. ⌜ r ≡ rowAt p (now (chars .entry)) row (c .0) ⌝ }
+fn row_at(p: board::Page, chars: &[u8], attrs: &[u8], row: u32, c: units::Clocks) -> Carried
+    requires { ⌜ (length (now chars) ≡ 16384) × (length (now attrs) ≡ 16384) × (row < 8192) ⌝ }
+    ensures { λ r. ⌜ r ≡ rowAt p (now (chars .entry)) (now (attrs .entry)) row (c .0) ⌝ }
 {
+    let at = fetch::cell_at(p, chars, row, c);
+    let start = fetch::row_start(p, chars, row);
     Carried {
-        beam: fetch::cell_at(p, chars, row, c),
-        row: fetch::row_start(p, chars, row),
+        beam: raster::Beam {
+            address: at.address,
+            latch: latch::held_at(p, chars, attrs, row, c),
+        },
+        row: raster::Beam {
+            address: start.address,
+            latch: latch::held_at(p, chars, attrs, row, units::Clocks(0)),
+        },
     }
 }
 
@@ -215,28 +279,33 @@ fn at_origin(c: units::Clocks, line: units::Lines, frame: u32) -> bool
 fn carried_before(
     p: board::Page,
     chars: &[u8],
+    attrs: &[u8],
     c: units::Clocks,
     line: units::Lines,
     frame: u32,
 ) -> Carried
-    requires { ⌜ length (now chars) ≡ 16384 ⌝ }
-    ensures { λ r. ⌜ r ≡ carriedBefore p (now (chars .entry)) (c .0) (line .0) frame ⌝ }
+    requires { ⌜ (length (now chars) ≡ 16384) × (length (now attrs) ≡ 16384) ⌝ }
+    ensures { λ r. ⌜ r ≡ carriedBefore p (now (chars .entry)) (now (attrs .entry)) (c .0) (line .0) frame ⌝ }
 {
     let spot = spot_before(p, c, line);
-    let carried = row_at(p, chars, spot.row, spot.clocks);
+    let carried = row_at(p, chars, attrs, spot.row, spot.clocks);
     if at_origin(c, line, frame) {
+        let none = raster::Beam {
+            address: 0,
+            latch: 0,
+        };
         return Carried {
-            beam: raster::Cell { address: 0 },
-            row: raster::Cell { address: 0 },
+            beam: none,
+            row: none,
         };
     }
     carried
 }
 
 // The place for clock n, by its quotients and remainders.
-fn place_at(p: board::Page, chars: &[u8], n: units::Clocks) -> board::Place
-    requires { ⌜ length (now chars) ≡ 16384 ⌝ }
-    ensures { λ r. ⌜ r ≡ placeAt p (now (chars .entry)) (n .0) ⌝ }
+fn place_at(p: board::Page, chars: &[u8], attrs: &[u8], n: units::Clocks) -> board::Place
+    requires { ⌜ (length (now chars) ≡ 16384) × (length (now attrs) ≡ 16384) ⌝ }
+    ensures { λ r. ⌜ r ≡ placeAt p (now (chars .entry)) (now (attrs .entry)) (n .0) ⌝ }
 {
     let irs = p.irs;
     let t = timing::timing_of(irs);
@@ -244,7 +313,7 @@ fn place_at(p: board::Page, chars: &[u8], n: units::Clocks) -> board::Place
     let lines = units::whole_lines(n, t.counts.ht);
     let line = lines.remainder(t.counts.vt);
     let frame = lines.quotient(t.counts.vt);
-    let c = carried_before(p, chars, clock, line, frame);
+    let c = carried_before(p, chars, attrs, clock, line, frame);
     let beam = c.beam;
     let row = c.row;
     board::Place {
@@ -272,7 +341,7 @@ pub fn state_at(b: board::Board, chars: &[u8], attrs: &[u8], n: units::Clocks) -
     let refused = timing::call_check(b, size, false, false);
     if refusal::is_done(refused) {
         let page = b.page;
-        let place = place_at(page, chars, n);
+        let place = place_at(page, chars, attrs, n);
         return StateAt {
             refusal: refused,
             board: with_place(b, place),

@@ -6,20 +6,21 @@ use mathlib.Core.List.{List, [], _++_, append-nil}
 use native.Mathlib.Omega.{arith}
 use borrow.Author.Tests.{eq-eqb}
 use lib.Dec.{eqb}
-use lib.ListN.{length, getD, take, drop, replicate}
+use lib.ListN.{length, take, drop, replicate}
 use lib.Seq.{take-all, take-at}
 use Rattle.lists.specs.Choice.{pick}
 use Rattle.refusal.specs.declared.Refusal.{Refusal}
 use Rattle.refusal.specs.declared.Refusal.the-variants.{Done, Size}
 use Rattle.refusal.specs.Number.{numberOf, doneOf}
 use Rattle.refusal.specs.Laws.{done-is, passed}
+use Rattle.board.specs.Modes.{versionOf}
 use Rattle.board.specs.Range.{memoriesRefused}
 use Rattle.board.specs.Laws.{memories-all}
 use Rattle.timing.specs.Check.{pageCheck, stateRefused, callCheck}
 use Rattle.copies.specs.Put.{length-part}
 use Rattle.files.specs.declared.PageRead.{PageRead}
 use Rattle.files.specs.Page.{pageAt, pageBytes}
-use Rattle.files.specs.File.{fileCheck, readCheck, readPageOf, headOf, fileOf, writeCheck, written}
+use Rattle.files.specs.File.{versionRefused, fileCheck, readCheck, readPageOf, headOf, fileOf, writeCheck, written}
 use Rattle.files.specs.Laws.{file-passed, bytes-all}
 use Rattle.files.specs.Round.{Bytes}
 use Rattle.numbers.specs.Numbers.{numbersRefused, numbersBoard, numbersWith, numbersIn, numbersCheck}
@@ -44,9 +45,9 @@ numbersAgain numbers chars attrs out = pick (doneOf (numbersAgainCheck numbers c
 
 -- ---- the numbers of a page's file are the page's numbers
 
-numbers-of : (xs chars attrs : List ℕ) → Bytes xs → length xs ≡ 32 → getD xs 0 0 ≡ 1 → numbersIn (fileOf (pageAt xs 1) chars attrs) ≡ take 25 xs ++ replicate 7 0
+numbers-of : (xs chars attrs : List ℕ) → Bytes xs → length xs ≡ 32 → versionRefused xs 2 ≡ false → numbersIn (fileOf (pageAt xs 1) chars attrs) ≡ take 25 xs ++ replicate 7 0
 unfolding fileOf headOf pageAt
-numbers-of xs chars attrs fits n v = ap numbersWith part ∙ saved-numbers xs fits n v
+numbers-of xs chars attrs fits n v = ap (numbersWith (versionOf (pageAt xs 1))) part ∙ saved-numbers xs fits n v
   where
     part : take 24 (drop 5 (headOf (pageAt xs 1) ++ (chars ++ attrs))) ≡ pageBytes (pageAt xs 1)
     part = take-at (pageBytes (pageAt xs 1)) (chars ++ attrs) 24 (bytes-all (pageAt xs 1) (length-part xs 1 15 (omega (arith, n))))
@@ -131,7 +132,7 @@ module _ (numbers : List ℕ) (fits : Bytes numbers) (chars attrs out : List ℕ
       read-is : (size : Bool) → readCheck file size ≡ pick size Size Done
       unfolding readCheck fileCheck
       read-is size =
-          let p = file-passed file 32792 false (pageCheck (pageAt file 5)) read-done in
+          let p = file-passed file 2 32792 false (pageCheck (pageAt file 5)) read-done in
           rw (p .version-ok, p .length-ok, p .rest-ok)
 
       numbers-are : numbersIn file ≡ take 25 numbers ++ replicate 7 0

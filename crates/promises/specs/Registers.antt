@@ -17,13 +17,13 @@ use Rattle.refusal.specs.Number.{numberOf, doneOf}
 use Rattle.refusal.specs.Laws.{done-is, passed}
 use Rattle.board.specs.declared.Board.{Board}
 use Rattle.board.specs.State.{clockZero, powerOf}
-use Rattle.board.specs.Range.{startsRefused, addressRefused, pointerRefused}
+use Rattle.board.specs.Range.{startsRefused, switchesRefused, addressRefused, pointerRefused}
 use Rattle.place.specs.State.{stateCheck, stateOf}
 use Rattle.registers.specs.declared.Written.{Written}
 use Rattle.registers.specs.Parts.{withStarts, withPage, answer}
 use Rattle.registers.specs.Write.{registerCheck, commandOf, activeOf, inactiveOf, startsAfter, writeOf}
 use Rattle.registers.specs.Read.{shownAt, readAt, readOf}
-use Rattle.registers.specs.Video.{videoCheck, setVideoOf}
+use Rattle.registers.specs.Video.{videoCheck, switchesSet, setVideoOf}
 use Rattle.feldrime.specs.declared.BoardAnswer.{BoardAnswer}
 use Rattle.feldrime.specs.declared.ByteAnswer.{ByteAnswer}
 use Rattle.feldrime.specs.Answers.{boardAnswer, byteAnswer}
@@ -32,6 +32,7 @@ use Rattle.feldrime.specs.Answers.{boardAnswer, byteAnswer}
 abbrev pub loadedFirst : ℕ → Board
 loadedFirst byte = record {
   page = record {
+    version = 1;
     irs = byte ∷ replicate 14 0;
     starts = record { start1 = 0; cursor = 0; start2 = 0 };
     switches = 0;
@@ -90,7 +91,9 @@ write-keeps b a v =
 
 video-keeps : (b : Board) (d : Dots) (strike : ℕ) (bkgnd rblank : Bool) → KeptIn b (setVideoOf b d strike bkgnd rblank)
 unfolding setVideoOf
-video-keeps b d strike bkgnd rblank = either (doneOf (videoCheck (b .page .starts) (b .page .switches) d strike)) _ _ (done _) (same (videoCheck (b .page .starts) (b .page .switches) d strike))
+video-keeps b d strike bkgnd rblank =
+    let check = videoCheck (b .page .starts) (b .page .version) (b .page .switches) d strike in
+    either (doneOf check) _ _ (done _) (same check)
 
 state-keeps : (b : Board) (chars attrs : List ℕ) (n : ℕ) → Kept b (stateOf b chars attrs n .refusal) (stateOf b chars attrs n .board)
 unfolding stateOf
@@ -124,24 +127,19 @@ switch-is n x h = go (eqb x 0) refl
     go true t = rw (eqb-true x 0 t) (sym (mul-zero n))
     go false t = let one : x ≡ 1 = omega (arith, eqb-false x 0 t) in rw one (sym (mul-one n))
 
-switches-are : (s : ℕ) → s ≤ 15 → s % 4 + pick (not (eqb (s / 4 % 2) 0)) 4 0 + pick (not (eqb (s / 8 % 2) 0)) 8 0 ≡ s
-switches-are s h = rw (switch-is 4 (s / 4 % 2) (omega arith), switch-is 8 (s / 8 % 2) (omega arith)) (omega arith)
+switches-are : (s : ℕ) → switchesSet s (not (eqb (s / 4 % 2) 0)) (not (eqb (s / 8 % 2) 0)) ≡ s
+switches-are s = rw (switch-is 4 (s / 4 % 2) (omega arith), switch-is 8 (s / 8 % 2) (omega arith)) (omega arith)
 
 video-same : (b : Board) → setVideoOf b (b .page .video .dots) (b .page .video .strike) (not (eqb (b .page .switches / 4 % 2) 0)) (not (eqb (b .page .switches / 8 % 2) 0)) .board ≡ b
 unfolding setVideoOf videoCheck
 video-same b = go (doneOf check) refl
   where
     check : Refusal
-    check = videoCheck (b .page .starts) (b .page .switches) (b .page .video .dots) (b .page .video .strike)
-
-    small : check ≡ Done → b .page .switches ≤ 15
-    small e =
-        let a = passed (startsRefused (b .page .starts) || ltb 15 (b .page .switches) || ltb 15 (b .page .video .strike)) Address _ refl e in
-        ltb-false _ _ (neither (startsRefused (b .page .starts)) (ltb 15 (b .page .switches)) (neither (startsRefused (b .page .starts) || ltb 15 (b .page .switches)) (ltb 15 (b .page .video .strike)) (a .0) .0) .1)
+    check = videoCheck (b .page .starts) (b .page .version) (b .page .switches) (b .page .video .dots) (b .page .video .strike)
 
     go : (t : Bool) → doneOf check ≡ t
         → setVideoOf b (b .page .video .dots) (b .page .video .strike) (not (eqb (b .page .switches / 4 % 2) 0)) (not (eqb (b .page .switches / 8 % 2) 0)) .board ≡ b
-    go true t = rw (t, switches-are (b .page .switches) (small (done-is check t)))
+    go true t = rw (t, switches-are (b .page .switches))
     go false t = rw t
 
 pub same-video : (b : Board) {r : BoardAnswer} → r
@@ -167,8 +165,9 @@ module _ (b : Board) (ok : registerCheck b ≡ Done) where
       let s = b .page .starts in
       let a = passed (addressRefused (b .page)) Address _ refl ok in
       let p = passed (pointerRefused (b .pointer)) Range _ refl (a .1) in
-      let four = neither (startsRefused s || ltb 15 (b .page .switches)) (ltb 15 (b .page .video .strike)) (a .0) in
-      let three = neither (startsRefused s) (ltb 15 (b .page .switches)) (four .0) in
+      let known = switchesRefused (b .page .version) (b .page .switches) in
+      let four = neither (startsRefused s || known) (ltb 15 (b .page .video .strike)) (a .0) in
+      let three = neither (startsRefused s) known (four .0) in
       let two = neither (ltb 16383 (s .start1) || ltb 16383 (s .cursor)) (ltb 16383 (s .start2)) (three .0) in
       let one = neither (ltb 16383 (s .start1)) (ltb 16383 (s .cursor)) (two .0) in
       record {

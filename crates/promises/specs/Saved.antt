@@ -13,6 +13,7 @@ use Rattle.refusal.specs.Number.{numberOf, doneOf}
 use Rattle.board.specs.declared.Board.{Board}
 use Rattle.board.specs.State.{powerOf, boardOf}
 use Rattle.timing.specs.Check.{pageCheck}
+use Rattle.files.specs.Page.{keptPage}
 use Rattle.files.specs.Round.{Bytes}
 use Rattle.numbers.specs.Numbers.{numbersCheck, numbersBoard, numbersOfCheck, numbersOf}
 use Rattle.feldrime.specs.declared.Answer.{Answer}
@@ -23,9 +24,9 @@ use Rattle.agreement.specs.Numbers.{board-back-from-c, numbers-back}
 use Rattle.promises.specs.Sizes.{made-refused, made-done}
 use Rattle.promises.specs.Again.{answer-done}
 
--- the page's own answer, and its board; a refusal gives the board that power gives
+-- the page's own answer, and its board, with the version as it counts; a refusal gives the board that power gives
 unfoldable pub savedBoard : Board → BoardAnswer
-savedBoard b = boardAnswer (pageCheck (b .page)) (pick (doneOf (pageCheck (b .page))) (boardOf (b .page)) powerOf)
+savedBoard b = boardAnswer (pageCheck (b .page)) (pick (doneOf (pageCheck (b .page))) (boardOf (keptPage (b .page))) powerOf)
 
 -- the numbers' own answer, then 3 where the room for them has another size
 unfoldable pub savedCheck : (numbers : List ℕ) (room : ℕ) → Refusal

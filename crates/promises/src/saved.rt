@@ -6,7 +6,7 @@ ghost use lib.ListN.{length};
 ghost use Rattle.feldrime.specs.Answers.{answerOf};
 ghost use Rattle.promises.specs.Saved.{savedBoard, savedCheck, savedNumbers};
 
-// A board that is saved and made again has its page, at clock 0 on an active board.
+// A board that is saved and made again has its page, with its version as it counts, at clock 0 on an active board.
 pub fn saved_again(b: board::Board) -> BoardAnswer
     ensures { λ r. ⌜ r ≡ savedBoard b ⌝ }
 {

@@ -1,6 +1,6 @@
 -- The beam over a frame, for any data that it carries along.
 --
--- Nine words, in the order in which one meets them:
+-- Eleven words, in the order in which one meets them:
 --     Carrier    what a single clock does to what is carried: what it is at clock 0, what a row begins with, how a clock of a row moves it on
 --     Pair       what is carried: the beam's, and what its row began with
 --     Scan       where the beam is (field, line, clock), and the pair it carries
@@ -10,6 +10,8 @@
 --     Tally      Rows of cells need this beside it: how often the address has moved on by a column of a row
 --     Fed        what is asked of a Feed: its addresses have 14 bits
 --     Tallied    what is asked of a Tally: it counts the Feed's moves, one by one
+--     lastSet    of some cells the attribute byte of the last with AFLG: what is valid after them in field mode
+--     Beam       what the board's beam carries: a cell's address, and such a byte beside it. Its Carrier and Rows are those of cells with the byte added
 --
 -- One row followed through them: row 1 of A1's page (80 columns, rows of 10 lines, no table, screen start 1 at 0).
 --     Feed       at row 1 the address carries on: `begins` gives 80, which is where row 0 left it
@@ -20,6 +22,8 @@
 --     Rows       `start` 1 is 1 x 80 moves from 0, which is 80; `walk` 1 3 is 3 moves from there, which is 83
 --     Laws       `walk` 1 4 is `move` 1 3 of `walk` 1 3; `start` 2 is `begin` 2 of what row 1 leaves, 160
 --     Fed, Tallied     0 and every address are below 16,384, and clock 3 moves on because 3 is below 80: so the Laws hold
+--     lastSet    in field mode, with AFLG in cell 70 alone and 83 moves done, it is that cell's byte
+--     Beam       at clock 3: address 83 and that byte; the row keeps address 80 and that byte, which row 0 left
 pub mod Tick
 pub mod Moves
 pub mod Walk
@@ -27,3 +31,5 @@ pub mod Raster
 pub mod Agree
 pub mod Frame
 pub mod Cells
+pub mod Latch
+pub mod Beams

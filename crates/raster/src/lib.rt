@@ -1,11 +1,18 @@
 // The beam: where it is, and which cell it is at. Almost all of this crate is theory (specs/); the code is the move from cell to cell.
 ghost use mathlib.Core.Path.{_≡_};
 ghost use Rattle.raster.specs.Moves.{cell, advance, advanceBy};
+ghost use Rattle.raster.specs.Latch.{latched};
 
-// What the beam carries along, and what a row keeps: an address.
-#[repr(C)]
+// A cell, by its address.
 pub struct Cell {
     pub address: u16,
+}
+
+// What the beam carries along, and what a row keeps: a cell's address, and the attribute byte that was latched before it, 0 for none.
+#[repr(C)]
+pub struct Beam {
+    pub address: u16,
+    pub latch: u8,
 }
 
 // The counts that the beam goes by: clocks per line, of which so many are active; lines per frame; lines per row; rows.
@@ -21,6 +28,13 @@ pub struct Counts {
 pub struct Buffer {
     pub first: u16,
     pub last: u16,
+}
+
+// What is valid at a cell: its attribute byte where AFLG is set, else what was valid before it.
+pub fn latched(byte: u8, held: u8) -> u8
+    ensures { λ r. ⌜ r ≡ latched byte held ⌝ }
+{
+    if byte < 128 { held } else { byte }
 }
 
 // The cell after this one.

@@ -10,16 +10,16 @@ use Rattle.registers.specs.declared.Written.{Written}
 use Rattle.registers.specs.declared.ByteRead.{ByteRead}
 
 abbrev pub withIrs : Page → List ℕ → Page
-withIrs p x = record { irs = x; starts = p .starts; switches = p .switches; video = p .video }
+withIrs p x = record { version = p .version; irs = x; starts = p .starts; switches = p .switches; video = p .video }
 
 abbrev pub withStarts : Page → Starts → Page
-withStarts p x = record { irs = p .irs; starts = x; switches = p .switches; video = p .video }
+withStarts p x = record { version = p .version; irs = p .irs; starts = x; switches = p .switches; video = p .video }
 
 abbrev pub withSwitches : Page → ℕ → Page
-withSwitches p x = record { irs = p .irs; starts = p .starts; switches = x; video = p .video }
+withSwitches p x = record { version = p .version; irs = p .irs; starts = p .starts; switches = x; video = p .video }
 
 abbrev pub withVideo : Page → Video → Page
-withVideo p x = record { irs = p .irs; starts = p .starts; switches = p .switches; video = x }
+withVideo p x = record { version = p .version; irs = p .irs; starts = p .starts; switches = p .switches; video = x }
 
 abbrev pub withPage : Board → Page → Board
 withPage b x = record { page = x; place = b .place; pointer = b .pointer; resets = b .resets }

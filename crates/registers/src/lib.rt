@@ -309,10 +309,16 @@ pub fn read(b: board::Board, a: u8) -> ByteRead
     }
 }
 
-fn video_check(s: board::Starts, switches: u8, dots: units::Dots, strike: u8) -> refusal::Refusal
-    ensures { λ r. ⌜ r ≡ videoCheck s switches dots strike ⌝ }
+fn video_check(
+    s: board::Starts,
+    version: u8,
+    switches: u8,
+    dots: units::Dots,
+    strike: u8,
+) -> refusal::Refusal
+    ensures { λ r. ⌜ r ≡ videoCheck s version switches dots strike ⌝ }
 {
-    if board::starts_refused(s) | (15 < switches) | (15 < strike) {
+    if board::starts_refused(s) | board::switches_refused(version, switches) | (15 < strike) {
         return refusal::Refusal::Address;
     }
     if timing::width_refused(dots) {
@@ -332,7 +338,8 @@ fn with_video(
 {
     let background = choose(bkgnd, 4, 0);
     let retrace = choose(rblank, 8, 0);
-    let switches = b.page.switches % 4 + background + retrace;
+    let s = b.page.switches;
+    let switches = s / 16 * 16 + s % 4 + background + retrace;
     let video = board::Video {
         dots: dots,
         strike: strike,
@@ -356,7 +363,7 @@ pub fn set_video(
     ensures { λ r. ⌜ r ≡ setVideoOf b dots strike bkgnd rblank ⌝ }
 {
     let s = b.page.starts;
-    let refused = video_check(s, b.page.switches, dots, strike);
+    let refused = video_check(s, b.page.version, b.page.switches, dots, strike);
     if refusal::is_done(refused) {
         return done(with_video(b, dots, strike, bkgnd, rblank));
     }

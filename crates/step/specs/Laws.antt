@@ -12,8 +12,10 @@ use Rattle.refusal.specs.declared.Refusal.{Refusal}
 use Rattle.refusal.specs.declared.Refusal.the-variants.{Done}
 use Rattle.refusal.specs.Number.{doneOf}
 use Rattle.refusal.specs.Laws.{done-is}
+use Rattle.raster.specs.Latch.{latched}
 use Rattle.board.specs.declared.Place.{Place}
 use Rattle.board.specs.declared.Board.{Board}
+use Rattle.board.specs.Modes.{settersHidden}
 use Rattle.board.specs.Range.{memoriesRefused}
 use Rattle.board.specs.Laws.{memories-all}
 use Rattle.timing.specs.Check.{callCheck}
@@ -23,9 +25,9 @@ use Rattle.shape.specs.Laws.{font-whole}
 use Rattle.video.specs.declared.Scene.{Scene}
 use Rattle.video.specs.declared.Look.{Look}
 use Rattle.video.specs.Scene.{sceneOf, cursorAt}
-use Rattle.video.specs.Look.{blankLook, effective, lookOf}
+use Rattle.video.specs.Look.{blankLook, lookOf}
 use Rattle.video.specs.Cell.{shadeOf, litBits, cellDots}
-use Rattle.video.specs.At.{lentRefused, scanDots, dotsAt}
+use Rattle.video.specs.At.{lentRefused, shownCode, scanDots, dotsAt}
 use Rattle.dots.specs.Width.{length-cell}
 use Rattle.place.specs.declared.Carried.{Carried}
 use Rattle.place.specs.Place.{activeAt, loadedIn, movedIn, turnedIn}
@@ -73,6 +75,9 @@ padded-cell d out k l w v h e p q = over-zeros d out (cellDots l v d) h (rw (p, 
 
 -- ---- the step
 
+pub in-frame : (b : Board) → InRange b → (b .place .line .0 < 8192) × (b .place .clock .0 < 384)
+in-frame b i = (omega (arith, i .line-lt, vt-bound (b .page .irs)), omega (arith, i .clock-lt, ht-bound (b .page .irs)))
+
 module _ (b : Board) (chars attrs : List ℕ) (f : Font) where
   pub fit : callCheck b (lentRefused chars attrs f) false false ≡ Done → Fit b chars attrs f
   fit e =
@@ -87,29 +92,27 @@ module _ (b : Board) (chars attrs : List ℕ) (f : Font) where
         font = font-whole f (m .1);
       }
 
-  pub in-frame : InRange b → (b .place .line .0 < 8192) × (b .place .clock .0 < 384)
-  in-frame i = (omega (arith, i .line-lt, vt-bound (b .page .irs)), omega (arith, i .clock-lt, ht-bound (b .page .irs)))
-
   pub address-lt : Fit b chars attrs f → (c : Carried) → c ≡ loadedIn (b .page) chars (b .place) → c .beam .address < 16384
   address-lt k c e = rw e (loaded-lt (b .page) chars (k .page) (b .place) (k .state .beam-le) (k .state .row-le))
 
-  module _ (scene : Scene) (e : scene ≡ sceneOf b (scanIn b) (b .place .field)) (a : ℕ) (r : List ℕ) where
+  module _ (scene : Scene) (e : scene ≡ sceneOf b (scanIn b) (b .place .field)) (held a : ℕ) (r : List ℕ) where
     pub dots-active : activeAt (b .page) (b .place) ≡ true
-        → r ≡ padded (cellDots (lookOf scene (effective (getD attrs a 0)) (cursorAt scene a)) (wordOf f (getD chars a 0) (scanIn b)) (b .page .video .dots .0)) (b .page .video .dots .0)
-        → r ≡ clockDots b chars attrs f a
+        → (valid : ℕ) → valid ≡ latched (getD attrs a 0) held → (code : ℕ) → code ≡ shownCode (settersHidden (b .page)) (getD chars a 0) (getD attrs a 0)
+        → r ≡ padded (cellDots (lookOf scene valid (cursorAt scene a)) (wordOf f code (scanIn b)) (b .page .video .dots .0)) (b .page .video .dots .0)
+        → r ≡ clockDots b chars attrs f held a
     unfolding clockDots dotsAt scanDots sceneOf
-    dots-active t q = rw t (rw e at q)
+    dots-active t valid ev code ec q = rw t (rw (e, ev, ec) at q)
 
-    pub dots-blank : activeAt (b .page) (b .place) ≡ false → r ≡ padded (replicate (b .page .video .dots .0) (scene .blank)) (b .page .video .dots .0) → r ≡ clockDots b chars attrs f a
+    pub dots-blank : activeAt (b .page) (b .place) ≡ false → r ≡ padded (replicate (b .page .video .dots .0) (scene .blank)) (b .page .video .dots .0) → r ≡ clockDots b chars attrs f held a
     unfolding clockDots
     dots-blank t q = rw t (rw e at q)
 
   -- the parts of a clock put together
-  pub clocked : (c : Carried) → c ≡ loadedIn (b .page) chars (b .place) → (q : Place) → q ≡ turnedIn (b .page) (b .place) (movedIn (b .page) (b .place) c)
-      → (s : Signals) → s ≡ signalsOf b (c .beam .address) → (d : List ℕ) → d ≡ clockDots b chars attrs f (c .beam .address)
+  pub clocked : (c : Carried) → c ≡ loadedIn (b .page) chars (b .place) → (q : Place) → q ≡ turnedIn (b .page) (b .place) (movedIn (b .page) attrs (b .place) c)
+      → (s : Signals) → s ≡ signalsOf b (c .beam .address) → (d : List ℕ) → d ≡ clockDots b chars attrs f (c .beam .latch) (c .beam .address)
       → _≡_ {A = Clock} (record { signals = s; address = c .beam .address; dots = d; place = q }) (clockIn (steppedOf b chars attrs f))
   unfolding steppedOf
-  clocked c ec q eq s es d ed = rw (eq, es, ed, ec, one-clock (b .page) chars (b .place))
+  clocked c ec q eq s es d ed = rw (eq, es, ed, ec, one-clock (b .page) chars attrs (b .place))
 
   pub clock-done : doneOf (stepCheck b chars attrs f) ≡ true → (c : Clock) → c ≡ clockIn (steppedOf b chars attrs f) → c ≡ clockIn (stepOf b chars attrs f)
   unfolding stepOf

@@ -37,11 +37,11 @@ signalsOf b address = record {
 abbrev pub padded : List ℕ → ℕ → List ℕ
 padded dots d = dots ++ replicate (12 - d) 0
 
--- the cell's dots on an active clock, the blank level off it
-unfoldable pub clockDots : Board → (chars attrs : List ℕ) → Font → (address : ℕ) → List ℕ
-clockDots b chars attrs f address =
+-- the cell's dots on an active clock, where held is valid before it; the blank level off the active clocks
+unfoldable pub clockDots : Board → (chars attrs : List ℕ) → Font → (held address : ℕ) → List ℕ
+clockDots b chars attrs f held address =
     padded
     (pick (activeAt (b .page) (b .place))
-    (dotsAt b chars attrs f (scanIn b) (b .place .field) address)
+    (dotsAt b chars attrs f (scanIn b) (b .place .field) held address)
     (replicate (b .page .video .dots .0) (sceneOf b (scanIn b) (b .place .field) .blank)))
     (b .page .video .dots .0)

@@ -24,14 +24,18 @@ use Rattle.step.specs.Signals.{signalsOf, clockDots}
 abbrev pub addressOf : Board → (chars : List ℕ) → ℕ
 addressOf b chars = loadedIn (b .page) chars (b .place) .beam .address
 
+-- what is valid before the cell there
+abbrev pub heldOf : Board → (chars : List ℕ) → ℕ
+heldOf b chars = loadedIn (b .page) chars (b .place) .beam .latch
+
 -- a clock's signals, address and dots, and the board for the next clock
 unfoldable pub steppedOf : Board → (chars attrs : List ℕ) → Font → Stepped
 steppedOf b chars attrs f = record {
   refusal = Done;
   signals = signalsOf b (addressOf b chars);
   address = addressOf b chars;
-  dots = clockDots b chars attrs f (addressOf b chars);
-  board = withPlace b (nextPlace (b .page) chars (b .place));
+  dots = clockDots b chars attrs f (heldOf b chars) (addressOf b chars);
+  board = withPlace b (nextPlace (b .page) chars attrs (b .place));
 }
 
 -- 3, 12, 4, 5, 6, 7

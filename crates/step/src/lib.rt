@@ -5,7 +5,7 @@ ghost use lib.ListN.{replicate};
 ghost use Rattle.units.specs.Units.{lines};
 ghost use Rattle.shape.specs.Font.{Whole, fontNow, lentFont, wordOf};
 ghost use Rattle.video.specs.Scene.{sceneOf, cursorAt};
-ghost use Rattle.video.specs.Look.{effective, lookOf};
+ghost use Rattle.video.specs.Look.{lookOf};
 ghost use Rattle.video.specs.Cell.{cellDots};
 ghost use Rattle.place.specs.Place.{activeAt};
 ghost use Rattle.step.specs.Signals.{scanIn, hsyncIn, vsyncIn, signalsOf, padded, clockDots};
@@ -66,12 +66,12 @@ fn signals_of(b: board::Board, scene: video::Scene, active: bool, address: usize
     }
 }
 
-// The twelve dot places of an active clock.
+// The twelve dot places of an active clock, from the code that is shown and the attributes that are valid.
 fn shown_dots(
     b: board::Board,
     scene: video::Scene,
     code: u8,
-    attr: u8,
+    attributes: u8,
     address: usize,
     words: &[u16],
     flags: &[u8],
@@ -81,13 +81,13 @@ fn shown_dots(
     requires { ⌜ Whole (fontNow words flags unshifted shifted) ⌝ }
     requires { ⌜ (6 ≤ b .page .video .dots .0) × (b .page .video .dots .0 ≤ 12) ⌝ }
     ensures { λ r. ⌜ r ≡ padded
-        (cellDots (lookOf scene (effective attr) (cursorAt scene address))
+        (cellDots (lookOf scene attributes (cursorAt scene address))
         (wordOf (lentFont words flags unshifted shifted) code (scanIn b)) (b .page .video .dots .0))
         (b .page .video .dots .0) ⌝ }
 {
     let mut out = [0u8; 12];
     let cursor = video::cursor_at(scene, address);
-    let look = video::look_of(scene, video::effective_of(attr), cursor);
+    let look = video::look_of(scene, attributes, cursor);
     let word = shape::word_of(code, scan_in(b), words, flags, unshifted, shifted);
     dots::draw_cell(&mut out, look, word, b.page.video.dots);
     out
@@ -115,7 +115,7 @@ fn scene_in(b: board::Board) -> video::Scene
     video::scene_of(b, scan_in(b), b.place.field)
 }
 
-// The twelve dot places of a clock that fetches or holds an address.
+// The twelve dot places of a clock that fetches or holds an address, where held is valid before its cell.
 fn clock_dots(
     b: board::Board,
     scene: video::Scene,
@@ -126,20 +126,24 @@ fn clock_dots(
     flags: &[u8],
     unshifted: &[u8],
     shifted: &[u8],
+    held: u8,
     address: usize,
 ) -> [u8; 12]
     requires { ⌜ Fit b (now chars) (now attrs) (fontNow words flags unshifted shifted) ⌝ }
     requires { ⌜ (scene ≡ sceneOf b (scanIn b) (b .place .field)) × (active ≡ activeAt (b .page) (b .place)) × (address < 16384) ⌝ }
-    ensures { λ r. ⌜ r ≡ clockDots b (now (chars .entry)) (now (attrs .entry)) (lentFont words flags unshifted shifted) address ⌝ }
+    ensures { λ r. ⌜ r ≡ clockDots b (now (chars .entry)) (now (attrs .entry)) (lentFont words flags unshifted shifted) held address ⌝ }
 {
     if active {
-        let code = chars[address];
-        let attr = attrs[address];
+        let page = b.page;
+        let byte = attrs[address];
+        let valid = raster::latched(byte, held);
+        let hidden = board::setters_hidden(page);
+        let code = video::shown_code(hidden, chars[address], byte);
         return shown_dots(
             b,
             scene,
             code,
-            attr,
+            valid,
             address,
             words,
             flags,
@@ -174,11 +178,10 @@ fn one_clock(
     let page = b.page;
     let place = b.place;
     let c = place::loaded_at(page, chars, place);
-    let next = place::place_after(page, place, c);
+    let next = place::place_after(page, attrs, place, c);
     let scene = scene_in(b);
     let active = place::active_at(page, place);
-    let at = c.beam.address;
-    let address = at as usize;
+    let address = c.beam.address as usize;
     let dots = clock_dots(
         b,
         scene,
@@ -189,11 +192,12 @@ fn one_clock(
         flags,
         unshifted,
         shifted,
+        c.beam.latch,
         address,
     );
     Clock {
         signals: signals_of(b, scene, active, address),
-        address: at,
+        address: c.beam.address,
         dots: dots,
         place: next,
     }

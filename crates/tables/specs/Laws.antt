@@ -1,26 +1,29 @@
 -- What a drawer makes of a cell's number and the tables is what the scan line makes of the cell. Assumes nothing.
 use Prim.Native.Nat.{ℕ, _+_, _*_, _/_, _%_, _-_, _^_, _≤_, _<_}
-use mathlib.Core.Path.{_≡_, sym, ap, ap₂, _∙_}
+use mathlib.Core.Path.{_≡_, refl, sym, ap, ap₂, _∙_}
 use mathlib.Core.Bool.{Bool, true, false, _&&_}
 use mathlib.Core.List.{List, _++_}
 use native.Mathlib.Nat.{div-one, zero-div}
+use native.Mathlib.Numerals.{add-one}
 use native.Mathlib.Omega.{arith}
 use borrow.Author.Tests.{lt-ltb}
-use lib.Dec.{ltb}
+use lib.Dec.{ltb, leb}
 use lib.ListN.{length, getD, drop, length-append, length-drop, List·getD-append}
 use lib.Seq.{drop-at, drop-append-add, drop-drop}
-use Rattle.lists.specs.Choice.{pick}
+use Rattle.lists.specs.Choice.{pick, pick-lt}
 use Rattle.lists.specs.Join.{joined, join-element}
 use Rattle.lists.specs.Tab.{tab, length-tab, getD-tab, same-tab}
 use Rattle.raster.specs.declared.Buffer.{Buffer}
 use Rattle.raster.specs.declared.Cell.{Cell}
 use Rattle.raster.specs.Moves.{cell, advanceBy}
+use Rattle.raster.specs.Latch.{latched, lastSet, sets-or}
 use Rattle.board.specs.declared.Board.{Board}
 use Rattle.timing.specs.Laws.{Accepted}
 use Rattle.shape.specs.Font.{Font, positionOf, wordBy, wordOf}
 use Rattle.shape.specs.Laws.{by-small}
 use Rattle.video.specs.declared.Scene.{Scene}
 use Rattle.video.specs.declared.Look.{Look}
+use Rattle.video.specs.declared.Reading.{Reading}
 use Rattle.video.specs.Scene.{sceneOf}
 use Rattle.video.specs.Look.{lookOf}
 use Rattle.video.specs.At.{Content, contentAt, scanDots}
@@ -28,7 +31,7 @@ use Rattle.dots.specs.Stores.{underOf, wideOf, spreadOf, dotsBy}
 use Rattle.dots.specs.Width.{shades, cell-shades}
 use Rattle.dots.specs.Bytes.{spread-ones}
 use Rattle.dots.specs.Spread.{dots-shades}
-use Rattle.tables.specs.Tables.{markOf, numberFor, cellBy, levelsBy, levelsOf, levelsAt, partOf, noDots, spreadBy, spreadsAt, lastSpreads}
+use Rattle.tables.specs.Tables.{markOf, numberFor, heldBy, cellBy, levelsBy, levelsOf, levelsAt, partOf, noDots, spreadBy, spreadsAt, lastSpreads}
 use Rattle.tables.specs.Marks.{mark-look, mark-lt, symbol-byte, under-byte, symbol-of, under-of}
 
 pub length-spreads : (f : Font) (d from s : ℕ) → length (spreadsAt f d from s) ≡ 256
@@ -91,20 +94,35 @@ module _ (k : Content) (h : k .code < 256) where
 looked : (f : ℕ → ℕ) (n : ℕ) (xs rest : List ℕ) (i : ℕ) → xs ≡ tab n f ++ rest → i < n → getD xs i 0 ≡ f i
 looked f n xs rest i e h = rw e (List·getD-append (tab n f) rest 0 i (rw (length-tab n f) h)) ∙ getD-tab n f i h
 
+-- a code that is shown is a byte
+pub shown-lt : (k : Reading) (chars attrs : List ℕ) (held a : ℕ) → ((i : ℕ) → getD chars i 0 < 256) → contentAt k chars attrs held a .code < 256
+shown-lt k chars attrs held a bytes = pick-lt 256 (k .hidden && leb 128 (getD attrs a 0)) 0 _ (omega arith) (bytes a)
+
 -- of a row its cells, of a scan line the levels of a mark
-module _ (chars attrs : List ℕ) (buffer : Buffer) (cursor start n : ℕ) (cells rest : List ℕ) (e : cells ≡ tab n (cellBy chars attrs buffer cursor start) ++ rest) where
-  pub gathered : (c : ℕ) → c < n → getD cells c 0 ≡ numberFor (contentAt cursor chars attrs (advanceBy buffer c start))
+module _ (k : Reading) (chars attrs : List ℕ) (buffer : Buffer) (held start n : ℕ) (cells rest : List ℕ) (e : cells ≡ tab n (cellBy k chars attrs buffer held start) ++ rest) where
+  pub gathered : (c : ℕ) → c < n → getD cells c 0 ≡ numberFor (contentAt k chars attrs (heldBy (k .runs) attrs buffer held start c) (advanceBy buffer c start))
   unfolding cellBy
   gathered c h = looked _ n cells rest c e h
 
   pub gathered-lt : ((i : ℕ) → getD chars i 0 < 256) → (c : ℕ) → c < n → getD cells c 0 < 32768
-  gathered-lt bytes c h = rw (gathered c h) (number-lt (contentAt cursor chars attrs (advanceBy buffer c start)) (bytes _))
+  gathered-lt bytes c h =
+      let valid = heldBy (k .runs) attrs buffer held start c in
+      let a = advanceBy buffer c start in
+      rw (gathered c h) (number-lt (contentAt k chars attrs valid a) (shown-lt k chars attrs valid a bytes))
 
--- a cell's number where the walk along the row stands
-pub as-cell : (chars attrs : List ℕ) (buffer : Buffer) (cursor start c : ℕ) (x : Cell) (v : ℕ) → x ≡ cell (advanceBy buffer c start)
-    → v ≡ numberFor (contentAt cursor chars attrs (x .address)) → v ≡ cellBy chars attrs buffer cursor start c
-unfolding cellBy
-as-cell chars attrs buffer cursor start c x v e q = rw e at q
+-- where the walk along the row stands: what is valid before the cell, its number, and what is valid after it
+module _ (k : Reading) (chars attrs : List ℕ) (buffer : Buffer) (held start c : ℕ) (x : Cell) (e : x ≡ cell (advanceBy buffer c start)) (valid : ℕ) (q : valid ≡ heldBy (k .runs) attrs buffer held start c) where
+  pub as-cell : (v : ℕ) → v ≡ numberFor (contentAt k chars attrs valid (x .address)) → v ≡ cellBy k chars attrs buffer held start c
+  unfolding cellBy
+  as-cell v d = rw (e, q) at d
+
+  pub runs-on : (y : ℕ) → y ≡ pick (k .runs) (latched (getD attrs (x .address) 0) valid) valid → y ≡ heldBy (k .runs) attrs buffer held start (c + 1)
+  unfolding heldBy lastSet
+  runs-on y d = d ∙ rw (q, e, add-one c) (sym (sets-or (k .runs) (getD attrs (advanceBy buffer c start) 0) (heldBy (k .runs) attrs buffer held start c)))
+
+pub not-run : (runs : Bool) (attrs : List ℕ) (buffer : Buffer) (held start : ℕ) → held ≡ heldBy runs attrs buffer held start 0
+unfolding heldBy lastSet
+not-run runs attrs buffer held start = refl
 
 pub looked-up : (s : Scene) (a : ℕ) (here : Bool) (looks rest : List ℕ) → looks ≡ tab 128 (levelsOf s) ++ rest → getD looks (markOf a here) 0 ≡ levelsOf s (markOf a here)
 looked-up s a here looks rest e = looked (levelsOf s) 128 looks rest (markOf a here) e (mark-lt a here)

@@ -5,11 +5,11 @@ use Prim.Native.Nat.{ℕ, _+_, _*_, _/_, _%_, _<_}
 use native.Mathlib.Omega.{arith}
 use borrow.Author.Tests.{eq-eqb}
 use lib.Dec.{eqb}
-use Rattle.lists.specs.Choice.{pick, pick-lt}
+use Rattle.lists.specs.Choice.{pick, pick-lt, hasBit}
 use Rattle.board.specs.declared.Board.{Board}
 use Rattle.video.specs.declared.Scene.{Scene}
 use Rattle.video.specs.declared.Look.{Look}
-use Rattle.video.specs.Levels.{hasBit, toneOf, surroundLevel, symbolLevel}
+use Rattle.video.specs.Levels.{toneOf, surroundLevel, symbolLevel}
 use Rattle.video.specs.Scene.{sceneOf}
 use Rattle.video.specs.Look.{nonDisplay, reversed, shownLook, blankLook, lookOf}
 use Rattle.dots.specs.Stores.{underOf}

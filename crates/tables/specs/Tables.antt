@@ -9,10 +9,12 @@ use Rattle.lists.specs.Choice.{pick}
 use Rattle.lists.specs.Tab.{tab}
 use Rattle.raster.specs.declared.Buffer.{Buffer}
 use Rattle.raster.specs.Moves.{advanceBy}
+use Rattle.raster.specs.Latch.{setsOf, lastSet}
 use Rattle.board.specs.declared.Board.{Board}
 use Rattle.shape.specs.Font.{Font, positionOf, wordBy}
 use Rattle.video.specs.declared.Scene.{Scene}
 use Rattle.video.specs.declared.Look.{Look}
+use Rattle.video.specs.declared.Reading.{Reading}
 use Rattle.video.specs.Scene.{sceneOf}
 use Rattle.video.specs.Look.{lookOf}
 use Rattle.video.specs.At.{Content, contentAt}
@@ -28,9 +30,13 @@ cellNumber code attributes here = code + 256 * markOf attributes here
 abbrev pub numberFor : Content → ℕ
 numberFor k = cellNumber (k .code) (k .attributes) (k .here)
 
--- the cell c moves from the row's start
-unfoldable pub cellBy : (chars attrs : List ℕ) → Buffer → (cursor start c : ℕ) → ℕ
-cellBy chars attrs buffer cursor start c = numberFor (contentAt cursor chars attrs (advanceBy buffer c start))
+-- what is valid before the cell c moves from the row's start, where held is valid before the row
+unfoldable pub heldBy : (runs : Bool) → (attrs : List ℕ) → Buffer → (held start c : ℕ) → ℕ
+heldBy runs attrs buffer held start c = lastSet (λ i. setsOf runs attrs (advanceBy buffer i start)) held c
+
+-- that cell
+unfoldable pub cellBy : Reading → (chars attrs : List ℕ) → Buffer → (held start c : ℕ) → ℕ
+cellBy k chars attrs buffer held start c = numberFor (contentAt k chars attrs (heldBy (k .runs) attrs buffer held start c) (advanceBy buffer c start))
 
 -- a look's two levels as one number
 abbrev pub levelsBy : Look → ℕ

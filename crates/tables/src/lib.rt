@@ -3,11 +3,12 @@ ghost use mathlib.Core.Path.{_≡_};
 ghost use mathlib.Core.List.{_++_};
 ghost use Prim.Native.Nat.{_-_, _*_, _≤_, _<_};
 ghost use lib.ListN.{length, drop};
+ghost use Rattle.lists.specs.Choice.{pick};
 ghost use Rattle.lists.specs.Join.{joined};
 ghost use Rattle.lists.specs.Tab.{tab};
 ghost use Rattle.raster.specs.Moves.{Bounded};
 ghost use Rattle.shape.specs.Font.{lentFont};
-ghost use Rattle.tables.specs.Tables.{cellNumber, cellBy, levelsFor, levelsOf, levelsAt, partOf, noDots, spreadBy, spreadsAt, lastSpreads};
+ghost use Rattle.tables.specs.Tables.{cellNumber, heldBy, cellBy, levelsFor, levelsOf, levelsAt, partOf, noDots, spreadBy, spreadsAt, lastSpreads};
 
 // A cell's code, and 256 times its mark: the six attributes, and 64 where the cursor's address is the cell's.
 fn cell_number(code: u8, attributes: u8, here: bool) -> u16
@@ -20,30 +21,44 @@ fn cell_number(code: u8, attributes: u8, here: bool) -> u16
     code as u16 + six
 }
 
-// The cells of a row from its start on, each once for all its lines.
+// What is valid after a cell: in field mode what is valid at it, else what was before.
+fn run_on(runs: bool, valid: u8, held: u8) -> u8
+    ensures { λ r. ⌜ r ≡ pick runs valid held ⌝ }
+{
+    if runs { valid } else { held }
+}
+
+// The cells of a row from its start on, each once for all its lines, where held is valid before the row; and what is valid after it.
 pub fn gather(
     cells: &mut [u16],
     chars: &[u8],
     attrs: &[u8],
+    k: video::Reading,
     buffer: raster::Buffer,
     start: raster::Cell,
-    cursor: u16,
+    held: u8,
     n: usize,
-)
+) -> u8
     requires { ⌜ (length (now chars) ≡ 16384) × (length (now attrs) ≡ 16384) × (n ≤ length (now cells)) × Bounded buffer × (start .address < 16384) ⌝ }
-    ensures { λ _. ⌜ now (cells .exit)
-        ≡ tab n (cellBy (now (chars .entry)) (now (attrs .entry)) buffer cursor (start .address)) ++ drop n (now (cells .entry)) ⌝ }
+    ensures { λ r. ⌜ (r ≡ heldBy (k .runs) (now (attrs .entry)) buffer held (start .address) n)
+        × (now (cells .exit)
+        ≡ tab n (cellBy k (now (chars .entry)) (now (attrs .entry)) buffer held (start .address)) ++ drop n (now (cells .entry))) ⌝ }
 {
     let mut cell = start;
+    let mut valid = held;
     let mut c = 0;
     while c < n {
         let address = cell.address;
         let at = address as usize;
-        let attributes = video::effective_of(attrs[at]);
-        cells[c] = cell_number(chars[at], attributes, address == cursor);
+        let byte = attrs[at];
+        let code = video::shown_code(k.hidden, chars[at], byte);
+        let attributes = raster::latched(byte, valid);
+        cells[c] = cell_number(code, attributes, address == k.cursor);
+        valid = run_on(k.runs, attributes, valid);
         cell = raster::advance_one(buffer, cell);
         c += 1;
     }
+    valid
 }
 
 // The symbol's level of six attributes, and 256 times the surround's, which a lit cell shows as its symbol.

@@ -18,7 +18,7 @@ use Rattle.raster.specs.Moves.{Bounded}
 use Rattle.raster.specs.Raster.{Good}
 use Rattle.board.specs.declared.Page.{Page}
 use Rattle.board.specs.declared.Board.{Board}
-use Rattle.board.specs.Range.{startsRefused, addressRefused, cellsRefused, pointerRefused}
+use Rattle.board.specs.Range.{startsRefused, switchesRefused, addressRefused, cellsRefused, pointerRefused}
 use Rattle.timing.specs.Fields.{ir, linesOf, rowsOf, hactOf, htOf, hfpOf, vsyncOf, vtOf, bufferOf, countsOf}
 use Rattle.timing.specs.Check.{reservedRefused, porchRefused, widthRefused, pageCheck, sized, sizeOf, stateRefused, callCheck}
 
@@ -56,7 +56,7 @@ pub record Accepted (p : Page) : Type 0 where
   pub start1 : p .starts .start1 ≤ 16383
   pub cursor : p .starts .cursor ≤ 16383
   pub start2 : p .starts .start2 ≤ 16383
-  pub switches : p .switches ≤ 15
+  pub switches : p .switches ≤ 63
   pub strike : p .video .strike ≤ 15
   pub plain : ir (p .irs) 0 / 128 % 2 ≡ 1 → ⊥
   pub straight : ir (p .irs) 1 / 128 % 2 ≡ 1 → ⊥
@@ -75,8 +75,9 @@ accepted p e =
     let b = passed (reservedRefused irs) Reserved _ refl (a .1) in
     let c = passed (porchRefused irs) Porch _ refl (b .1) in
     let w = passed (widthRefused (p .video .dots)) Width _ refl (c .1) in
-    let a4 = neither (startsRefused s || ltb 15 (p .switches)) (ltb 15 (p .video .strike)) (a .0) in
-    let a3 = neither (startsRefused s) (ltb 15 (p .switches)) (a4 .0) in
+    let known = switchesRefused (p .version) (p .switches) in
+    let a4 = neither (startsRefused s || known) (ltb 15 (p .video .strike)) (a .0) in
+    let a3 = neither (startsRefused s) known (a4 .0) in
     let a2 = neither (ltb 16383 (s .start1) || ltb 16383 (s .cursor)) (ltb 16383 (s .start2)) (a3 .0) in
     let a1 = neither (ltb 16383 (s .start1)) (ltb 16383 (s .cursor)) (a2 .0) in
     let b1 = neither (eqb (ir irs 0 / 128 % 2) 1) (eqb (ir irs 1 / 128 % 2) 1) (b .0) in
@@ -86,7 +87,7 @@ accepted p e =
       start1 = ltb-false _ _ (a1 .0);
       cursor = ltb-false _ _ (a1 .1);
       start2 = ltb-false _ _ (a2 .1);
-      switches = ltb-false _ _ (a3 .1);
+      switches = ltb-false _ _ (neither (ltb 63 (p .switches)) _ (a3 .1) .0);
       strike = ltb-false _ _ (a4 .1);
       plain = eqb-false _ _ (b1 .0);
       straight = eqb-false _ _ (b1 .1);

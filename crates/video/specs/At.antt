@@ -3,12 +3,17 @@ use Prim.Native.Nat.{ℕ}
 use mathlib.Core.Bool.{Bool, _&&_, _||_}
 use mathlib.Core.List.{List}
 use lib.ListN.{length, getD}
-use lib.Dec.{eqb}
+use lib.Dec.{eqb, leb}
+use Rattle.lists.specs.Choice.{pick}
+use Rattle.raster.specs.Latch.{latched}
+use Rattle.board.specs.declared.Page.{Page}
 use Rattle.board.specs.declared.Board.{Board}
+use Rattle.board.specs.Modes.{fieldMode, settersHidden}
 use Rattle.board.specs.Range.{memoriesRefused}
 use Rattle.shape.specs.Font.{Font, fontRefused, wordOf}
+use Rattle.video.specs.declared.Reading.{Reading}
 use Rattle.video.specs.Scene.{sceneOf}
-use Rattle.video.specs.Look.{effective, lookOf}
+use Rattle.video.specs.Look.{lookOf}
 use Rattle.video.specs.Cell.{cellDots}
 
 -- 3: a lent memory or font part of wrong size
@@ -25,8 +30,21 @@ pub record Content : Type 0 where
   pub attributes : ℕ
   pub here : Bool
 
-abbrev pub contentAt : (cursor : ℕ) → (chars attrs : List ℕ) → (address : ℕ) → Content
-contentAt cursor chars attrs a = record { code = getD chars a 0; attributes = effective (getD attrs a 0); here = eqb a cursor }
+-- how a page's cells are read
+abbrev pub readingOf : Page → Reading
+readingOf p = record { cursor = p .starts .cursor; runs = fieldMode p; hidden = settersHidden p }
+
+-- where a cell that sets attributes has zero dots, it is shown as code 0, which has none
+abbrev pub shownCode : (hidden : Bool) → (code byte : ℕ) → ℕ
+shownCode hidden code byte = pick (hidden && leb 128 byte) 0 code
+
+-- the cell at an address, where held is valid before it: nothing, in character mode
+abbrev pub contentAt : Reading → (chars attrs : List ℕ) → (held address : ℕ) → Content
+contentAt k chars attrs held a = record {
+  code = shownCode (k .hidden) (getD chars a 0) (getD attrs a 0);
+  attributes = latched (getD attrs a 0) held;
+  here = eqb a (k .cursor);
+}
 
 -- what a scan line of a field makes of it
 unfoldable pub scanDots : Board → Font → (scan field : ℕ) → Content → List ℕ
@@ -36,6 +54,6 @@ scanDots b f scan field k =
     (wordOf f (k .code) scan)
     (b .page .video .dots .0)
 
--- the dots of the cell at an address, on a scan line of a field
-unfoldable pub dotsAt : Board → (chars attrs : List ℕ) → Font → (scan field address : ℕ) → List ℕ
-dotsAt b chars attrs f scan field a = scanDots b f scan field (contentAt (b .page .starts .cursor) chars attrs a)
+-- the dots of the cell at an address, on a scan line of a field, where held is valid before it
+unfoldable pub dotsAt : Board → (chars attrs : List ℕ) → Font → (scan field held address : ℕ) → List ℕ
+dotsAt b chars attrs f scan field held a = scanDots b f scan field (contentAt (readingOf (b .page)) chars attrs held a)

@@ -1,13 +1,7 @@
 -- 000 Table 1, as 01 condenses it: black 0, gray 1, white 2.
-use Prim.Native.Nat.{ℕ, _/_, _%_}
+use Prim.Native.Nat.{ℕ}
 use mathlib.Core.Bool.{Bool}
-use lib.Dec.{eqb}
 use Rattle.lists.specs.Choice.{pick}
-
--- the bit of a weight. Of the switches: display 1, cursor 2, BKGND 4, RBLANK 8;
--- of the attributes: reverse 1, blank 2, blink 4, underline 8, highlight 16, strike 32
-abbrev pub hasBit : (byte weight : ℕ) → Bool
-hasBit byte weight = eqb (byte / weight % 2) 1
 
 -- T: white if highlighted, else gray
 abbrev pub toneOf : Bool → ℕ

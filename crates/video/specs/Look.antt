@@ -1,15 +1,10 @@
--- 01, "From cell to dots": a cell's look from its attribute byte and CURSOR.
+-- 01, "From cell to dots": a cell's look from the attributes that are valid at it, and CURSOR.
 use Prim.Native.Nat.{ℕ}
 use mathlib.Core.Bool.{Bool, false, _&&_, _||_, xor}
-use lib.Dec.{ltb}
-use Rattle.lists.specs.Choice.{pick}
+use Rattle.lists.specs.Choice.{pick, hasBit}
 use Rattle.video.specs.declared.Scene.{Scene}
 use Rattle.video.specs.declared.Look.{Look}
-use Rattle.video.specs.Levels.{hasBit, symbolLevel, surroundLevel}
-
--- AFLG is bit 7; with AFLG 0 the cell has none
-abbrev pub effective : ℕ → ℕ
-effective byte = pick (ltb byte 128) 0 byte
+use Rattle.video.specs.Levels.{symbolLevel, surroundLevel}
 
 -- ABLANK, or ABLINK with BLINK
 abbrev pub nonDisplay : Scene → ℕ → Bool

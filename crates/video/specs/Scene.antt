@@ -2,11 +2,12 @@
 use Prim.Native.Nat.{ℕ, _*_, _/_, _%_}
 use mathlib.Core.Bool.{Bool, _&&_, _||_, not}
 use lib.Dec.{eqb, ltb, leb}
+use Rattle.lists.specs.Choice.{hasBit}
 use Rattle.board.specs.declared.Board.{Board}
 use Rattle.timing.specs.declared.CursorLook.{CursorLook}
 use Rattle.timing.specs.Fields.{cursorOf, underlineOf, blinkOf}
 use Rattle.video.specs.declared.Scene.{Scene}
-use Rattle.video.specs.Levels.{hasBit, blankLevel}
+use Rattle.video.specs.Levels.{blankLevel}
 
 -- the display counts as off where its switch is off or the board is not active
 abbrev pub displayed : Board → Bool

@@ -2,11 +2,12 @@
 ghost use mathlib.Core.Path.{_≡_};
 ghost use mathlib.Core.Bool.{xor};
 ghost use Prim.Native.Nat.{_≤_, _<_};
-ghost use Rattle.video.specs.Levels.{hasBit, blankLevel, symbolLevel, surroundLevel};
+ghost use Rattle.lists.specs.Choice.{hasBit};
+ghost use Rattle.video.specs.Levels.{blankLevel, symbolLevel, surroundLevel};
 ghost use Rattle.video.specs.Scene.{blinkAt, cursorGate, sceneOf, cursorAt};
-ghost use Rattle.video.specs.Look.{effective, lookOf};
+ghost use Rattle.video.specs.Look.{lookOf};
 ghost use Rattle.shape.specs.Font.{lentFont};
-ghost use Rattle.video.specs.At.{lentRefused};
+ghost use Rattle.video.specs.At.{lentRefused, readingOf, shownCode};
 
 // What is the same for all cells of a scan line: whether the picture is shown, the blank level, BKGND, BLINK, whether this is the
 // underline line and the strike line, whether the cursor gate opens on this line, and at which address.
@@ -19,6 +20,13 @@ pub struct Scene {
     pub strike: bool,
     pub gate: bool,
     pub cursor: u16,
+}
+
+// How a page's cells are read: where the cursor is, whether attributes run on, and whether a cell that sets them has zero dots.
+pub struct Reading {
+    pub cursor: u16,
+    pub runs: bool,
+    pub hidden: bool,
 }
 
 // A cell's two levels, and whether a line lights all its dots.
@@ -89,11 +97,21 @@ pub fn cursor_at(s: Scene, at: usize) -> bool
     s.gate & (at == s.cursor as usize)
 }
 
-// With AFLG 0 the cell has no attributes.
-pub fn effective_of(byte: u8) -> u8
-    ensures { λ r. ⌜ r ≡ effective byte ⌝ }
+pub fn reading_of(p: board::Page) -> Reading
+    ensures { λ r. ⌜ r ≡ readingOf p ⌝ }
 {
-    if byte < 128 { 0 } else { byte }
+    Reading {
+        cursor: p.starts.cursor,
+        runs: board::field_mode(p),
+        hidden: board::setters_hidden(p),
+    }
+}
+
+// The code that a cell with this attribute byte is shown as: 0, which has zero dots, where it sets attributes and such cells are hidden.
+pub fn shown_code(hidden: bool, code: u8, byte: u8) -> u8
+    ensures { λ r. ⌜ r ≡ shownCode hidden code byte ⌝ }
+{
+    if hidden & (128 <= byte) { 0 } else { code }
 }
 
 fn exclusive(a: bool, b: bool) -> bool
@@ -118,7 +136,7 @@ fn symbol_level(e: bool, highlight: bool, hidden: bool) -> u8
     surround_level(!e, highlight)
 }
 
-// The look of a cell from its effective attributes and CURSOR.
+// The look of a cell from the attributes that are valid at it, and CURSOR.
 pub fn look_of(s: Scene, attributes: u8, cursor: bool) -> Look
     ensures { λ r. ⌜ r ≡ lookOf s attributes cursor ⌝ }
 {

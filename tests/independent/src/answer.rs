@@ -2,8 +2,9 @@
 
 use std::io::{BufRead, Write};
 
-use crate::board::Board;
+use crate::board::{Board, Page};
 use crate::calls;
+use crate::files::{page_of_head, page_of_numbers};
 use crate::machine::Shown;
 use crate::registers;
 use crate::script::{board_of_text, board_text, hex, number, small, Buffers, Sum};
@@ -27,12 +28,33 @@ pub fn answer(input: &mut dyn BufRead, output: &mut dyn Write) -> Result<(), Str
     }
 }
 
-/// The column that a board stands in: inactive with 0 resets, with 1, active.
-fn power_state(board: &Board) -> &'static str {
-    match board.resets {
-        0 => "inactive-0",
-        1 => "inactive-1",
-        _ => "active",
+/// POWER and MODE: by the board handed over, or by the page of numbers or file alone.
+#[derive(Clone, Copy)]
+struct Handed {
+    power: &'static str,
+    mode: &'static str,
+}
+
+impl Handed {
+    const NO_PAGE: Handed = Handed { power: "-", mode: "-" };
+
+    /// Inactive with 0 resets, with 1, active.
+    fn board(board: &Board) -> Handed {
+        let power = match board.resets {
+            0 => "inactive-0",
+            1 => "inactive-1",
+            _ => "active",
+        };
+        Handed { power, ..Handed::page(Some(board.page)) }
+    }
+
+    fn page(page: Option<Page>) -> Handed {
+        let mode = match page {
+            None => "-",
+            Some(page) if page.field_mode() => "field",
+            Some(_) => "character",
+        };
+        Handed { power: "-", mode }
     }
 }
 
@@ -140,11 +162,11 @@ impl<'a> Desk<'a> {
         }
     }
 
-    /// "CALL POWER COUNT REFUSAL BESIDE RESULTS BUFFERS"; the number beside a refusal is 0 throughout.
+    /// "CALL POWER MODE COUNT REFUSAL BESIDE RESULTS BUFFERS"; the number beside a refusal is 0 throughout.
     fn report(
         &mut self,
         call: &str,
-        power: &str,
+        handed: Handed,
         count: u32,
         refusal: u32,
         results: &str,
@@ -152,41 +174,49 @@ impl<'a> Desk<'a> {
     ) -> Result<(), String> {
         let buffers = self.buffers.report(lent)?;
         let space = if results.is_empty() { "" } else { " " };
-        self.say(&format!("{} {} {} {} 0{}{}{}", call, power, count, refusal, space, results, buffers))
+        let Handed { power, mode } = handed;
+        self.say(&format!("{} {} {} {} {} 0{}{}{}", call, power, mode, count, refusal, space, results, buffers))
     }
 
-    fn report_board(&mut self, call: &str, power: &str, refusal: u32, lent: &[&str]) -> Result<(), String> {
+    fn report_board(&mut self, call: &str, handed: Handed, refusal: u32, lent: &[&str]) -> Result<(), String> {
         let board = format!("board {}", board_text(&self.board));
-        self.report(call, power, 1, refusal, &board, lent)
+        self.report(call, handed, 1, refusal, &board, lent)
+    }
+
+    /// A call is handed the page of the numbers.
+    fn numbers_handed(&self) -> Handed {
+        Handed::page(page_of_numbers(&self.buffers.numbers))
     }
 
     fn page_check(&mut self) -> Result<(), String> {
         let refusal = calls::page_check(&self.buffers.numbers);
-        self.report("page_check", "-", 1, refusal, "", &["numbers"])
+        self.report("page_check", self.numbers_handed(), 1, refusal, "", &["numbers"])
     }
 
     fn page_size(&mut self) -> Result<(u32, u32, u32), String> {
         let (refusal, lines, dots) = calls::page_size(&self.buffers.numbers);
-        self.report("page_size", "-", 1, refusal, &format!("lines {} dots {}", lines, dots), &["numbers"])?;
+        let results = format!("lines {} dots {}", lines, dots);
+        self.report("page_size", self.numbers_handed(), 1, refusal, &results, &["numbers"])?;
         Ok((refusal, lines, dots))
     }
 
     fn page_read(&mut self) -> Result<(), String> {
         let b = &mut self.buffers;
+        let handed = Handed::page(page_of_head(&b.file));
         let refusal = calls::page_read(&b.file, &mut b.numbers, &mut b.chars, &mut b.attrs);
-        self.report("page_read", "-", 1, refusal, "", &["file", "numbers", "chars", "attrs"])
+        self.report("page_read", handed, 1, refusal, "", &["file", "numbers", "chars", "attrs"])
     }
 
     fn page_write(&mut self) -> Result<(), String> {
         let b = &mut self.buffers;
         let refusal = calls::page_write(&b.numbers, &b.chars, &b.attrs, &mut b.out);
-        self.report("page_write", "-", 1, refusal, "", &["numbers", "chars", "attrs", "out"])
+        self.report("page_write", self.numbers_handed(), 1, refusal, "", &["numbers", "chars", "attrs", "out"])
     }
 
     fn font_read(&mut self) -> Result<(), String> {
         let b = &mut self.buffers;
         let refusal = calls::font_read(&b.file, &mut b.words, &mut b.flags, &mut b.unshifted, &mut b.shifted);
-        self.report("font_read", "-", 1, refusal, "", &["file", "words", "flags", "unshifted", "shifted"])
+        self.report("font_read", Handed::NO_PAGE, 1, refusal, "", &["file", "words", "flags", "unshifted", "shifted"])
     }
 
     fn draw(&mut self, line: u32, field: u8) -> u32 {
@@ -198,7 +228,7 @@ impl<'a> Desk<'a> {
 
     fn report_lines(&mut self, count: u32, refusal: u32, results: &str) -> Result<(), String> {
         let lent = [&["numbers"], &FONT_AND_MEMORIES[..], &["out"]].concat();
-        self.report("line_draw", "-", count, refusal, results, &lent)
+        self.report("line_draw", self.numbers_handed(), count, refusal, results, &lent)
     }
 
     fn line_draw(&mut self, line: u32, field: u8) -> Result<(), String> {
@@ -211,7 +241,7 @@ impl<'a> Desk<'a> {
         let refusal = calls::picture_draw(&self.buffers.numbers, &self.buffers.lent(), field, &mut out);
         self.buffers.out = out;
         let lent = [&["numbers"], &FONT_AND_MEMORIES[..], &["out"]].concat();
-        self.report("picture_draw", "-", 1, refusal, "", &lent)?;
+        self.report("picture_draw", self.numbers_handed(), 1, refusal, "", &lent)?;
         Ok(refusal)
     }
 
@@ -221,7 +251,7 @@ impl<'a> Desk<'a> {
     }
 
     fn report_cells(&mut self, count: u32, refusal: u32, results: &str) -> Result<(), String> {
-        self.report("row_cells", "-", count, refusal, results, &["numbers", "chars", "cells"])
+        self.report("row_cells", self.numbers_handed(), count, refusal, results, &["numbers", "chars", "cells"])
     }
 
     fn row_cells(&mut self, row: u32) -> Result<(), String> {
@@ -231,47 +261,48 @@ impl<'a> Desk<'a> {
 
     fn row_run(&mut self, row: u32) -> Result<(), String> {
         let (refusal, first, count) = calls::row_run(&self.buffers.numbers, &self.buffers.chars, row);
-        self.report("row_run", "-", 1, refusal, &format!("first {} count {}", first, count), &["numbers", "chars"])
+        let results = format!("first {} count {}", first, count);
+        self.report("row_run", self.numbers_handed(), 1, refusal, &results, &["numbers", "chars"])
     }
 
     fn power(&mut self) -> Result<(), String> {
-        self.board = Board::default();
-        self.report_board("power", "-", 0, &[])
+        self.board = Board::power();
+        self.report_board("power", Handed::NO_PAGE, 0, &[])
     }
 
     fn board_of(&mut self) -> Result<(), String> {
         let (refusal, board) = calls::board_of(&self.buffers.numbers);
         self.board = board;
-        self.report_board("board_of", "-", refusal, &["numbers"])
+        self.report_board("board_of", self.numbers_handed(), refusal, &["numbers"])
     }
 
     fn numbers_of(&mut self) -> Result<(), String> {
         let refusal = calls::numbers_of(&self.board, &mut self.buffers.numbers);
-        self.report("numbers_of", power_state(&self.board), 1, refusal, "", &["numbers"])
+        self.report("numbers_of", Handed::board(&self.board), 1, refusal, "", &["numbers"])
     }
 
     fn set_video(&mut self, dots: u8, strike: u8, bkgnd: u8, rblank: u8) -> Result<(), String> {
-        let power = power_state(&self.board);
+        let handed = Handed::board(&self.board);
         let refusal = registers::set_video(&mut self.board, dots, strike, bkgnd != 0, rblank != 0);
-        self.report_board("set_video", power, refusal, &[])
+        self.report_board("set_video", handed, refusal, &[])
     }
 
     fn write(&mut self, address: u8, byte: u8) -> Result<(), String> {
-        let power = power_state(&self.board);
+        let handed = Handed::board(&self.board);
         let refusal = registers::write(&mut self.board, address, byte);
-        self.report_board("write", power, refusal, &[])
+        self.report_board("write", handed, refusal, &[])
     }
 
     fn read(&mut self, address: u8) -> Result<(), String> {
         let (refusal, byte) = registers::read(&self.board, address);
-        self.report("read", power_state(&self.board), 1, refusal, &format!("byte {}", byte), &[])
+        self.report("read", Handed::board(&self.board), 1, refusal, &format!("byte {}", byte), &[])
     }
 
     fn state_at(&mut self, n: u32) -> Result<(), String> {
-        let power = power_state(&self.board);
+        let handed = Handed::board(&self.board);
         let (refusal, board) = calls::state_at(&self.board, &self.buffers.chars, &self.buffers.attrs, n);
         self.board = board.ok_or_else(|| format!("the two ways differ at clock {}", n))?;
-        self.report_board("state_at", power, refusal, &["chars", "attrs"])
+        self.report_board("state_at", handed, refusal, &["chars", "attrs"])
     }
 
     /// One step more, added to the run of them.
@@ -294,7 +325,7 @@ impl<'a> Desk<'a> {
     fn report_steps(&mut self, steps: &Steps) -> Result<(), String> {
         let results = format!("sum {:016x} {} board {}", steps.sum.0, shown_text(&steps.last), board_text(&self.board));
         let count = if steps.refusal == 0 { steps.done } else { 1 };
-        self.report("step", power_state(&self.board), count, steps.refusal, &results, &FONT_AND_MEMORIES)
+        self.report("step", Handed::board(&self.board), count, steps.refusal, &results, &FONT_AND_MEMORIES)
     }
 
     fn step(&mut self, count: u32) -> Result<(), String> {
@@ -403,5 +434,7 @@ fn add_step(sum: &mut Sum, shown: &Shown, board: &Board) {
     sum.add(board.place.line);
     sum.add(board.place.clock);
     sum.add(u32::from(board.place.address));
+    sum.add(u32::from(board.place.latch));
     sum.add(u32::from(board.place.row_start));
+    sum.add(u32::from(board.place.row_latch));
 }

@@ -1,4 +1,4 @@
-//! What a board holds (01 "The board that is built") and what its registers say (01 "Register fields").
+//! What a board holds (01 "The board that is built", 02 R-1) and what its registers say (01 "Register fields").
 //! Only 01's table of fields is here; both ways of drawing read it and share nothing else.
 
 pub const MEMORY: usize = 16384;
@@ -8,6 +8,8 @@ pub const FONT_LIST: usize = 9;
 
 #[derive(Clone, Copy, PartialEq, Eq, Debug, Default)]
 pub struct Page {
+    /// In a board any byte; one that is neither 1 nor 2 counts as 1.
+    pub version: u8,
     pub irs: [u8; 15],
     pub start1: u16,
     pub cursor: u16,
@@ -23,10 +25,13 @@ pub struct Place {
     pub line: u32,
     pub clock: u32,
     pub address: u16,
+    /// The attribute byte that is valid now, 0 for none.
+    pub latch: u8,
     pub row_start: u16,
+    /// The one that the row began with.
+    pub row_latch: u8,
 }
 
-/// "Power gives zeros throughout": the default.
 #[derive(Clone, Copy, PartialEq, Eq, Debug, Default)]
 pub struct Board {
     pub page: Page,
@@ -52,6 +57,11 @@ pub struct Font<'a> {
 }
 
 impl Board {
+    /// "Power gives zeros throughout"; R-1: "a board keeps its page's version, 1 after power"
+    pub fn power() -> Board {
+        Board { page: Page::power(), ..Board::default() }
+    }
+
     /// "A page read gives an active board at clock 0, pointer at IR0."
     pub fn of_page(page: Page) -> Board {
         Board { page, resets: 2, ..Board::default() }
@@ -69,6 +79,10 @@ impl Board {
 }
 
 impl Page {
+    pub fn power() -> Page {
+        Page { version: 1, ..Page::default() }
+    }
+
     fn ir(&self, number: usize, high: u32, low: u32) -> u32 {
         (u32::from(self.irs[number]) >> low) & ((1 << (high - low + 1)) - 1)
     }
@@ -161,6 +175,21 @@ impl Page {
     }
     pub fn rblank(&self) -> bool {
         self.switches & 8 != 0
+    }
+    /// "Field mode and ACD are switches 4 and 5 of page file version 2"; version 1 "means character mode".
+    pub fn field_mode(&self) -> bool {
+        self.known_version() == 2 && self.switches & 16 != 0
+    }
+    pub fn acd(&self) -> bool {
+        self.switches & 32 != 0
+    }
+    /// What the version counts as, and what numbers and files of the page say.
+    pub fn known_version(&self) -> u8 {
+        if self.version == 2 {
+            2
+        } else {
+            1
+        }
     }
 
     /// "clocks per line HT = 2(EC + 2 HSYNC)"

@@ -23,7 +23,7 @@ pub fn page_size(numbers: &[u8]) -> (u32, u32, u32) {
 }
 
 pub fn page_read(file: &[u8], numbers: &mut [u8], chars: &mut [u8], attrs: &mut [u8]) -> u32 {
-    let mut faults = judge::file(file, files::PAGE_LENGTH);
+    let mut faults = judge::file(file, &files::PAGE_VERSIONS, files::PAGE_LENGTH);
     faults.extend([(3, numbers.len() != files::NUMBERS), judge::memory(chars), judge::memory(attrs)]);
     if judge::first(&faults) != 0 {
         return judge::first(&faults);
@@ -55,7 +55,7 @@ pub fn page_write(numbers: &[u8], chars: &[u8], attrs: &[u8], out: &mut [u8]) ->
 }
 
 pub fn font_read(file: &[u8], words: &mut [u16], flags: &mut [u8], unshifted: &mut [u8], shifted: &mut [u8]) -> u32 {
-    let mut faults = judge::file(file, files::FONT_LENGTH);
+    let mut faults = judge::file(file, &files::FONT_VERSIONS, files::FONT_LENGTH);
     faults.extend(judge::font(&Font { words, flags, unshifted, shifted }));
     let refusal = judge::first(&faults);
     if refusal == 0 {
@@ -152,7 +152,7 @@ pub fn row_cells(numbers: &[u8], chars: &[u8], row: u32, cells: &mut [u16]) -> (
 pub fn board_of(numbers: &[u8]) -> (u32, Board) {
     match (page_check(numbers), page_of_numbers(numbers)) {
         (0, Some(page)) => (0, Board::of_page(page)),
-        (refusal, _) => (refusal, Board::default()),
+        (refusal, _) => (refusal, Board::power()),
     }
 }
 
@@ -183,8 +183,8 @@ pub fn state_at(board: &Board, chars: &[u8], attrs: &[u8], n: u32) -> (u32, Opti
     if refusal != 0 {
         return (refusal, Some(*board));
     }
-    let worked_out = Board { place: sheet::place_at(&board.page, chars, n), ..*board };
-    let stepped = machine::state_at(board, chars, n);
+    let worked_out = Board { place: sheet::place_at(&board.page, chars, attrs, n), ..*board };
+    let stepped = machine::state_at(board, chars, attrs, n);
     (0, Some(worked_out).filter(|&at| at == stepped))
 }
 

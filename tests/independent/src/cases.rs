@@ -1,4 +1,5 @@
-//! 01 "Numbers on both sides": cases A1 to A10 and the listing, in both ways of this program.
+//! 01 "Numbers on both sides": cases A1 to A10 and the listing, in both ways of this program; and a page for R-1, drawn
+//! by hand.
 
 use crate::board::{Board, Font, Lent, Page};
 use crate::files::{self, numbers_of};
@@ -7,7 +8,7 @@ use crate::{calls, machine, sheet};
 
 /// "HSYNC 8, HBP 7"; 24 rows of 10, VFP 4, VSYNC 3, VBP 20 as in A5.
 pub fn page(hact: u32, ec: u32) -> Page {
-    let mut page = Page { switches: 1, dots: 8, ..Page::default() };
+    let mut page = Page { switches: 1, dots: 8, ..Page::power() };
     page.irs[0] = 9 << 3;
     page.irs[1] = (ec - 1) as u8;
     page.irs[2] = 3 << 3 | 2;
@@ -28,7 +29,7 @@ pub fn page_in_buffer(first: u16, last: u16, start1: u16) -> Page {
 
 /// "One row of one cell, two lines, HSYNC 2, HBP 3, EC 1, 8 dots, display on"
 pub fn example_page() -> Page {
-    let mut page = Page { switches: 1, dots: 8, ..Page::default() };
+    let mut page = Page { switches: 1, dots: 8, ..Page::power() };
     page.irs[0] = 1 << 3;
     page.irs[2] = 1;
     page
@@ -60,8 +61,8 @@ impl OneCell {
         Lent { chars: &self.chars, attrs: &self.attrs, font }
     }
 
-    pub fn listing_input(&self) -> Vec<u8> {
-        [files::page_file(&example_page(), &self.chars, &self.attrs), files::font_file(&self.lent().font)].concat()
+    pub fn listing_input(&self, page: &Page) -> Vec<u8> {
+        [files::page_file(page, &self.chars, &self.attrs), files::font_file(&self.lent().font)].concat()
     }
 }
 
@@ -81,11 +82,11 @@ fn first_line(page: &Page, attr: u8) -> Option<String> {
 fn fetched(page: &Page, row: u32) -> Option<Vec<u16>> {
     let cell = OneCell::new(0);
     let line = row * page.lines_per_row() * page.ht();
-    let mut board = machine::state_at(&Board::of_page(*page), &cell.chars, line);
+    let mut board = machine::state_at(&Board::of_page(*page), &cell.chars, &cell.attrs, line);
     let stepped: Vec<u16> = (0..page.hact()).map(|_| machine::step(&mut board, &cell.lent()).address).collect();
     let column = |c: u32| match c {
         0 => sheet::row_start(page, &cell.chars, row),
-        _ => sheet::place_at(page, &cell.chars, line + c).address,
+        _ => sheet::place_at(page, &cell.chars, &cell.attrs, line + c).address,
     };
     let worked_out: Vec<u16> = (0..page.hact()).map(column).collect();
     Some(stepped).filter(|stepped| *stepped == worked_out)
@@ -115,6 +116,7 @@ pub fn all() -> Vec<(&'static str, bool)> {
     cases.extend(address_cases());
     cases.extend(dot_cases());
     cases.extend(listing_cases());
+    cases.extend(field_cases());
     cases
 }
 
@@ -154,23 +156,100 @@ fn dot_cases() -> Vec<(&'static str, bool)> {
 }
 
 fn listing_cases() -> Vec<(&'static str, bool)> {
-    let input = OneCell::new(0).listing_input();
+    let input = OneCell::new(0).listing_input(&example_page());
     let damaged = |places: &[(usize, u8)]| {
         let mut bytes = input.clone();
         places.iter().for_each(|&(at, byte)| bytes[at] = byte);
         listing(&bytes)
     };
-    let (page_dots, font_version) = (5 + 22, files::PAGE_FILE);
+    let (page_switches, page_dots, font_version) = (5 + 21, 5 + 22, files::PAGE_FILE);
+    let whole = "2 8\no.....o.\nooooooo.\n";
     vec![
-        ("the listing", listing(&input) == "2 8\no.....o.\nooooooo.\n"),
+        ("the listing", listing(&input) == whole),
         ("no byte at all", listing(&[]) == "refused 1\n"),
         ("part of a page", listing(&input[..100]) == "refused 2\n"),
         ("no font byte", listing(&input[..files::PAGE_FILE]) == "refused 1\n"),
         ("a font byte too many", listing(&[&input[..], &[0]].concat()) == "refused 2\n"),
-        ("a page of version 2", damaged(&[(0, 2)]) == "refused 1\n"),
+        ("a page of version 0", damaged(&[(0, 0)]) == "refused 1\n"),
+        ("a page of version 3", damaged(&[(0, 3)]) == "refused 1\n"),
+        ("a page of version 2", damaged(&[(0, 2)]) == whole),
+        ("switch 4 in version 1", damaged(&[(page_switches, 0x11)]) == "refused 12\n"),
+        ("switch 4 in version 2", damaged(&[(0, 2), (page_switches, 0x11)]) == whole),
+        ("switch 5 in version 1", damaged(&[(page_switches, 0x21)]) == "refused 12\n"),
+        ("switch 5 in version 2", damaged(&[(0, 2), (page_switches, 0x21)]) == whole),
+        ("switch 6 in version 2", damaged(&[(0, 2), (page_switches, 0x41)]) == "refused 12\n"),
+        ("switch 7 in version 2", damaged(&[(0, 2), (page_switches, 0x81)]) == "refused 12\n"),
         ("a font of version 2", damaged(&[(font_version, 2)]) == "refused 1\n"),
         ("five dots", damaged(&[(page_dots, 5)]) == "refused 6\n"),
         ("page first", damaged(&[(page_dots, 5), (font_version, 2)]) == "refused 6\n"),
+    ]
+}
+
+/// Two rows of three cells, all with 01's character. Cell 1 sets reverse, cell 5 highlight and underline, which is on scan
+/// line 0; cell 2 has bits without AFLG.
+fn six_cells(version: u8, switches: u8) -> (Page, OneCell) {
+    let mut page = Page { version, switches: 1 | switches, ..example_page() };
+    page.irs[4] = 1;
+    page.irs[5] = 2;
+    let mut cells = OneCell::new(0);
+    cells.chars[..6].fill(0x81);
+    cells.attrs[..6].copy_from_slice(&[0, 0x81, 0x11, 0, 0, 0x98]);
+    (page, cells)
+}
+
+/// The listing of the six cells; `None` where steps show another picture, in frame 0 or in frame 1.
+fn six_listed(version: u8, switches: u8) -> Option<String> {
+    let (page, cells) = six_cells(version, switches);
+    let listed = listing(&cells.listing_input(&page));
+    let mut board = Board::of_page(page);
+    let same = (0..2).all(|_| format!("4 24\n{}", frame_text(&mut board, &cells.lent())) == listed);
+    Some(listed).filter(|_| same)
+}
+
+/// What the steps of a frame show, in the letters of a listing.
+fn frame_text(board: &mut Board, lent: &Lent) -> String {
+    let page = board.page;
+    let mut text = String::new();
+    for _ in 0..page.frame_clocks() {
+        let (line, clock) = (board.place.line, board.place.clock);
+        let shown = machine::step(board, lent);
+        if line < page.visible_lines() && clock < page.hact() {
+            text.extend(shown.dots[..page.dots as usize].iter().map(|&level| ['.', 'o', '#'][usize::from(level)]));
+            text.push_str(if clock + 1 == page.hact() { "\n" } else { "" });
+        }
+    }
+    text
+}
+
+fn field_cases() -> Vec<(&'static str, bool)> {
+    let is = |version: u8, switches: u8, lines: [&str; 4]| {
+        let cells: String = lines.iter().map(|line| line.replace(' ', "") + "\n").collect();
+        six_listed(version, switches) == Some(format!("4 24\n{}", cells))
+    };
+    let character = [
+        "o.....o. .ooooo.o o.....o.",
+        "ooooooo. .......o ooooooo.",
+        "o.....o. o.....o. ########",
+        "ooooooo. ooooooo. #######.",
+    ];
+    let acd_low = [
+        "o.....o. oooooooo .ooooo.o",
+        "ooooooo. oooooooo .......o",
+        ".ooooo.o .ooooo.o ########",
+        ".......o .......o ........",
+    ];
+    let acd_high = [
+        "o.....o. .ooooo.o .ooooo.o",
+        "ooooooo. .......o .......o",
+        ".ooooo.o .ooooo.o ########",
+        ".......o .......o #######.",
+    ];
+    vec![
+        ("R-1 version 1", is(1, 0, character)),
+        ("R-1 character mode", is(2, 0, character)),
+        ("R-1 character mode, ACD high", is(2, 0x20, character)),
+        ("R-1 ACD low", is(2, 0x10, acd_low)),
+        ("R-1 ACD high", is(2, 0x30, acd_high)),
     ]
 }
 

@@ -1,5 +1,5 @@
-//! Compares two streams of answers script by script and counts call by answer number by power state. A case
-//! counts only where its whole script was the same on both sides.
+//! Compares two streams of answers script by script and counts call by answer number by power state and mode. A
+//! case counts only where its whole script was the same on both sides.
 
 use std::collections::BTreeMap;
 use std::io::BufRead;
@@ -12,12 +12,26 @@ const INACTIVE: &[&str] = &["inactive-0", "inactive-1"];
 const ACTIVE: &[&str] = &["active"];
 const EVERY_POWER: &[&str] = &["inactive-0", "inactive-1", "active"];
 
-/// Which answers a call may give in a power state, and 01's words for it.
+const NO_PAGE: &[&str] = &["-"];
+const BOTH: &[&str] = &["character", "field"];
+
+/// Which answers a call may give in a power state and a mode, and 01's words for it.
 struct Allowed {
     call: &'static str,
     powers: &'static [&'static str],
+    modes: &'static [&'static str],
     numbers: &'static [u32],
     words: &'static str,
+}
+
+const fn allowed(
+    call: &'static str,
+    powers: &'static [&'static str],
+    modes: &'static [&'static str],
+    numbers: &'static [u32],
+    words: &'static str,
+) -> Allowed {
+    Allowed { call, powers, modes, numbers, words }
 }
 
 const FILES: &str = "Files give 1, 2 (reading only), 3, 12, 4, 5, 6";
@@ -25,29 +39,39 @@ const DRAWING: &str = "Drawing, stepping, states and runs give 3 to 8 and 12";
 const REGISTERS: &str = "Register calls give 12, 7 (for the pointer only), 9, 10";
 
 /// Every cell of the table that 01 allows. A page's numbers hold no place and no pointer, so that calls which
-/// take them have no 7 but for an asked line or row; 8 needs a buffer for dots.
+/// take them have no 7 but for an asked line or row; 8 needs a buffer for dots. Numbers that are no page are 3.
 const ALLOWED: &[Allowed] = &[
-    Allowed { call: "page_check", powers: NO_BOARD, numbers: &[0, 3, 12, 4, 5, 6], words: FILES },
-    Allowed { call: "page_size", powers: NO_BOARD, numbers: &[0, 3, 12, 4, 5, 6], words: FILES },
-    Allowed { call: "page_read", powers: NO_BOARD, numbers: &[0, 1, 2, 3, 12, 4, 5, 6], words: FILES },
-    Allowed { call: "page_write", powers: NO_BOARD, numbers: &[0, 3, 12, 4, 5, 6], words: FILES },
-    Allowed { call: "font_read", powers: NO_BOARD, numbers: &[0, 1, 2, 3], words: FILES },
-    Allowed { call: "line_draw", powers: NO_BOARD, numbers: &[0, 3, 12, 4, 5, 6, 7, 8], words: DRAWING },
-    Allowed { call: "picture_draw", powers: NO_BOARD, numbers: &[0, 3, 12, 4, 5, 6, 8], words: DRAWING },
-    Allowed { call: "row_run", powers: NO_BOARD, numbers: &[0, 3, 12, 4, 5, 6, 7], words: DRAWING },
-    Allowed { call: "row_cells", powers: NO_BOARD, numbers: &[0, 3, 12, 4, 5, 6, 7], words: DRAWING },
-    Allowed { call: "power", powers: NO_BOARD, numbers: &[0], words: "Power gives zeros throughout" },
-    Allowed { call: "board_of", powers: NO_BOARD, numbers: &[0, 3, 12, 4, 5, 6], words: FILES },
-    Allowed { call: "numbers_of", powers: EVERY_POWER, numbers: &[0, 3, 12, 4, 5, 6], words: FILES },
-    Allowed { call: "set_video", powers: EVERY_POWER, numbers: &[0, 12, 6], words: "refusing 12, then 6" },
-    Allowed { call: "write", powers: INACTIVE, numbers: &[0, 12, 7, 9], words: "after 9 an inactive board answers 0" },
-    Allowed { call: "write", powers: ACTIVE, numbers: &[0, 12, 7, 9, 10], words: REGISTERS },
-    Allowed { call: "read", powers: EVERY_POWER, numbers: &[0, 12, 7, 9], words: REGISTERS },
-    Allowed { call: "state_at", powers: EVERY_POWER, numbers: &[0, 3, 12, 4, 5, 6, 7], words: DRAWING },
-    Allowed { call: "step", powers: EVERY_POWER, numbers: &[0, 3, 12, 4, 5, 6, 7], words: DRAWING },
+    allowed("page_check", NO_BOARD, NO_PAGE, &[3], FILES),
+    allowed("page_check", NO_BOARD, BOTH, &[0, 12, 4, 5, 6], FILES),
+    allowed("page_size", NO_BOARD, NO_PAGE, &[3], FILES),
+    allowed("page_size", NO_BOARD, BOTH, &[0, 12, 4, 5, 6], FILES),
+    allowed("page_read", NO_BOARD, NO_PAGE, &[1, 2], FILES),
+    allowed("page_read", NO_BOARD, BOTH, &[0, 2, 3, 12, 4, 5, 6], FILES),
+    allowed("page_write", NO_BOARD, NO_PAGE, &[3], FILES),
+    allowed("page_write", NO_BOARD, BOTH, &[0, 3, 12, 4, 5, 6], FILES),
+    allowed("font_read", NO_BOARD, NO_PAGE, &[0, 1, 2, 3], FILES),
+    allowed("line_draw", NO_BOARD, NO_PAGE, &[3], DRAWING),
+    allowed("line_draw", NO_BOARD, BOTH, &[0, 3, 12, 4, 5, 6, 7, 8], DRAWING),
+    allowed("picture_draw", NO_BOARD, NO_PAGE, &[3], DRAWING),
+    allowed("picture_draw", NO_BOARD, BOTH, &[0, 3, 12, 4, 5, 6, 8], DRAWING),
+    allowed("row_run", NO_BOARD, NO_PAGE, &[3], DRAWING),
+    allowed("row_run", NO_BOARD, BOTH, &[0, 3, 12, 4, 5, 6, 7], DRAWING),
+    allowed("row_cells", NO_BOARD, NO_PAGE, &[3], DRAWING),
+    allowed("row_cells", NO_BOARD, BOTH, &[0, 3, 12, 4, 5, 6, 7], DRAWING),
+    allowed("power", NO_BOARD, NO_PAGE, &[0], "Power gives zeros throughout"),
+    allowed("board_of", NO_BOARD, NO_PAGE, &[3], FILES),
+    allowed("board_of", NO_BOARD, BOTH, &[0, 12, 4, 5, 6], FILES),
+    allowed("numbers_of", EVERY_POWER, BOTH, &[0, 3, 12, 4, 5, 6], FILES),
+    allowed("set_video", EVERY_POWER, BOTH, &[0, 12, 6], "refusing 12, then 6"),
+    allowed("write", INACTIVE, BOTH, &[0, 12, 7, 9], "after 9 an inactive board answers 0"),
+    allowed("write", ACTIVE, BOTH, &[0, 12, 7, 9, 10], REGISTERS),
+    allowed("read", EVERY_POWER, BOTH, &[0, 12, 7, 9], REGISTERS),
+    allowed("state_at", EVERY_POWER, BOTH, &[0, 3, 12, 4, 5, 6, 7], DRAWING),
+    allowed("step", EVERY_POWER, BOTH, &[0, 3, 12, 4, 5, 6, 7], DRAWING),
 ];
 
-type Tally = BTreeMap<(String, String, u32), u64>;
+/// How often a call gave a number in a power state and a mode.
+type Tally = BTreeMap<(String, String, String, u32), u64>;
 
 /// One script's answers.
 struct Block {
@@ -169,50 +193,55 @@ fn frame_that_differs(block: &Block) -> Option<String> {
     Some(format!("steps, lines, picture and cells differ on both sides: {}", line))
 }
 
-/// An answer's line begins "CALL POWER COUNT REFUSAL".
+/// An answer's line begins "CALL POWER MODE COUNT REFUSAL".
 fn count(tally: &mut Tally, line: &str) {
     let words: Vec<&str> = line.split(' ').collect();
-    if let [call, power, count, refusal, ..] = words[..] {
+    if let [call, power, mode, count, refusal, ..] = words[..] {
         if let (Ok(count), Ok(refusal)) = (count.parse::<u64>(), refusal.parse()) {
-            *tally.entry((call.to_string(), power.to_string(), refusal)).or_insert(0) += count;
+            *tally.entry((call.to_string(), power.to_string(), mode.to_string(), refusal)).or_insert(0) += count;
         }
     }
-}
-
-fn met(tally: &Tally, call: &str, power: &str, number: u32) -> u64 {
-    tally.get(&(call.to_string(), power.to_string(), number)).copied().unwrap_or(0)
 }
 
 /// Gives how many allowed cells are empty.
 fn print_table(tally: &Tally) -> u64 {
     let mut empty = 0;
-    print!("{:<13}{:<11}", "call", "power");
+    print!("{:<13}{:<11}{:<10}", "call", "power", "mode");
     NUMBERS.iter().for_each(|number| print!("{:>9}", number));
     println!();
     for row in ALLOWED {
         for power in row.powers {
-            print!("{:<13}{:<11}", row.call, power);
-            for number in NUMBERS {
-                let count = met(tally, row.call, power, number);
-                let text = match (row.numbers.contains(&number), count) {
-                    (true, 0) => "EMPTY".to_string(),
-                    (false, 0) => ".".to_string(),
-                    _ => count.to_string(),
-                };
-                empty += u64::from(text == "EMPTY");
-                print!("{:>9}", text);
+            for mode in row.modes {
+                empty += print_row(tally, row, power, mode);
             }
-            println!("   {}", row.words);
         }
     }
     empty
 }
 
+fn print_row(tally: &Tally, row: &Allowed, power: &str, mode: &str) -> u64 {
+    let mut empty = 0;
+    print!("{:<13}{:<11}{:<10}", row.call, power, mode);
+    for number in NUMBERS {
+        let key = (row.call.to_string(), power.to_string(), mode.to_string(), number);
+        let text = match (row.numbers.contains(&number), tally.get(&key)) {
+            (_, Some(count)) => count.to_string(),
+            (true, None) => "EMPTY".to_string(),
+            (false, None) => ".".to_string(),
+        };
+        empty += u64::from(text == "EMPTY");
+        print!("{:>9}", text);
+    }
+    println!("   {}", row.words);
+    empty
+}
+
 /// Cells that were met and are not allowed.
 fn strange(tally: &Tally) -> Vec<String> {
-    let allowed = |call: &str, power: &str, number: u32| {
-        ALLOWED.iter().any(|row| row.call == call && row.powers.contains(&power) && row.numbers.contains(&number))
+    let allowed = |call: &str, power: &str, mode: &str, number: u32| {
+        let here = |row: &&Allowed| row.call == call && row.powers.contains(&power) && row.modes.contains(&mode);
+        ALLOWED.iter().filter(here).any(|row| row.numbers.contains(&number))
     };
-    let cells = tally.keys().filter(|(call, power, number)| !allowed(call, power, *number));
-    cells.map(|(call, power, number)| format!("{} {} {}", call, power, number)).collect()
+    let cells = tally.keys().filter(|(call, power, mode, number)| !allowed(call, power, mode, *number));
+    cells.map(|(call, power, mode, number)| format!("{} {} {} {}", call, power, mode, number)).collect()
 }

@@ -1,11 +1,12 @@
 //! The fixed scripts for 01's corners: each command byte, each width, the smallest and largest pages, its
 //! cases, phrases, wraps, tables at the end of memory, fields past 255, the last clocks, rooms of every size, saved boards,
-//! files, and nothing at all.
+//! files, and nothing at all. Those for R-1 are in `latches`.
 
 use crate::board::{Board, Page};
 use crate::cases;
-use crate::dice::{page, Dice, Shape};
+use crate::dice::{in_field_mode, in_version_1, page, Dice, Shape};
 use crate::files::{bytes_of, page_of, FONT_FILE, PAGE_FILE};
+use crate::latches;
 use crate::make::{Maker, Script};
 use crate::script::hex;
 use crate::stage::{cursor_in_sight, lines, rows, set_up, show, states, table};
@@ -19,7 +20,8 @@ fn named(name: impl Into<String>, write: impl Fn(&mut Script, &mut Dice) + 'stat
 pub fn all() -> Vec<Maker> {
     let mut all = Vec::new();
     for resets in POWERS {
-        for switches in [0, 15] {
+        // 63 is a page of version 2, with field mode and ACD
+        for switches in [0, 15, 63] {
             let name = format!("commands-{}-{}", resets, switches);
             all.push(named(name, move |script, _| commands(script, resets, switches)));
         }
@@ -37,10 +39,12 @@ pub fn all() -> Vec<Maker> {
         named("cells-rooms", cells_rooms),
         named("saved", saved),
         named("resets", resets_in_a_row),
-        named("page-files", page_files),
+        named("page-files", |script, dice| page_files(script, dice, in_version_1)),
+        named("page-files-in-field-mode", |script, dice| page_files(script, dice, |page| in_field_mode(page, false))),
         named("font-files", font_files),
         named("nothing", nothing),
     ]);
+    all.extend(latches::boards());
     all
 }
 
@@ -63,6 +67,7 @@ pub fn pages() -> Vec<Maker> {
         named("phrases", phrases),
         named("table-at-16383", table_at_the_end),
     ]);
+    all.extend(latches::pages());
     all
 }
 
@@ -84,9 +89,12 @@ fn some_page(dice: &mut Dice) -> Page {
 
 /// Every command byte on the same board.
 fn commands(script: &mut Script, resets: u8, switches: u8) {
-    let page = Page { switches, start1: 1, cursor: 2, start2: 3, dots: 8, ..cases::page(80, 35) };
+    let version = if switches < 16 { 1 } else { 2 };
+    let page = Page { version, switches, start1: 1, cursor: 2, start2: 3, dots: 8, ..cases::page(80, 35) };
     let mut board = Board { resets, pointer: 5, ..Board::of_page(page) };
     board.place.line = 7;
+    board.place.latch = 0x95;
+    board.place.row_latch = 0x3C;
     script.board(&board);
     for byte in 0..=255 {
         script.say("board");
@@ -119,7 +127,7 @@ fn off(script: &mut Script, dice: &mut Dice, resets: u8) {
         page.switches = page.switches & !1 | display;
         let chars = script.chars(dice);
         cursor_in_sight(dice, &mut page, &chars);
-        set_up(script, dice, &page, resets);
+        set_up(script, dice, &page, &chars, resets);
         show(script, dice, &page);
     }
 }
@@ -135,7 +143,7 @@ fn width(script: &mut Script, dice: &mut Dice, dots: u32, row_table: bool) {
             table(script, dice, &page, &mut chars, &starts);
         }
         cursor_in_sight(dice, &mut page, &chars);
-        set_up(script, dice, &page, 2);
+        set_up(script, dice, &page, &chars, 2);
         show(script, dice, &page);
     }
 }
@@ -145,18 +153,18 @@ fn extreme(script: &mut Script, dice: &mut Dice, hact: u32, rows: u32, lines: u3
     let mut page = page(dice, shape);
     let chars = script.chars(dice);
     cursor_in_sight(dice, &mut page, &chars);
-    set_up(script, dice, &page, 2);
+    set_up(script, dice, &page, &chars, 2);
     show(script, dice, &page);
 }
 
-/// "HT is at most 384, a frame at most 826,752 clocks."
+/// "HT is at most 384, a frame at most 826,752 clocks." In field mode, which reaches over all of it.
 fn longest_frame(script: &mut Script, dice: &mut Dice) {
-    let mut page = Page { switches: 3, dots: 12, start1: 16000, strike: 15, ..Page::default() };
+    let mut page = Page { version: 2, switches: 0x13, dots: 12, start1: 16000, strike: 15, ..Page::power() };
     page.irs = [0x78, 127, 0x7F, 0xFF, 127, 255, 0x0F, 0xC0 | 15, 255, 0x0F, 0, 0, 0, 0, 0];
     assert_eq!(page.frame_clocks(), 826_752);
     let chars = script.chars(dice);
     cursor_in_sight(dice, &mut page, &chars);
-    set_up(script, dice, &page, 2);
+    set_up(script, dice, &page, &chars, 2);
     script.frame_of(&page, 255);
     states(script, dice, &page);
 }
@@ -167,20 +175,20 @@ fn timing_cases(script: &mut Script, dice: &mut Dice) {
         script.say("call page_check");
         script.say("call page_size");
     }
-    script.chars(dice);
-    set_up(script, dice, &cases::page(80, 35), 2);
+    let chars = script.chars(dice);
+    set_up(script, dice, &cases::page(80, 35), &chars, 2);
     script.frame_of(&cases::page(80, 35), 48);
 }
 
 fn address_cases(script: &mut Script, dice: &mut Dice) {
-    script.chars(dice);
+    let chars = script.chars(dice);
     for (first, last, start) in [(0, 1023, 1000), (2048, 3071, 0), (4095, 1023, 16300), (4095, 1023, 1000)] {
         let mut page = cases::page_in_buffer(first, last, start);
         page.irs[0] = 0;
         page.irs[4] = 2;
         page.cursor = first;
         page.switches = 3;
-        set_up(script, dice, &page, 2);
+        set_up(script, dice, &page, &chars, 2);
         rows(script, dice, &page);
         script.say("every 1");
         script.say(format!("call step {}", 2 * page.ht()));
@@ -189,7 +197,7 @@ fn address_cases(script: &mut Script, dice: &mut Dice) {
     }
 }
 
-/// 01's one cell with every width, and with every set of attributes and switches on 8 dots.
+/// 01's one cell with every width, and with every set of attributes and switches on 8 dots, in both modes.
 fn dot_cases(script: &mut Script, _: &mut Dice) {
     script.say("fill chars 16384 0");
     script.say("set chars 0 81");
@@ -205,13 +213,16 @@ fn dot_cases(script: &mut Script, _: &mut Dice) {
         script.say("call board_of");
         script.say("frame");
     }
-    for switches in 0..16 {
-        script.numbers(&Page { switches, ..cases::example_page() });
-        script.say("call board_of");
-        script.say("fill out 8 0");
-        for attr in 0..=255_u8 {
-            script.say(format!("set attrs 0 {}", hex(&[attr])));
-            script.say(format!("call line_draw {} {}", attr % 2, attr));
+    for mode in [0x00, 0x10, 0x30] {
+        let version = if mode == 0 { 1 } else { 2 };
+        for switches in 0..16 {
+            script.numbers(&Page { version, switches: switches | mode, ..cases::example_page() });
+            script.say("call board_of");
+            script.say("fill out 8 0");
+            for attr in 0..=255_u8 {
+                script.say(format!("set attrs 0 {}", hex(&[attr])));
+                script.say(format!("call line_draw {} {}", attr % 2, attr));
+            }
         }
     }
 }
@@ -230,7 +241,7 @@ fn phrases(script: &mut Script, dice: &mut Dice) {
         table(script, dice, &page, &mut chars, &[at_last, at_end, at_last, 7000, at_end]);
         // the cursor stands on a cell that two rows show
         page.cursor = dice.pick(&[at_last, at_end, 0, page.first_address(), 16383]);
-        set_up(script, dice, &page, 2);
+        set_up(script, dice, &page, &chars, 2);
         show(script, dice, &page);
         script.numbers(&page);
         rows(script, dice, &page);
@@ -273,7 +284,7 @@ fn table_at_the_end(script: &mut Script, dice: &mut Dice) {
         page.start2 = start2;
         let chars = script.chars(dice);
         cursor_in_sight(dice, &mut page, &chars);
-        set_up(script, dice, &page, 2);
+        set_up(script, dice, &page, &chars, 2);
         show(script, dice, &page);
         script.numbers(&page);
         rows(script, dice, &page);
@@ -288,7 +299,7 @@ fn picture_rooms(script: &mut Script, dice: &mut Dice) {
         page.irs[2] = page.irs[2] & 0x7F | dice.pick(&[0, 0x80]);
         let chars = script.chars(dice);
         cursor_in_sight(dice, &mut page, &chars);
-        set_up(script, dice, &page, 2);
+        set_up(script, dice, &page, &chars, 2);
         let (line, all) = (page.line_dots(), page.picture_dots());
         script.say("none out");
         script.say("call picture_draw 0");
@@ -317,7 +328,7 @@ fn cells_rooms(script: &mut Script, dice: &mut Dice) {
 }
 
 /// A board is saved as numbers wherever it stands, and made again of them; every size of the numbers; then every page that
-/// differs in one of their bytes.
+/// differs in one of their bytes, and boards of every version with switches that it has and has not.
 fn saved(script: &mut Script, dice: &mut Dice) {
     let page = Page { irs: [0x10, 34, 0x1A, 8, 1, 79, 3, 4, 5, 6, 7, 8, 9, 10, 11], ..some_page(dice) };
     let mut board = Board { pointer: 255, ..Board::of_page(page) };
@@ -335,12 +346,24 @@ fn saved(script: &mut Script, dice: &mut Dice) {
     for byte in 0..24 {
         let mut bytes = bytes_of(&page);
         bytes[byte] ^= 1;
-        script.board(&Board { resets: (byte % 4) as u8, ..Board::of_page(page_of(&bytes)) });
-        script.say(format!("fill numbers 32 {}", dice.seed()));
-        script.say("call numbers_of");
-        script.say("call page_check");
-        script.say("call board_of");
+        script.board(&Board { resets: (byte % 4) as u8, ..Board::of_page(page_of(page.version, &bytes)) });
+        save(script, dice);
     }
+    for version in [0, 1, 2, 3, 255] {
+        for upper in [0, 0x10, 0x20, 0x30, 0x40, 0x80] {
+            let switches = page.switches & 0x0F | upper;
+            script.board(&Board::of_page(Page { version, switches, ..page }));
+            save(script, dice);
+        }
+    }
+}
+
+/// The board's page as numbers, and a board of these.
+fn save(script: &mut Script, dice: &mut Dice) {
+    script.say(format!("fill numbers 32 {}", dice.seed()));
+    script.say("call numbers_of");
+    script.say("call page_check");
+    script.say("call board_of");
 }
 
 /// "goes from 255 to 0 at the end of a frame": by states, and by steps across the end of frame 255.
@@ -349,7 +372,7 @@ fn fields(script: &mut Script, dice: &mut Dice) {
     page.irs[3] = 0;
     let chars = script.chars(dice);
     cursor_in_sight(dice, &mut page, &chars);
-    set_up(script, dice, &page, 2);
+    set_up(script, dice, &page, &chars, 2);
     let frame = page.frame_clocks();
     for field in [254, 255, 256, 257, 511, 512, 1000, 65535, 65536] {
         script.say(format!("call state_at {}", field * frame + frame - 3));
@@ -367,8 +390,8 @@ fn fields(script: &mut Script, dice: &mut Dice) {
 fn last_clocks(script: &mut Script, dice: &mut Dice) {
     for _ in 0..4 {
         let page = some_page(dice);
-        script.chars(dice);
-        set_up(script, dice, &page, 2);
+        let chars = script.chars(dice);
+        set_up(script, dice, &page, &chars, 2);
         let frame = page.frame_clocks();
         let last_whole = u32::MAX / frame * frame;
         for n in [u32::MAX, u32::MAX - 1, 1 << 31, (1 << 31) - 1, last_whole, last_whole - 1, u32::MAX - frame] {
@@ -402,9 +425,9 @@ fn resets_in_a_row(script: &mut Script, dice: &mut Dice) {
     script.say("call step 1");
 }
 
-/// Whole, cut short at every part, too long, and with wrong heads.
-fn page_files(script: &mut Script, dice: &mut Dice) {
-    let page = some_page(dice);
+/// Whole, cut short at every part, too long, and with wrong heads, in every version; the page's own is read last.
+fn page_files(script: &mut Script, dice: &mut Dice, mode: fn(Page) -> Page) {
+    let page = mode(some_page(dice));
     let head = |script: &mut Script, version: u8, length: u32, size: usize| {
         let bytes = [&[version][..], &length.to_be_bytes(), &bytes_of(&page)].concat();
         script.say(format!("set file 0 {}", hex(&bytes[..bytes.len().min(size)])));
@@ -415,15 +438,17 @@ fn page_files(script: &mut Script, dice: &mut Dice) {
     for size in [0, 1, 2, 4, 5, 6, 28, 29, 30, 16413, PAGE_FILE - 1, PAGE_FILE, PAGE_FILE + 1, 65536] {
         script.say(format!("fill file {} {}", size, dice.seed()));
         script.say("call page_read");
-        if size > 0 {
-            head(script, 1, 32792, size);
+        for version in [0, 1, 2, 3, 255].iter().filter(|_| size > 0) {
+            head(script, *version, 32792, size);
             script.say("call page_read");
         }
     }
     script.say(format!("fill file {} {}", PAGE_FILE, dice.seed()));
-    for (version, length) in [(0, 32792), (2, 32792), (1, 32791), (1, 32797), (1, 0), (1, 0x0100_8018), (1, 32792)] {
-        head(script, version, length, PAGE_FILE);
-        script.say("call page_read");
+    for length in [32791, 32797, 0, 0x0100_8018, 32792] {
+        for version in [0, 3, 255, 3 - page.version, page.version] {
+            head(script, version, length, PAGE_FILE);
+            script.say("call page_read");
+        }
     }
     script.say("call board_of");
     script.font(dice);

@@ -1,6 +1,6 @@
 //! Random numbers from a fixed seed, and random pages that a board accepts.
 
-use crate::board::Page;
+use crate::board::{Page, Place};
 use crate::judge;
 
 pub struct Dice(u64);
@@ -67,6 +67,11 @@ pub fn page(dice: &mut Dice, shape: Shape) -> Page {
         page.cursor = dice.between(0, 16383) as u16;
         page.start2 = dice.between(0, 16383) as u16;
         page.switches = 1 | dice.pick(&[0, 2, 2, 2]) | dice.pick(&[0, 4, 8, 12]);
+        page.version = dice.pick(&[1, 2]);
+        if page.version == 2 {
+            // field mode without and with ACD, seldom character mode
+            page.switches |= dice.pick(&[0x10, 0x10, 0x10, 0x30, 0x30, 0x30, 0x00, 0x20]);
+        }
         page.dots = shape.dots;
         page.strike = dice.between(0, shape.lines.min(15)) as u8;
         if judge::first(&judge::page(&page)) == 0 {
@@ -75,9 +80,19 @@ pub fn page(dice: &mut Dice, shape: Shape) -> Page {
     }
 }
 
+/// The page as version 1 has it.
+pub fn in_version_1(page: Page) -> Page {
+    Page { version: 1, switches: page.switches & 0x0F, ..page }
+}
+
+pub fn in_field_mode(page: Page, acd: bool) -> Page {
+    let switches = page.switches & 0x0F | 0x10 | u8::from(acd) << 5;
+    Page { version: 2, switches, ..page }
+}
+
 /// IR1 has the least EC that leaves a front porch of 2 or 3, or some more. Bits that 01 ignores are set at random.
 fn registers(dice: &mut Dice, shape: Shape) -> Page {
-    let mut page = Page::default();
+    let mut page = Page::power();
     page.irs.iter_mut().for_each(|ir| *ir = dice.byte());
     page.irs[0] = page.irs[0] & 7 | ((shape.lines - 1) << 3) as u8;
     page.irs[2] = dice.pick(&[0, 0, 1, 2, page.irs[2] >> 4]) << 3 | (page.irs[2] % 7 + 1);
@@ -93,6 +108,19 @@ fn registers(dice: &mut Dice, shape: Shape) -> Page {
         page.irs[7] = page.irs[7] & 0xF0 | dice.between(0, shape.lines - 1) as u8;
     }
     page
+}
+
+/// Any place in range, with any latches.
+pub fn any_place(dice: &mut Dice, page: &Page) -> Place {
+    Place {
+        field: dice.byte(),
+        line: dice.between(0, page.vt() - 1),
+        clock: dice.between(0, page.ht() - 1),
+        address: dice.between(0, 16383) as u16,
+        latch: dice.byte(),
+        row_start: dice.between(0, 16383) as u16,
+        row_latch: dice.byte(),
+    }
 }
 
 /// Where a page's cells lie: buffer bounds and screen start 1.

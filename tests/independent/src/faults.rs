@@ -24,12 +24,11 @@ const ALONE: [&str; 10] = [
 ];
 const WITH_BOARD: [&str; 6] = ["numbers_of", "set_video", "write", "read", "state_at", "step"];
 
-/// Everything that a call is handed. The board's page is also the page of the numbers and of the page file.
+/// Everything that a call is handed. The board's page is also the page of the numbers and of the page file, and its version
+/// is that of a font file too.
 #[derive(Clone)]
 pub struct Case {
     board: Board,
-    version: u8,
-    file_version: u8,
     file_length: u32,
     /// Elements of each buffer; `None` is NULL.
     sizes: [Option<usize>; 10],
@@ -44,9 +43,10 @@ pub struct Case {
 /// Something wrong, or something that a call does not judge.
 pub type Fault = Box<dyn Fn(&mut Case)>;
 
-/// HFP 3, so that one less of EC makes it 1; 2 rows of 3 lines of 6 cells, 8 dots.
-fn base(call: &str, resets: u8) -> Case {
-    let mut page = Page { switches: 0x0B, dots: 8, strike: 1, start1: 1020, ..Page::default() };
+/// HFP 3, so that one less of EC makes it 1; 2 rows of 3 lines of 6 cells, 8 dots. Version 2 is in field mode.
+fn base(call: &str, resets: u8, version: u8) -> Case {
+    let switches = if version == 2 { 0x1B } else { 0x0B };
+    let mut page = Page { version, switches, dots: 8, strike: 1, start1: 1020, ..Page::default() };
     page.irs = [0x10, 2, 0x01, 0, 1, 5, 0x02, 0x42, 0, 0, 9, 9, 9, 9, 9];
     assert_eq!(page.hfp(), 3);
     let font_file = call == "font_read";
@@ -59,8 +59,6 @@ fn base(call: &str, resets: u8) -> Case {
     let sizes = [32, 16384, 16384, 1152, 128, 9, 9, file, out, 256];
     Case {
         board: Board { page, resets, pointer: 3, ..Board::default() },
-        version: 1,
-        file_version: 1,
         file_length: if font_file { FONT_LENGTH } else { PAGE_LENGTH },
         sizes: sizes.map(Some),
         line: 5,
@@ -84,9 +82,12 @@ fn sizes(name: &'static str, right: usize) -> Vec<Fault> {
 }
 
 fn numbers_faults() -> Vec<Fault> {
-    let mut all = sizes("numbers", 32);
-    all.extend([0, 2, 255].iter().map(|&version| fault(move |case: &mut Case| case.version = version)));
-    all
+    sizes("numbers", 32).into_iter().chain(version_faults()).collect()
+}
+
+/// Neither 1 nor 2, and these two, which differ in their switches.
+fn version_faults() -> Vec<Fault> {
+    [0, 3, 255, 1, 2].iter().map(|&version| fault(move |case: &mut Case| case.board.page.version = version)).collect()
 }
 
 fn memory_faults() -> Vec<Fault> {
@@ -150,21 +151,25 @@ fn place_faults() -> Vec<Fault> {
         fault(|case| case.board.place.address = 65535),
         fault(|case| case.board.place.row_start = 16384),
         fault(|case| case.board.place.row_start = 65535),
+        // no byte of a latch is refused
+        fault(|case| case.board.place.latch = 0x7F),
+        fault(|case| case.board.place.latch = 0xFF),
+        fault(|case| case.board.place.row_latch = 0x3F),
+        fault(|case| case.board.place.row_latch = 0xC1),
         fault(|case| case.board.page.dots = 0x100 + 8),
         fault(|case| case.board.page.dots = u32::MAX),
     ]
 }
 
 fn file_faults() -> Vec<Fault> {
-    let mut all = vec![
-        fault(|case| case.file_version = 0),
-        fault(|case| case.file_version = 2),
+    let mut all = version_faults();
+    all.extend([
         fault(|case| case.file_length += 1),
         fault(|case| case.file_length ^= 0x8000_0000),
         fault(|case| case.sizes[7] = Some(1)),
         fault(|case| case.sizes[7] = Some(4)),
         fault(|case| case.sizes[7] = Some(5)),
-    ];
+    ]);
     all.extend([0, 1, 2].map(|how| {
         fault(move |case| {
             let right = 5 + (case.file_length & 0xFFFF) as usize;
@@ -182,9 +187,9 @@ pub fn of_file(call: &str) -> Vec<Fault> {
 
 /// The file with these faults.
 pub fn spoiled(call: &str, file: &[u8], faults: &[&Fault]) -> Vec<u8> {
-    let mut case = base(call, 2);
+    let mut case = base(call, 2, file[0]);
     if call == "page_read" {
-        case.board.page = page_of(&file[5..]);
+        case.board.page = page_of(file[0], &file[5..]);
     }
     faults.iter().for_each(|fault| fault(&mut case));
     let mut spoiled = file.to_vec();
@@ -245,11 +250,17 @@ fn faults_of(call: &str) -> Vec<Fault> {
         "numbers_of" => vec![numbers_faults(), page_faults(), pointer_faults(), place_faults()],
         // what these three do not judge stands here too: the place, 4, 5, and for the first the pointer
         "set_video" => {
-            vec![address_faults(), video_faults(), strike_faults(), timing_faults(), pointer_faults(), place_faults()]
+            let judged = vec![version_faults(), address_faults(), video_faults()];
+            judged.into_iter().chain([strike_faults(), timing_faults(), pointer_faults(), place_faults()]).collect()
         }
-        "write" | "read" => vec![page_faults(), pointer_faults(), register_faults(call), place_faults()],
-        "state_at" => vec![memory_faults(), page_faults(), pointer_faults(), place_faults()],
-        _ => vec![memory_faults(), font_faults(), page_faults(), pointer_faults(), place_faults()],
+        "write" | "read" => {
+            vec![version_faults(), page_faults(), pointer_faults(), register_faults(call), place_faults()]
+        }
+        "state_at" => vec![memory_faults(), version_faults(), page_faults(), pointer_faults(), place_faults()],
+        _ => {
+            let lent = vec![memory_faults(), font_faults()];
+            lent.into_iter().chain([version_faults(), page_faults(), pointer_faults(), place_faults()]).collect()
+        }
     };
     parts.into_iter().flatten().collect()
 }
@@ -298,7 +309,7 @@ fn arguments(call: &str, case: &Case) -> String {
 
 /// A file's version and length, and a page file's numbers.
 fn file_head(call: &str, case: &Case) -> Vec<u8> {
-    let head = [vec![case.file_version], case.file_length.to_be_bytes().to_vec()].concat();
+    let head = [vec![case.board.page.version], case.file_length.to_be_bytes().to_vec()].concat();
     let page = if call == "page_read" { bytes_of(&case.board.page) } else { Vec::new() };
     [head, page].concat()
 }
@@ -312,8 +323,9 @@ fn buffer_lines(name: &str, call: &str, case: &Case) -> Vec<String> {
     };
     let mut lines = vec![format!("fill {} {} {}", name, size, 1_000_000_007 + index)];
     let head = match name {
-        "numbers" if call == "numbers_of" => vec![case.version],
-        "numbers" if call != "page_read" => [vec![case.version], bytes_of(&case.board.page)].concat(),
+        "numbers" if !written_by(call).contains(&name) => {
+            [vec![case.board.page.version], bytes_of(&case.board.page)].concat()
+        }
         "file" => file_head(call, case),
         _ => Vec::new(),
     };
@@ -348,19 +360,19 @@ impl<'a> Teller<'a> {
     }
 }
 
-fn every_pair(script: &mut Script, call: &'static str, resets: u8) {
+fn every_pair(script: &mut Script, call: &'static str, resets: u8, version: u8) {
     let faults = faults_of(call);
     let mut teller = Teller { script, call, told: vec![Vec::new(); lent_to(call).len()] };
-    teller.tell(&base(call, resets));
+    teller.tell(&base(call, resets, version));
     for (at, one) in faults.iter().enumerate() {
         for other in &faults[at..] {
-            let mut case = base(call, resets);
+            let mut case = base(call, resets, version);
             one(&mut case);
             other(&mut case);
             teller.tell(&case);
         }
     }
-    let mut case = base(call, resets);
+    let mut case = base(call, resets, version);
     faults.iter().for_each(|fault| fault(&mut case));
     teller.tell(&case);
 }
@@ -370,9 +382,16 @@ pub fn all() -> Vec<Maker> {
     for call in WITH_BOARD {
         cases.extend([0, 1, 2, 200].map(|resets| (call, resets)));
     }
-    let maker = |(call, resets): (&'static str, u8)| -> Maker {
-        let write = move |script: &mut Script, _: &mut Dice| every_pair(script, call, resets);
-        (format!("faults-{}-{}", call, resets), Box::new(write))
+    let maker = |name: String, call: &'static str, resets: u8, version: u8| -> Maker {
+        (name, Box::new(move |script: &mut Script, _: &mut Dice| every_pair(script, call, resets, version)))
     };
-    cases.into_iter().map(maker).collect()
+    let mut all = Vec::new();
+    for &(call, resets) in &cases {
+        all.push(maker(format!("faults-{}-{}", call, resets), call, resets, 1));
+    }
+    // a font file has one version
+    for &(call, resets) in cases.iter().filter(|(call, _)| *call != "font_read") {
+        all.push(maker(format!("field-faults-{}-{}", call, resets), call, resets, 2));
+    }
+    all
 }

@@ -29,6 +29,9 @@ const CUTS: [usize; 14] = [
     PAGE_FILE + FONT_FILE - 1,
 ];
 
+/// Where a page file has its switches.
+const SWITCHES: usize = 26;
+
 type Damage = Box<dyn Fn(&[u8]) -> Vec<u8>>;
 
 pub fn input(seed: u64, number: u64) -> Result<Vec<u8>, String> {
@@ -53,7 +56,7 @@ fn whole(seed: u64, dice: &mut Dice, turn: usize) -> Result<Vec<u8>, String> {
     one_of(KINDS[left % KINDS.len()], dice)
 }
 
-/// The page and font of each frame that a script draws.
+/// The page and font of each frame that a script draws; once where frames follow one another.
 fn drawn_by(maker: &dyn Fn(&mut Script, &mut Dice), dice: &mut Dice) -> Result<Vec<Vec<u8>>, String> {
     let script = written("input", dice, maker);
     let mut buffers = Buffers::default();
@@ -64,6 +67,7 @@ fn drawn_by(maker: &dyn Fn(&mut Script, &mut Dice), dice: &mut Dice) -> Result<V
             let page = page_of_numbers(&buffers.numbers).ok_or("a frame of no page")?;
             let lent = buffers.lent();
             all.push([page_file(&page, lent.chars, lent.attrs), font_file(&lent.font)].concat());
+            all.dedup();
         } else {
             buffers.obey(&words)?;
         }
@@ -84,11 +88,14 @@ fn damaged(dice: &mut Dice, turn: usize) -> Result<Vec<u8>, String> {
     })
 }
 
-/// Every fault of a page file, every fault of a font file, every cut, and bytes behind the font.
+/// Every fault of a page file in version 1 and in field mode, every fault of a font file, every cut, and bytes behind the
+/// font.
 fn fixed() -> Vec<Damage> {
     let mut all: Vec<Damage> = Vec::new();
-    for fault in of_file("page_read") {
-        all.push(Box::new(move |input| with_faults(input, &[&fault], &[])));
+    for (version, mode) in [(1, 0), (2, 0x10)] {
+        for fault in of_file("page_read") {
+            all.push(Box::new(move |input| with_faults(&in_mode(input, version, mode), &[&fault], &[])));
+        }
     }
     for fault in of_file("font_read") {
         all.push(Box::new(move |input| with_faults(input, &[], &[&fault])));
@@ -100,6 +107,14 @@ fn fixed() -> Vec<Damage> {
         all.push(Box::new(move |input| [input, &input[..more]].concat()));
     }
     all
+}
+
+/// The input with a page of this version, and these of its switches 4 to 7.
+fn in_mode(input: &[u8], version: u8, mode: u8) -> Vec<u8> {
+    let mut changed = input.to_vec();
+    changed[0] = version;
+    changed[SWITCHES] = input[SWITCHES] & 0x0F | mode;
+    changed
 }
 
 fn with_faults(input: &[u8], of_page: &[&Fault], of_font: &[&Fault]) -> Vec<u8> {

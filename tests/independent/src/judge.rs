@@ -14,10 +14,11 @@ pub fn first(faults: &[Fault]) -> u32 {
     ORDER.iter().copied().find(|&number| holds(number)).unwrap_or(0)
 }
 
-/// "1: version byte missing or not 1; 2: length field or bytes present wrong"
-pub fn file(file: &[u8], length: u32) -> Vec<Fault> {
+/// "1: version byte missing or not 1; 2: length field or bytes present wrong"; R-1 for pages: "1 now means neither 1 nor 2"
+pub fn file(file: &[u8], versions: &[u8], length: u32) -> Vec<Fault> {
+    let known = file.first().is_some_and(|version| versions.contains(version));
     let field = file.get(1..5).map(|b| u32::from_be_bytes([b[0], b[1], b[2], b[3]]));
-    vec![(1, file.first() != Some(&1)), (2, field != Some(length) || file.len() != 5 + length as usize)]
+    vec![(1, !known), (2, field != Some(length) || file.len() != 5 + length as usize)]
 }
 
 /// "3: a lent memory or font part of wrong size"
@@ -34,13 +35,15 @@ pub fn font(font: &Font) -> Vec<Fault> {
     ]
 }
 
-/// "12: a start or cursor address above 16383, switches 4 to 7, or strike line above 15"
+/// "12: a start or cursor address above 16383, switches 4 to 7, or strike line above 15"; R-1: "in a version 2 file
+/// 12 covers switches 6 and 7 only"
 pub fn addresses(page: &Page) -> Vec<Fault> {
+    let no_switches = if page.known_version() == 2 { 0xC0 } else { 0xF0 };
     vec![
         (12, page.start1 > 16383),
         (12, page.cursor > 16383),
         (12, page.start2 > 16383),
-        (12, page.switches & 0xF0 != 0),
+        (12, page.switches & no_switches != 0),
     ]
 }
 

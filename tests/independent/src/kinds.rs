@@ -1,8 +1,8 @@
 //! The random scripts, one kind after another.
 
-use crate::board::{Board, Page, Place};
-use crate::dice::{page, place_cells, Dice, Shape};
-use crate::files::{bytes_of, FONT_FILE, PAGE_FILE};
+use crate::board::{Board, Page};
+use crate::dice::{any_place, page, place_cells, Dice, Shape};
+use crate::files::{page_head, FONT_FILE, PAGE_FILE};
 use crate::make::Script;
 use crate::script::hex;
 use crate::stage::{cells, cursor_in_sight, lines, pictures, set_up, show, states, table};
@@ -31,7 +31,7 @@ fn drawn(script: &mut Script, dice: &mut Dice, shape: Shape, resets: u8) {
     page.switches &= !u8::from(dice.one_in(10));
     let chars = script.chars(dice);
     cursor_in_sight(dice, &mut page, &chars);
-    set_up(script, dice, &page, resets);
+    set_up(script, dice, &page, &chars, resets);
     show(script, dice, &page);
 }
 
@@ -81,7 +81,7 @@ pub fn catalogue(script: &mut Script, dice: &mut Dice) {
         table(script, dice, &page, &mut chars, &starts);
     }
     cursor_in_sight(dice, &mut page, &chars);
-    set_up(script, dice, &page, 2);
+    set_up(script, dice, &page, &chars, 2);
     show(script, dice, &page);
 }
 
@@ -120,16 +120,11 @@ fn any_board(dice: &mut Dice) -> Board {
     let shape = Shape::small(dice);
     let mut page = page(dice, shape);
     place_cells(dice, &mut page);
-    let place = Place {
-        field: dice.byte(),
-        line: dice.between(0, page.vt() - 1),
-        clock: dice.between(0, page.ht() - 1),
-        address: dice.between(0, 16383) as u16,
-        row_start: dice.between(0, 16383) as u16,
-    };
+    let place = any_place(dice, &page);
     let mut board = Board { page, place, pointer: dice.between(0, 14) as u8, resets: dice.pick(&[0, 1, 2, 200, 255]) };
-    if dice.one_in(3) {
-        board.place.clock = 0;
+    if dice.one_in(2) {
+        // in sight, and often at a line's beginning
+        board.place.clock = dice.pick(&[0, 0, 1, page.hact() / 2, page.hact()]);
         board.place.line = dice.between(0, page.visible_lines() - 1);
     }
     for _ in 0..dice.pick(&[0, 0, 0, 1, 1, 2, 60]) {
@@ -140,7 +135,7 @@ fn any_board(dice: &mut Dice) -> Board {
 
 fn disturb(dice: &mut Dice, board: &mut Board) {
     let (wide, address) = (dice.pick(&[0, 1, 5, 13, 255, 256, 2153, u32::MAX]), dice.pick(&[0, 16383, 16384, 65535]));
-    match dice.between(0, 11) {
+    match dice.between(0, 14) {
         0 => board.page.start1 = address,
         1 => board.page.cursor = address,
         2 => board.page.start2 = address,
@@ -152,6 +147,9 @@ fn disturb(dice: &mut Dice, board: &mut Board) {
         8 => board.place.address = address,
         9 => board.place.row_start = address,
         10 => board.pointer = dice.pick(&[14, 15, 16, 255]),
+        11 => board.page.version = dice.pick(&[0, 1, 2, 3, 255]),
+        12 => board.page.switches ^= dice.pick(&[0x10, 0x20, 0x30, 0x40, 0x80]),
+        13 => board.page.version = dice.byte(),
         _ => board.page.irs[dice.between(0, 14) as usize] = dice.byte(),
     }
 }
@@ -167,7 +165,13 @@ fn by_registers(script: &mut Script, dice: &mut Dice) {
     script.attrs(dice);
     script.font(dice);
     script.numbers(&page);
-    script.say("call power");
+    if page.version == 1 {
+        script.say("call power");
+    } else {
+        // no register write makes a version 2 or sets its switches, so the board comes with them
+        let bare = Page { version: 2, switches: page.switches & 0x30, ..Page::default() };
+        script.board(&Board { page: bare, ..Board::default() });
+    }
     script.say(format!("call write 1 {}", dice.pick(&[0, 41, 16])));
     script.say("call write 1 0");
     script.say("call read 3");
@@ -211,8 +215,8 @@ fn live(script: &mut Script, dice: &mut Dice) {
     let shape = Shape::small(dice);
     let mut page = page(dice, shape);
     place_cells(dice, &mut page);
-    script.chars(dice);
-    set_up(script, dice, &page, 2);
+    let chars = script.chars(dice);
+    set_up(script, dice, &page, &chars, 2);
     script.say("frame");
     for _ in 0..25 {
         match dice.between(0, 6) {
@@ -253,12 +257,15 @@ fn files(script: &mut Script, dice: &mut Dice) {
     script.say("call font_read");
     script.say(format!("fill file {} {}", PAGE_FILE, dice.seed()));
     for _ in 0..6 {
-        script.say(format!("set file 0 0100008018{}", hex(&bytes_of(&page))));
+        script.say(format!("set file 0 {}", hex(&page_head(&page))));
         script.say(format!("set file {} {}", dice.between(0, 28), hex(&[dice.byte()])));
         script.say("call page_read");
     }
-    script.say(format!("set file 0 0100008018{}", hex(&bytes_of(&page))));
-    script.say("call page_read");
+    for version in [dice.between(0, 3) as u8, 3 - page.version, page.version] {
+        script.say(format!("set file 0 {}", hex(&page_head(&page))));
+        script.say(format!("set file 0 {}", hex(&[version])));
+        script.say("call page_read");
+    }
     script.say("call board_of");
     script.say("frame");
     script.say(format!("fill out {} {}", PAGE_FILE + dice.between(0, 9) as usize, dice.seed()));
@@ -270,8 +277,8 @@ fn sizes(script: &mut Script, dice: &mut Dice) {
     let shape = Shape::small(dice);
     let page = page(dice, shape);
     let board = Board { resets: dice.pick(&[0, 1, 2, 200]), ..Board::of_page(page) };
-    script.chars(dice);
-    set_up(script, dice, &page, board.resets);
+    let chars = script.chars(dice);
+    set_up(script, dice, &page, &chars, board.resets);
     script.say("frame");
     script.board(&board);
     let right = [("chars", 16384), ("attrs", 16384), ("words", 1152), ("flags", 128), ("unshifted", 9), ("shifted", 9)];

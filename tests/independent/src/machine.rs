@@ -29,40 +29,66 @@ struct Beam {
 }
 
 pub fn step(board: &mut Board, lent: &Lent) -> Shown {
-    let beam = arrive(board, lent.chars);
+    let beam = arrive(board, lent.chars, lent.attrs);
     let signals = signals(board, beam);
     let shown = Shown { signals, address: board.place.address, dots: dots(board, beam, signals, lent) };
     leave(board, beam);
     shown
 }
 
-/// The state for clock n by n steps whose dots nobody looks at. Column 0 of row 0 loads the address, so that
-/// whole frames repeat but for their field count, and n above one frame needs no more than two of them.
-pub fn state_at(board: &Board, chars: &[u8], n: u32) -> Board {
+/// The state for clock n by n steps whose dots nobody looks at. Column 0 of row 0 loads the address and empties the
+/// latch, so that whole frames repeat but for their field count, and n above one frame needs no more than two of them.
+pub fn state_at(board: &Board, chars: &[u8], attrs: &[u8], n: u32) -> Board {
     let frame = board.page.frame_clocks();
     let mut at = Board { place: Place::default(), ..*board };
     if n >= frame {
-        walk(&mut at, chars, frame);
+        walk(&mut at, chars, attrs, frame);
         at.place.field = (n / frame % 256) as u8;
     }
-    walk(&mut at, chars, n % frame);
+    walk(&mut at, chars, attrs, n % frame);
     at
 }
 
-fn walk(board: &mut Board, chars: &[u8], clocks: u32) {
+fn walk(board: &mut Board, chars: &[u8], attrs: &[u8], clocks: u32) {
     for _ in 0..clocks {
-        let beam = arrive(board, chars);
+        let beam = arrive(board, chars, attrs);
         leave(board, beam);
     }
 }
 
-/// "On column 0 of a visible line the address is loaded."
-fn arrive(board: &mut Board, chars: &[u8]) -> Beam {
+/// "On column 0 of a visible line the address is loaded." What is fetched may be latched, whether the display is on or not.
+fn arrive(board: &mut Board, chars: &[u8], attrs: &[u8]) -> Beam {
     let beam = beam(board);
+    drop_what_is_no_latch(board);
     if beam.visible && board.place.clock == 0 {
         load(board, beam, chars);
     }
+    if beam.active {
+        latch(board, attrs);
+    }
     beam
+}
+
+/// A latch byte handed over without AFLG, or in character mode, counts as 0, and every step leaves 0 there.
+fn drop_what_is_no_latch(board: &mut Board) {
+    let field_mode = board.page.field_mode();
+    for latch in [&mut board.place.latch, &mut board.place.row_latch] {
+        if !field_mode || !has_aflg(*latch) {
+            *latch = 0;
+        }
+    }
+}
+
+/// R-1: "attributes latched at a cell with AFLG hold until the next such cell"
+fn latch(board: &mut Board, attrs: &[u8]) {
+    let fetched = attrs[usize::from(board.place.address)];
+    if board.page.field_mode() && has_aflg(fetched) {
+        board.place.latch = fetched;
+    }
+}
+
+fn has_aflg(attribute: u8) -> bool {
+    attribute & 0x80 != 0
 }
 
 /// "Each active clock fetches and then moves on [..]. Other clocks hold the address."
@@ -95,8 +121,12 @@ fn load(board: &mut Board, beam: Beam, chars: &[u8]) {
         } else {
             board.place.row_start = board.place.address;
         }
+        // R-1: "each scan line of a row starts with what was valid at the end of the previous row"; "At the start of a
+        // frame nothing is latched"
+        board.place.row_latch = if beam.row == 0 { 0 } else { board.place.latch };
     }
     board.place.address = board.place.row_start;
+    board.place.latch = board.place.row_latch;
 }
 
 /// "the two character bytes at screen start 2 + 2r, modulo 16,384: low byte, then high byte, of which six
@@ -177,10 +207,14 @@ impl Cell {
     fn fetched(board: &Board, scan_line: u32, signals: Signals, lent: &Lent) -> Cell {
         let page = &board.page;
         let address = usize::from(board.place.address);
+        let sets = has_aflg(lent.attrs[address]);
         // "bit 0 reverse, 1 blank, 2 blink, 3 underline, 4 highlight, 5 strike, 7 AFLG. With AFLG 0 the cell
         // has none."
-        let attr = if lent.attrs[address] & 0x80 == 0 { 0 } else { lent.attrs[address] };
+        let own = if sets { lent.attrs[address] } else { 0 };
+        let attr = if page.field_mode() { board.place.latch } else { own };
         let has = |bit: u32| attr >> bit & 1 == 1;
+        // R-1: "With ACD low the cell that sets them has zero dots, with its own new attributes and lines"
+        let suppressed = page.field_mode() && !page.acd() && sets;
         let underline = has(3) && scan_line == page.underline_line();
         let strike = has(5) && scan_line == u32::from(page.strike);
         // "let E be BKGND xor reverse, and T white if highlighted, else gray"
@@ -191,7 +225,7 @@ impl Cell {
         // "Non-display is ABLANK, or ABLINK with BLINK"; it "makes the symbol as the surround"
         let non_display = has(1) || has(2) && signals.blink;
         Cell {
-            word: font_word(lent, lent.chars[address], scan_line),
+            word: if suppressed { 0 } else { font_word(lent, lent.chars[address], scan_line) },
             all_lit: underline || strike,
             symbol: if non_display { surround } else { symbol },
             surround,

@@ -1,4 +1,4 @@
-//! A second reading of 01 and the papers, for comparing with the library. It shares nothing with it. Start
+//! A second reading of 01, of 02's R-1 and of the papers, for comparing with the library. It shares nothing with it. Start
 //! with `board`, then `machine` (the first way of drawing) and `sheet` (the second).
 
 mod answer;
@@ -13,6 +13,7 @@ mod files;
 mod input;
 mod judge;
 mod kinds;
+mod latches;
 mod listing;
 mod machine;
 mod make;
@@ -27,7 +28,7 @@ use std::io::{self, BufReader, BufWriter, Read, Write};
 use std::process::exit;
 
 const USAGE: &str = "usage: independent COMMAND
-  self SEED PAGES            compares its own two ways, and 01's cases
+  self SEED PAGES            compares its own two ways, 01's cases and R-1's
   make SEED COUNT [FIRST]    prints COUNT scripts, from number FIRST on; without FIRST the whole fixed list at least
   answer < SCRIPTS           prints its own answers
   cells COUNT OURS THEIRS    compares two streams of answers, prints the table of calls
@@ -91,8 +92,9 @@ fn compare_own(seed: u64, pages: u64) -> Result<(), String> {
         }
     }
     let compared = twoways::compare(seed, pages)?;
-    println!("01's {} cases come out", cases::all().len());
-    println!("{} pages: {} clocks, {} lines, {} states agree", pages, compared.clocks, compared.lines, compared.states);
+    println!("{} cases of 01 and R-1 come out", cases::all().len());
+    let modes = format!("{} pages, {} of them in field mode", pages, compared.in_field_mode);
+    println!("{}: {} clocks, {} lines, {} states agree", modes, compared.clocks, compared.lines, compared.states);
     Ok(())
 }
 

@@ -78,6 +78,14 @@ impl Script {
         self.say(format!("mask attrs {}", dice.pick(&["ff", "ff", "fd", "f9", "bf", "9d"])));
     }
 
+    /// Among attributes that no cell sets, these that one does.
+    pub fn set_only(&mut self, cells: &[(u16, u8)]) {
+        self.say("mask attrs 7f");
+        cells
+            .iter()
+            .for_each(|&(cell, attribute)| self.say(format!("set attrs {} {}", cell, hex(&[attribute | 0x80]))));
+    }
+
     /// Words with bits that do not count, flags of 0 and not 0, lists with upper halves that do not count.
     pub fn font(&mut self, dice: &mut Dice) {
         self.say(format!("fill words 1152 {}", dice.seed()));

@@ -91,7 +91,8 @@ fn elements<E: Element>(text: &str) -> Result<Vec<E>, String> {
 
 pub fn board_text(board: &Board) -> String {
     let (page, place) = (&board.page, &board.place);
-    let mut bytes = page.irs.to_vec();
+    let mut bytes = vec![page.version];
+    bytes.extend(page.irs);
     for address in [page.start1, page.cursor, page.start2] {
         bytes.extend(address.to_be_bytes());
     }
@@ -101,24 +102,41 @@ pub fn board_text(board: &Board) -> String {
     bytes.extend(place.line.to_be_bytes());
     bytes.extend(place.clock.to_be_bytes());
     bytes.extend(place.address.to_be_bytes());
+    bytes.push(place.latch);
     bytes.extend(place.row_start.to_be_bytes());
-    bytes.extend([board.pointer, board.resets]);
+    bytes.extend([place.row_latch, board.pointer, board.resets]);
     hex(&bytes)
 }
 
 pub fn board_of_text(text: &str) -> Result<Board, String> {
     let b: Vec<u8> = elements(text)?;
-    if b.len() != 42 {
-        return Err(format!("a board has 84 hex digits: {}", text));
+    if b.len() != 45 {
+        return Err(format!("a board has 90 hex digits: {}", text));
     }
     let two = |at: usize| u16::from_be_bytes([b[at], b[at + 1]]);
     let four = |at: usize| u32::from_be_bytes([b[at], b[at + 1], b[at + 2], b[at + 3]]);
     let mut irs = [0; 15];
-    irs.copy_from_slice(&b[..15]);
-    let page =
-        Page { irs, start1: two(15), cursor: two(17), start2: two(19), switches: b[21], dots: four(22), strike: b[26] };
-    let place = Place { field: b[27], line: four(28), clock: four(32), address: two(36), row_start: two(38) };
-    Ok(Board { page, place, pointer: b[40], resets: b[41] })
+    irs.copy_from_slice(&b[1..16]);
+    let page = Page {
+        version: b[0],
+        irs,
+        start1: two(16),
+        cursor: two(18),
+        start2: two(20),
+        switches: b[22],
+        dots: four(23),
+        strike: b[27],
+    };
+    let place = Place {
+        field: b[28],
+        line: four(29),
+        clock: four(33),
+        address: two(37),
+        latch: b[39],
+        row_start: two(40),
+        row_latch: b[42],
+    };
+    Ok(Board { page, place, pointer: b[43], resets: b[44] })
 }
 
 /// What a script's calls are lent: "none" is an empty buffer here.

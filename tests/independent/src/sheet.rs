@@ -1,6 +1,8 @@
 //! The second way: a line, a row start or a state worked out at once, as on paper. It shares nothing with
-//! `machine`: levels are looked up in 000's Table 1 as it is printed, dots are written as text, and a row
-//! start is found by moving row x HACT times, one by one.
+//! `machine`: levels are looked up in 000's Table 1 as it is printed, dots are written as text, a row
+//! start is found by moving row x HACT times, one by one, and what is latched by looking back from the cell.
+
+use std::iter::successors;
 
 use crate::board::{Lent, Page, Place};
 
@@ -11,13 +13,9 @@ pub fn line(page: &Page, lent: &Lent, line: u32, field: u8) -> Vec<u8> {
     }
     let row = line / page.lines_per_row();
     let scan_line = line % page.lines_per_row();
-    let mut address = row_start(page, lent.chars, row);
-    let mut out = Vec::with_capacity(page.line_dots());
-    for _column in 0..page.hact() {
-        out.extend(cell(page, lent, address, scan_line, field));
-        address = moved(page, address, 1);
-    }
-    out
+    let attributes = row_attributes(page, lent.chars, lent.attrs, row);
+    let cells = row_cells(page, lent.chars, row).into_iter().zip(attributes);
+    cells.flat_map(|(address, attribute)| cell(page, lent, address, attribute, scan_line, field)).collect()
 }
 
 /// "First line of a row: the row table entry if the table is on; else screen start 1 for row 0; else it
@@ -46,13 +44,52 @@ pub fn run(page: &Page, chars: &[u8], row: u32) -> (u16, u32) {
 
 /// "The addresses of all cells that a row fetches, column by column, wraps included"
 pub fn row_cells(page: &Page, chars: &[u8], row: u32) -> Vec<u16> {
-    let first = row_start(page, chars, row);
-    (0..page.hact()).map(|column| moved(page, first, column)).collect()
+    cells_from(page, row_start(page, chars, row), page.hact())
+}
+
+fn cells_from(page: &Page, first: u16, count: u32) -> Vec<u16> {
+    successors(Some(first), |&address| Some(moved(page, address, 1))).take(count as usize).collect()
+}
+
+/// All cells that the rows before this one show, in order.
+fn cells_before(page: &Page, chars: &[u8], row: u32) -> Vec<u16> {
+    if page.row_table_on() {
+        (0..row).flat_map(|row| row_cells(page, chars, row)).collect()
+    } else {
+        cells_from(page, page.start1, row * page.hact())
+    }
+}
+
+/// Looks back from the last of these cells for one with AFLG.
+fn last_set(attrs: &[u8], cells: &[u16]) -> Option<u8> {
+    cells.iter().rev().map(|&cell| attrs[usize::from(cell)]).find(|&attribute| attribute >= 128)
+}
+
+/// R-1: "what was valid at the end of the previous row"; "At the start of a frame nothing is latched".
+fn row_latch(page: &Page, chars: &[u8], attrs: &[u8], row: u32) -> u8 {
+    if page.field_mode() {
+        last_set(attrs, &cells_before(page, chars, row)).unwrap_or(0)
+    } else {
+        0
+    }
+}
+
+/// The attribute byte that holds for each cell of a row: in character mode its own, in field mode that of the last
+/// cell with AFLG, "until the next such cell, across rows".
+fn row_attributes(page: &Page, chars: &[u8], attrs: &[u8], row: u32) -> Vec<u8> {
+    let cells = row_cells(page, chars, row);
+    if !page.field_mode() {
+        return cells.iter().map(|&cell| attrs[usize::from(cell)]).collect();
+    }
+    let before = row_latch(page, chars, attrs, row);
+    (0..cells.len()).map(|column| last_set(attrs, &cells[..=column]).unwrap_or(before)).collect()
 }
 
 /// What clock n shows.
 #[derive(PartialEq, Eq, Debug)]
 pub struct Moment {
+    /// As it stands before the step.
+    pub place: Place,
     /// HSYNC, VSYNC, BLANK, CURSOR, BLINK
     pub signals: [bool; 5],
     pub address: u16,
@@ -60,7 +97,7 @@ pub struct Moment {
 }
 
 pub fn moment(page: &Page, display_on: bool, lent: &Lent, n: u32) -> Moment {
-    let place = place_at(page, lent.chars, n);
+    let place = place_at(page, lent.chars, lent.attrs, n);
     let across = part(place.clock, [page.hact(), page.hfp() as u32, page.hsync(), page.hbp() as u32]);
     let down = part(place.line, [page.visible_lines(), page.vfp(), page.vsync(), page.vbp()]);
     let active = (across, down) == (0, 0);
@@ -71,10 +108,12 @@ pub fn moment(page: &Page, display_on: bool, lent: &Lent, n: u32) -> Moment {
     let shown = active && display_on;
     let cursor = active && cursor_here(page, address, scan_line, place.field);
     Moment {
+        place,
         signals: [across == 2, down == 2, !shown, cursor, blink_high(page, place.field)],
         address,
         dots: if shown {
-            cell(page, lent, address, scan_line, place.field)
+            let attribute = row_attributes(page, lent.chars, lent.attrs, row)[place.clock as usize];
+            cell(page, lent, address, attribute, scan_line, place.field)
         } else {
             vec![blanked(page); page.dots as usize]
         },
@@ -93,29 +132,39 @@ fn part(count: u32, lengths: [u32; 4]) -> usize {
 }
 
 /// The place for clock n "from n's quotients and remainders by frame and line".
-pub fn place_at(page: &Page, chars: &[u8], n: u32) -> Place {
+pub fn place_at(page: &Page, chars: &[u8], attrs: &[u8], n: u32) -> Place {
     let frame = n / page.frame_clocks();
     let line = n % page.frame_clocks() / page.ht();
     let clock = n % page.ht();
-    let (address, row_start) = held(page, chars, frame, line, clock);
-    Place { field: (frame % 256) as u8, line, clock, address, row_start }
+    let counts = Place { field: (frame % 256) as u8, line, clock, ..Place::default() };
+    match passed(page, frame, line, clock) {
+        Some((row, count)) => held(page, chars, attrs, row, count, counts),
+        None => counts,
+    }
 }
 
-/// The address that stands before the step at this place, and the row start it came from: both are of the
-/// last visible line on which an active clock has passed, and 0 before there was one.
-fn held(page: &Page, chars: &[u8], frame: u32, line: u32, clock: u32) -> (u16, u16) {
+/// The row of the last visible line on which an active clock has passed, and how many of them; none before there was one.
+fn passed(page: &Page, frame: u32, line: u32, clock: u32) -> Option<(u32, u32)> {
     let visible = page.visible_lines();
-    let (passed, moves) = if line < visible && clock > 0 {
+    let (last, count) = if line < visible && clock > 0 {
         (line, clock.min(page.hact()))
     } else if line > 0 {
         (line.min(visible) - 1, page.hact())
     } else if frame > 0 {
         (visible - 1, page.hact())
     } else {
-        return (0, 0);
+        return None;
     };
-    let start = row_start(page, chars, passed / page.lines_per_row());
-    (moved(page, start, moves), start)
+    Some((last / page.lines_per_row(), count))
+}
+
+/// What the beam holds after so many cells of a row, and what the row began with.
+fn held(page: &Page, chars: &[u8], attrs: &[u8], row: u32, count: u32, counts: Place) -> Place {
+    let row_start = row_start(page, chars, row);
+    let row_latch = row_latch(page, chars, attrs, row);
+    let latch =
+        if page.field_mode() { last_set(attrs, &cells_from(page, row_start, count)).unwrap_or(row_latch) } else { 0 };
+    Place { address: moved(page, row_start, count), latch, row_start, row_latch, ..counts }
 }
 
 /// "after the last buffer address comes the first; otherwise add 1, and 16383 is followed by 0"
@@ -164,8 +213,9 @@ fn blanked(page: &Page) -> u8 {
     })
 }
 
-fn cell(page: &Page, lent: &Lent, address: u16, scan_line: u32, field: u8) -> Vec<u8> {
-    let attribute = Attribute::of(lent.attrs[usize::from(address)]);
+/// The dots of a cell for which this attribute byte holds.
+fn cell(page: &Page, lent: &Lent, address: u16, attribute: u8, scan_line: u32, field: u8) -> Vec<u8> {
+    let attribute = Attribute::of(attribute);
     let cursor = cursor_here(page, address, scan_line, field);
     let hidden = attribute.blank == 1 || attribute.blink == 1 && blink_high(page, field);
     let key = [u8::from(page.bkgnd()), attribute.reverse ^ u8::from(cursor), attribute.highlight, u8::from(hidden)];
@@ -174,10 +224,21 @@ fn cell(page: &Page, lent: &Lent, address: u16, scan_line: u32, field: u8) -> Ve
     let strike = attribute.strike == 1 && scan_line == u32::from(page.strike);
     let pattern = if underline || strike {
         "1".repeat(page.dots as usize)
+    } else if is_control(page, lent.attrs[usize::from(address)]) {
+        "0".repeat(page.dots as usize)
     } else {
         pattern(&ten_dots(lent, lent.chars[usize::from(address)], scan_line), page.dots as usize)
     };
     pattern.chars().map(|dot| level(if dot == '1' { *symbol } else { *surround })).collect()
+}
+
+/// 000: "if ACD = 0, the first character in each new attribute field (the attribute control character) will be
+/// suppressed and only the attributes will be displayed."
+fn is_control(page: &Page, own: u8) -> bool {
+    match (page.field_mode(), page.acd()) {
+        (true, false) => own >= 128,
+        (true, true) | (false, _) => false,
+    }
 }
 
 /// "BLINK is high in the fourth quarter of its period"

@@ -26,16 +26,36 @@ pub fn table(script: &mut Script, dice: &mut Dice, page: &Page, chars: &mut [u8]
 pub fn cursor_in_sight(dice: &mut Dice, page: &mut Page, chars: &[u8]) {
     let row = dice.between(0, page.rows() - 1);
     let column = dice.between(0, page.hact() - 1);
-    page.cursor = match column {
-        0 => sheet::row_start(page, chars, row),
-        _ => sheet::place_at(page, chars, row * page.lines_per_row() * page.ht() + column).address,
-    };
+    page.cursor = sheet::row_cells(page, chars, row)[column as usize];
 }
 
-/// Attributes, font and numbers beside the character memory that is there; then a board of this power state.
-/// An inactive board draws with its display off, so its numbers say that it is off.
-pub fn set_up(script: &mut Script, dice: &mut Dice, page: &Page, resets: u8) {
+/// Attributes beside the character memory that is there; then font, numbers and board. AFLG stands in every second
+/// cell or, in some pages in field mode, in a few that are shown.
+pub fn set_up(script: &mut Script, dice: &mut Dice, page: &Page, chars: &[u8], resets: u8) {
     script.attrs(dice);
+    if page.field_mode() && dice.one_in(2) {
+        let few = dice.pick(&[0, 1, 1, 2, 3, 6]);
+        let set: Vec<(u16, u8)> = (0..few).map(|_| (any_cell(dice, page, chars), attribute(dice))).collect();
+        script.set_only(&set);
+    }
+    prepare(script, dice, page, resets);
+}
+
+/// A cell that is shown, often at an end of its row.
+fn any_cell(dice: &mut Dice, page: &Page, chars: &[u8]) -> u16 {
+    let cells = sheet::row_cells(page, chars, dice.between(0, page.rows() - 1));
+    let any = dice.between(0, page.hact() - 1) as usize;
+    cells[dice.pick(&[any, any, 0, cells.len() - 1])]
+}
+
+/// Attributes for a cell to set, most of which leave something to be seen.
+pub fn attribute(dice: &mut Dice) -> u8 {
+    dice.byte() & dice.pick(&[0xFF, 0xFD, 0xFD, 0xF9])
+}
+
+/// Font and numbers beside the memories that are there; then a board of this power state. An inactive board draws
+/// with its display off, so its numbers say that it is off.
+pub fn prepare(script: &mut Script, dice: &mut Dice, page: &Page, resets: u8) {
     script.font(dice);
     if resets < 2 {
         script.numbers(&Page { switches: page.switches & !1, ..*page });

@@ -1,7 +1,8 @@
-//! Compares this program's two ways with each other: every clock of a frame, every line, states far away.
+//! Compares this program's two ways with each other: every clock of a frame, every line, states far away, and boards
+//! handed over anywhere, which the next frame brings back.
 
-use crate::board::{Board, Font, Lent};
-use crate::dice::{page, place_cells, Dice, Shape};
+use crate::board::{Board, Font, Lent, Place};
+use crate::dice::{any_place, page, place_cells, Dice, Shape};
 use crate::files::{numbers_of, page_of_numbers};
 use crate::script::filled;
 use crate::{machine, sheet};
@@ -11,6 +12,7 @@ pub struct Compared {
     pub clocks: u64,
     pub lines: u64,
     pub states: u64,
+    pub in_field_mode: u64,
 }
 
 pub fn compare(seed: u64, pages: u64) -> Result<Compared, String> {
@@ -28,8 +30,8 @@ fn one_page(dice: &mut Dice, compared: &mut Compared) -> Result<(), String> {
     place_cells(dice, &mut page);
     page.irs[2] |= dice.pick(&[0, 0x80]);
     page.switches &= !u8::from(dice.one_in(8));
-    let memory = |dice: &mut Dice| -> Vec<u8> { filled(16384, dice.seed()) };
-    let (chars, attrs) = (memory(dice), memory(dice));
+    let chars: Vec<u8> = filled(16384, dice.seed());
+    let attrs = attributes(dice);
     let words: Vec<u16> = filled(1152, dice.seed());
     let flags: Vec<u8> = (0..128).map(|_| dice.pick(&[0, 1, 128])).collect();
     let lists: Vec<u8> = filled(18, dice.seed());
@@ -40,29 +42,31 @@ fn one_page(dice: &mut Dice, compared: &mut Compared) -> Result<(), String> {
     if page_of_numbers(&numbers_of(&page)) != Some(page) {
         return Err("numbers there and back".to_string());
     }
+    compared.in_field_mode += u64::from(page.field_mode());
     whole_frame(dice, &board, &lent, compared)?;
-    far_states(dice, &board, &lent, compared)
+    far_states(dice, &board, &lent, compared)?;
+    brought_back(dice, &board, &lent)
+}
+
+/// AFLG in one of 2, 16 or 128 cells; not all may hide or blink.
+fn attributes(dice: &mut Dice) -> Vec<u8> {
+    let (cells, kept) = (dice.pick(&[2, 16, 128]), dice.pick(&[0x7F, 0x7D, 0x79]));
+    let random: Vec<u8> = filled(16384, dice.seed());
+    random.iter().map(|attribute| attribute & kept | u8::from(dice.one_in(cells)) << 7).collect()
 }
 
 fn whole_frame(dice: &mut Dice, board: &Board, lent: &Lent, compared: &mut Compared) -> Result<(), String> {
     let page = &board.page;
     let begin = dice.between(0, 300) * page.frame_clocks();
-    let mut walked = machine::state_at(board, lent.chars, begin);
+    let mut walked = machine::state_at(board, lent.chars, lent.attrs, begin);
     let field = walked.place.field;
     let (mut dots, mut fetched) = (Vec::new(), Vec::new());
     for n in begin..begin + page.frame_clocks() {
-        let visible = walked.place.line < page.visible_lines() && walked.place.clock < page.hact();
-        let shown = machine::step(&mut walked, lent);
-        let s = shown.signals;
-        let stepped = sheet::Moment {
-            signals: [s.hsync, s.vsync, s.blank, s.cursor, s.blink],
-            address: shown.address,
-            dots: shown.dots[..page.dots as usize].to_vec(),
-        };
+        let stepped = one_step(&mut walked, lent);
         if stepped != sheet::moment(page, board.display_on(), lent, n) {
             return Err(format!("clock {}", n));
         }
-        if visible {
+        if stepped.place.line < page.visible_lines() && stepped.place.clock < page.hact() {
             dots.extend(&stepped.dots);
             fetched.push(stepped.address);
         }
@@ -84,15 +88,49 @@ fn whole_frame(dice: &mut Dice, board: &Board, lent: &Lent, compared: &mut Compa
     }
 }
 
+fn one_step(walked: &mut Board, lent: &Lent) -> sheet::Moment {
+    let place = walked.place;
+    let shown = machine::step(walked, lent);
+    let s = shown.signals;
+    sheet::Moment {
+        place,
+        signals: [s.hsync, s.vsync, s.blank, s.cursor, s.blink],
+        address: shown.address,
+        dots: shown.dots[..walked.page.dots as usize].to_vec(),
+    }
+}
+
 fn far_states(dice: &mut Dice, board: &Board, lent: &Lent, compared: &mut Compared) -> Result<(), String> {
     let frame = board.page.frame_clocks();
     let near_end = u32::MAX - dice.between(0, frame);
     for n in [0, 1, frame - 1, frame, frame + 1, 255 * frame + 3, 256 * frame - 1, 256 * frame, near_end, u32::MAX] {
-        let place = sheet::place_at(&board.page, lent.chars, n);
-        if machine::state_at(board, lent.chars, n) != (Board { place, ..*board }) {
+        let place = sheet::place_at(&board.page, lent.chars, lent.attrs, n);
+        if machine::state_at(board, lent.chars, lent.attrs, n) != (Board { place, ..*board }) {
             return Err(format!("state {}", n));
         }
         compared.states += 1;
     }
     Ok(())
+}
+
+/// A board handed over anywhere with any latches: each step leaves them 0 or with AFLG. Row 0 loads address and latch, so
+/// that nothing but the field count is left after the frame that the board stood in and one more.
+fn brought_back(dice: &mut Dice, board: &Board, lent: &Lent) -> Result<(), String> {
+    let page = &board.page;
+    let mut walked = Board { place: any_place(dice, page), ..*board };
+    let left = page.frame_clocks() - walked.place.line * page.ht() - walked.place.clock;
+    let field = walked.place.field;
+    for _ in 0..left + page.frame_clocks() {
+        machine::step(&mut walked, lent);
+        let strange = |latch: u8| latch != 0 && (latch < 128 || !page.field_mode());
+        if strange(walked.place.latch) || strange(walked.place.row_latch) {
+            return Err("a latch handed over".to_string());
+        }
+    }
+    let place = sheet::place_at(page, lent.chars, lent.attrs, page.frame_clocks());
+    if walked.place == (Place { field: field.wrapping_add(2), ..place }) {
+        Ok(())
+    } else {
+        Err("a board handed over".to_string())
+    }
 }

@@ -8,4 +8,4 @@ unfolding addressRefused
 returns c = cc
 
 pub address-refused-spec : {M : Type 1} → statement M
-address-refused-spec = tie.close (tie.spec (λ c κs. search needs) returns)
+address-refused-spec = tie.close (tie.spec (λ c κs. search needs) (λ c κs. search needs) returns)

@@ -8,9 +8,10 @@ use Rattle.files.proofs.page_at.Tie as tie
 returns : tie.Need-returns
 unfolding pageAt
 returns c =
-    let bytes = c .before .before .before .before .before .before .before .args .bytes .now in
-    let at = c .before .before .before .before .before .before .before .args .at in
+    let bytes = c .before .before .before .before .before .before .before .before .args .bytes .now in
+    let at = c .before .before .before .before .before .before .before .before .args .at in
     λ i. record {
+      version = getD bytes 0 0;
       irs = c .before .before .before .before .before .irs-at .ensures i;
       starts = c .before .before .before .before .starts-at .ensures i;
       switches = getD bytes (at + 21) 0;
@@ -21,6 +22,7 @@ pub page-at-spec : {M : Type 1} → statement M
 page-at-spec =
     tie.close
     (tie.spec
+    (λ c. search needs)
     (λ c κs. search needs)
     (λ c. search needs)
     (λ c κs. search needs)

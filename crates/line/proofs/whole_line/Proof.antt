@@ -1,7 +1,8 @@
 use Prim.Native.Nat.{ℕ, _≤_, _<_}
+use mathlib.Core.Path.{_≡_}
 use native.Mathlib.Omega.{arith}
 use borrow.Author.Needs.{needs}
-use lib.ListN.{getD}
+use lib.ListN.{length, getD}
 use Rattle.timing.specs.Fields.{timingOf, countsOf}
 use Rattle.timing.specs.Laws.{buffer-bounded}
 use Rattle.fetch.specs.Laws.{row-start-lt}
@@ -17,10 +18,17 @@ begin c = c .before .before .before .before .before .before .before .before .bef
 abbrev font : tie.After-row-start → Font
 font c = fontOf (begin c .args .words .now) (begin c .args .flags .now) (begin c .args .unshifted .now) (begin c .args .shifted .now)
 
-row-start-requires : tie.Need-row-start-requires
-row-start-requires c κs =
+-- what a search of the row's cells asks
+in-page : (c : tie.After-walk-of) → (length (c .before .before .before .before .before .before .before .before .before .before .before .before .before .args .chars .now) ≡ 16384) × (c .before .before .row-of .result < 8192)
+in-page c =
     let start = c .before .before .before .before .before .before .before .before .before .before .before .before .before in
     (start .pre .chars-all, rw (c .before .before .row-of .ensures) (omega (arith, start .pre .row-lt)))
+
+row-start-requires : tie.Need-row-start-requires
+row-start-requires c κs = in-page c
+
+held-at-requires : tie.Need-held-at-requires
+held-at-requires c κs = let q = in-page (c .before) in (q .0, begin c .pre .attrs-all, q .1)
 
 -- a row has at most 256 cells
 few : (c : tie.After-row-start) → c .before .before .before .before .timing-of .result .counts .hact .0 ≤ 256
@@ -29,7 +37,7 @@ few c = rw (c .before .before .before .before .timing-of .ensures) (omega arith)
 
 gather-requires : tie.Need-gather-requires
 gather-requires c κs =
-    let k = c .before .before .before .before in (
+    let k = c .before .before .before .before .before .before in (
       begin k .pre .chars-all,
       begin k .pre .attrs-all,
       few k,
@@ -39,7 +47,7 @@ gather-requires c κs =
 
 -- the row's start again, from the place where the levels are known
 abbrev started : tie.After-looks2 → tie.After-row-start
-started c = c .before .before .before .before .before .before .before .before .before
+started c = c .before .before .before .before .before .before .before .before .before .before .before
 
 prepared : (c : tie.After-looks2)
     → Prepared (begin (started c) .args .b) (begin (started c) .args .chars .now) (begin (started c) .args .attrs .now) (font (started c)) (begin (started c) .args .line .0)
@@ -47,7 +55,8 @@ prepared : (c : tie.After-looks2)
 prepared c =
     let k = started c in
     prepared-of (begin k .args .b) _ _ (font k) _ _ _ _ (k .before .before .before .before .timing-of .ensures) (k .before .before .before .row-of .ensures) (k .before .before .line-of-row .ensures) (k .before .walk-of .ensures)
-    (k .row-start .ensures) (c .before .before .before .before .before .before .buffer-of .ensures) (c .before .before .before .before .gather .ensures) (c .before .scene-of .ensures) (c .looks2 .ensures)
+    (k .row-start .ensures) (c .before .before .before .before .before .before .before .before .before .before .held-at .ensures) (c .before .before .before .before .before .before .before .reading-of .ensures) (c .before .before .before .before .before .before .buffer-of .ensures)
+    (c .before .before .before .before .gather .ensures .1) (c .before .scene-of .ensures) (c .looks2 .ensures)
 
 bytes : (c : tie.After-row-start) (i : ℕ) → getD (begin c .args .chars .now) i 0 < 256
 bytes c i = omega (arith, c .before .before .before .before .before .before .before .before .before .before .before .before .shared-slice-known .given i)
@@ -71,7 +80,9 @@ whole-line-spec =
     (λ c κs. search needs)
     (λ c κs. search needs)
     row-start-requires
+    held-at-requires
     (λ c. search needs)
+    (λ c κs. search needs)
     (λ c κs. search needs)
     (λ c. search needs)
     gather-requires

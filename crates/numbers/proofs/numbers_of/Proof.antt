@@ -1,4 +1,4 @@
-use mathlib.Core.Path.{_≡_, ap, _∙_}
+use mathlib.Core.Path.{_≡_, ap₂, _∙_}
 use mathlib.Core.Bool.{true}
 use borrow.Author.Needs.{needs}
 use Rattle.refusal.specs.Number.{doneOf}
@@ -28,10 +28,11 @@ put-numbers-requires c κs = (search needs, search needs)
 
 returns-2 : tie.Need-returns-2
 returns-2 c =
-    let then = c .before .before .before .before .before .before in
+    let version = c .before .before .before .before .before in
+    let then = version .before .before in
     let judged = then .before .before in
     saved (begin judged .args .b) (begin judged .args .numbers .now) (judged .before .if1 .left) (judged .page-check .ensures) (done then)
-    (c .before .before .put-numbers .ensures ∙ ap numbersWith (c .before .before .before .before .before .page-bytes .ensures))
+    (c .before .before .put-numbers .ensures ∙ ap₂ numbersWith (version .version-of .ensures) (version .before .page-bytes .ensures))
 
 returns-3 : tie.Need-returns-3
 returns-3 c =
@@ -47,6 +48,7 @@ numbers-of-spec =
     (λ c κs. search needs)
     (λ c κs. search needs)
     page-bytes-requires
+    (λ c κs. search needs)
     (λ c. search needs)
     put-numbers-requires
     (λ c. search needs)

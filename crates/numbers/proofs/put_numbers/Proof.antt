@@ -8,7 +8,7 @@ returns c =
     let two = c .before .before .before .before .before .before .before in
     let one = two .before .before .before .before in
     let start = one .before .before .before .before .before in
-    numbers-put (start .args .page .now) (start .args .numbers .now) (start .pre .0) (start .pre .1) (one .put .ensures) (two .put2 .ensures) (c .before .before .put3 .ensures)
+    numbers-put (start .args .version) (start .args .page .now) (start .args .numbers .now) (start .pre .0) (start .pre .1) (one .put .ensures) (two .put2 .ensures) (c .before .before .put3 .ensures)
 
 pub put-numbers-spec : {M : Type 1} → statement M
 put-numbers-spec =

@@ -30,22 +30,25 @@ fits c =
     read-fits (args .file .now) (length (args .numbers .now)) (length (args .chars .now)) (length (args .attrs .now))
     (done-is _ (checked (check (c .before .before)) (c .before .is-done .ensures) (c .if1 .taken)))
 
+shared-slice-read-put-numbers : tie.Need-shared-slice-read-put-numbers
+shared-slice-read-put-numbers c = omega (arith, fits (c .before .before .before .before .before .before .before .before) .0)
+
 part-put-numbers-end : tie.Need-part-put-numbers-end
-part-put-numbers-end c = omega (arith, fits (c .before .before .before .before .before .before .before) .0)
+part-put-numbers-end c = omega (arith, fits (c .before .before .before .before .before .before .before .before) .0)
 
 put-numbers-requires : tie.Need-put-numbers-requires
 put-numbers-requires c κs =
-    let then = c .before .before .before .before .before .before .before .before .before in
+    let then = c .before .before .before .before .before .before .before .before .before .before in
     (length-part (start (then .before .before) .args .file .now) 5 24 (omega (arith, fits then .0)), fits then .1)
 
 returns : tie.Need-returns
 returns c =
-    let then = c .before .before .before .before .before .before .before .before .before .before .before .before in
+    let then = c .before .before .before .before .before .before .before .before .before .before .before .before .before in
     let k = then .before .before in
     let ok = done-is _ (checked (check k) (then .before .is-done .ensures) (then .if1 .taken)) in
     let args = start k .args in
     let file = args .file .now in
-    let read = c .before .before .before .before .before .before .before .before .before .read-page .ensures in
+    let read = c .before .before .before .before .before .before .before .before .before .before .read-page .ensures in
     let left =
     file-read file (length (args .numbers .now)) (length (args .chars .now)) (length (args .attrs .now)) ok (args .numbers .now) (args .chars .now) (args .attrs .now)
     (c .before .before .put-numbers .ensures) (read .1) (read .2) in
@@ -66,6 +69,7 @@ read-file-spec =
     (λ c κs. search needs)
     (λ c κs. search needs)
     (λ c κs. search needs)
+    shared-slice-read-put-numbers
     (λ c. search needs)
     (λ c. search needs)
     part-put-numbers-end

@@ -1,7 +1,7 @@
 use native.Mathlib.Omega.{arith}
 use borrow.Author.Needs.{needs}
 use Rattle.shape.specs.Font.{Font, fontOf}
-use Rattle.picture.specs.Agree.{plan-dots, plan-lines, plan-rows, plan-size, made-of, sheet-of, pictured}
+use Rattle.picture.specs.Agree.{plan-dots, plan-lines, plan-size, made-of, sheet-of, pictured}
 use Rattle.picture.proofs.by_rows.Statement.{statement}
 use Rattle.picture.proofs.by_rows.Tie as tie
 
@@ -35,7 +35,7 @@ draw-rows-requires c κs =
     let q = k .pre .1 in
     let made = made-of (k .args .b) (font k) (k .args .field) _ _ _ _ _ _ _ q (low .fill-spreads .ensures) (high .fill-last .ensures) (looks .fill-looks .ensures) in (
       (sheet-of (k .args .b) (font k) (k .args .field) _ _ _ (k .pre .0 .page) made (search needs) (search needs) (search needs) _ q, k .pre .0 .chars-all, k .pre .0 .attrs-all),
-      (k .pre .0 .page, plan-rows _ _ q, rw (plan-size _ _ q) (k .pre .0 .roomy)),
+      (k .pre .0 .page, q, rw (plan-size _ _ q) (k .pre .0 .roomy)),
     )
 
 returns : tie.Need-returns

@@ -26,7 +26,7 @@ mul-size c =
 
 returns : tie.Need-returns
 unfolding planOf timingOf countsOf
-returns c = rw (c .buffer-of .ensures, c .before .before .before .dots-of .ensures, c .before .before .before .before .before .before .before .timing-of .ensures)
+returns c = rw (c .reading-of .ensures, c .before .buffer-of .ensures, c .before .before .before .before .dots-of .ensures, c .before .before .before .before .before .before .before .before .timing-of .ensures)
 
 pub plan-of-spec : {M : Type 1} → statement M
 plan-of-spec =
@@ -37,5 +37,6 @@ plan-of-spec =
     (λ c. search needs)
     (λ c. search needs)
     mul-size
+    (λ c κs. search needs)
     (λ c κs. search needs)
     returns)

@@ -7,24 +7,30 @@ use Rattle.step.proofs.clock_dots.Tie as tie
 
 returns : tie.Need-returns
 returns c =
-    let start = c .before .before .before .before .before .before .before .before .before .before in
+    let then = c .before .before .before .before .before .before .before in
+    let start = then .before .before .before .before .before .before .before in
     dots-active (start .args .b) (start .args .chars .now) (start .args .attrs .now)
     (fontOf (start .args .words .now) (start .args .flags .now) (start .args .unshifted .now) (start .args .shifted .now)) (start .args .scene)
-    (start .pre .1 .0) (start .args .address) _ (sym (start .pre .1 .1) ∙ c .before .before .before .if1 .taken) (c .shown-dots .ensures)
+    (start .pre .1 .0) (start .args .held) (start .args .address) _ (sym (start .pre .1 .1) ∙ then .if1 .taken) _
+    (c .before .before .before .before .latched .ensures) _ (c .before .shown-code .ensures ∙ rw (c .before .before .before .setters-hidden .ensures))
+    (c .shown-dots .ensures)
 
 returns-2 : tie.Need-returns-2
 returns-2 c =
     let start = c .before .before .before .before .before .before .before .before in
     dots-blank (start .args .b) (start .args .chars .now) (start .args .attrs .now)
     (fontOf (start .args .words .now) (start .args .flags .now) (start .args .unshifted .now) (start .args .shifted .now)) (start .args .scene)
-    (start .pre .1 .0) (start .args .address) _ (sym (start .pre .1 .1) ∙ c .before .if1 .left) (c .blank-dots .ensures)
+    (start .pre .1 .0) (start .args .held) (start .args .address) _ (sym (start .pre .1 .1) ∙ c .before .if1 .left) (c .blank-dots .ensures)
 
 pub clock-dots-spec : {M : Type 1} → statement M
 clock-dots-spec =
     tie.close
     (tie.spec
     (λ c. search needs)
+    (λ c κs. search needs)
+    (λ c κs. search needs)
     (λ c. search needs)
+    (λ c κs. search needs)
     (λ c κs. search needs)
     returns
     (λ c κs. search needs)

@@ -1,0 +1,16 @@
+-- 000, field mode (02, R-1): what is valid before the cell at a column of a row.
+use Prim.Native.Nat.{ℕ, min, _+_, _*_, _/_, _%_}
+use mathlib.Core.List.{List}
+use Rattle.raster.specs.Latch.{setsOf, lastSet}
+use Rattle.board.specs.declared.Page.{Page}
+use Rattle.board.specs.Modes.{fieldMode}
+use Rattle.timing.specs.Fields.{hactOf}
+use Rattle.fetch.specs.Rows.{cellAt}
+
+-- the attribute byte of the cell that is fetched after k others, from row 0, column 0 of the frame on
+abbrev pub byteOf : Page → (chars attrs : List ℕ) → (k : ℕ) → ℕ
+byteOf p chars attrs k = setsOf (fieldMode p) attrs (cellAt p chars (k / hactOf (p .irs)) (k % hactOf (p .irs)))
+
+-- of the last cell with AFLG that is fetched in the frame before column c of row r, or 0 for none
+unfoldable pub heldAt : Page → (chars attrs : List ℕ) → (row column : ℕ) → ℕ
+heldAt p chars attrs r c = lastSet (byteOf p chars attrs) 0 (r * hactOf (p .irs) + min c (hactOf (p .irs)))

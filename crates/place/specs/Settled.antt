@@ -1,0 +1,130 @@
+-- Latch bytes as they count (02, R-1): one without AFLG is none, and in character mode every one. Assumes nothing.
+--     next-settled   every step leaves them so
+--     at-settled     and so are those of the place for clock n
+use Prim.Native.Nat.{ℕ, _+_, _/_, _%_}
+use mathlib.Core.Path.{_≡_, refl, sym, ap, _∙_}
+use mathlib.Core.Bool.{Bool, true, false}
+use mathlib.Core.List.{List}
+use lib.Dec.{ltb, eqb}
+use Rattle.lists.specs.Choice.{pick}
+use Rattle.raster.specs.declared.Beam.{Beam}
+use Rattle.raster.specs.Raster.{Pair, pair, Scan, scan, turn, loaded, scanAt}
+use Rattle.raster.specs.Latch.{latched, kept-twice, latched-kept}
+use Rattle.raster.specs.Beams.{beam}
+use Rattle.board.specs.declared.Page.{Page}
+use Rattle.board.specs.declared.Place.{Place}
+use Rattle.board.specs.Modes.{fieldMode}
+use Rattle.timing.specs.Fields.{linesOf, htOf, vtOf, visibleOf, countsOf}
+use Rattle.latch.specs.Held.{heldAt}
+use Rattle.latch.specs.Laws.{held-plain, held-kept}
+use Rattle.place.specs.declared.Carried.{Carried}
+use Rattle.place.specs.Place.{placeOf, countsIn, carriedOf, setBy, countedLatch, settled, settledIn, activeAt, begunIn, loadedIn, pastCell, movedIn, turnedIn, nextPlace, rowAt, carriedBefore, placeAt}
+use Rattle.place.specs.Laws.{one-clock, carried-all}
+
+module _ (p : Page) where
+  -- ---- one byte
+
+  counted-none : countedLatch p 0 ≡ 0
+  unfolding countedLatch
+  counted-none = go (fieldMode p)
+    where
+      go : (t : Bool) → latched (pick t 0 0) 0 ≡ 0
+      go true = refl
+      go false = refl
+
+  counted-twice : (l : ℕ) → countedLatch p (countedLatch p l) ≡ countedLatch p l
+  unfolding countedLatch
+  counted-twice l = go (fieldMode p)
+    where
+      go : (t : Bool) → latched (pick t (latched (pick t l 0) 0) 0) 0 ≡ latched (pick t l 0) 0
+      go true = kept-twice l
+      go false = refl
+
+  counted-set : (byte l : ℕ) → countedLatch p l ≡ l → countedLatch p (latched (setBy p byte) l) ≡ latched (setBy p byte) l
+  unfolding countedLatch
+  counted-set byte l = go (fieldMode p)
+    where
+      go : (t : Bool) → latched (pick t l 0) 0 ≡ l → latched (pick t (latched (pick t byte 0) l) 0) 0 ≡ latched (pick t byte 0) l
+      go true h = latched-kept byte l h
+      go false h = h
+
+  counted-held : (chars attrs : List ℕ) (r c : ℕ) → countedLatch p (heldAt p chars attrs r c) ≡ heldAt p chars attrs r c
+  unfolding countedLatch
+  counted-held chars attrs r c = go (fieldMode p) refl
+    where
+      go : (t : Bool) → fieldMode p ≡ t → latched (pick t (heldAt p chars attrs r c) 0) 0 ≡ heldAt p chars attrs r c
+      go true e = held-kept p chars attrs r c
+      go false e = sym (held-plain p chars attrs e r c)
+
+  -- ---- what is carried
+
+  abbrev pub Settled : Carried → Type 0
+  Settled c = (countedLatch p (c .beam .latch) ≡ c .beam .latch) × (countedLatch p (c .row .latch) ≡ c .row .latch)
+
+  begun-settled : (chars : List ℕ) (r : ℕ) (x : Beam) → countedLatch p (begunIn p chars r (settled p x) .latch) ≡ begunIn p chars r (settled p x) .latch
+  begun-settled chars r x = go (eqb r 0)
+    where
+      go : (t : Bool) → countedLatch p (pick t 0 (countedLatch p (x .latch))) ≡ pick t 0 (countedLatch p (x .latch))
+      go true = counted-none
+      go false = counted-twice (x .latch)
+
+  pub loaded-settled : (chars : List ℕ) (q : Place) → Settled (loadedIn p chars q)
+  unfolding loadedIn loaded countsOf
+  loaded-settled chars q = go (ltb (q .line .0) (visibleOf (p .irs) .0)) (eqb (q .clock .0) 0) (eqb (q .line .0 % linesOf (p .irs)) 0)
+    where
+      first : Beam
+      first = begunIn p chars (q .line .0 / linesOf (p .irs)) (settled p (q .beam))
+
+      held : Pair Beam
+      held = pair (settled p (q .beam)) (settled p (q .row))
+
+      go : (u v w : Bool) → Settled (carriedOf (pick u (pick v (pick w (pair first first) (pair (held .row) (held .row))) held) held))
+      go true true true = let e = begun-settled chars (q .line .0 / linesOf (p .irs)) (q .beam) in (e, e)
+      go true true false = (counted-twice (q .row .latch), counted-twice (q .row .latch))
+      go true false w = (counted-twice (q .beam .latch), counted-twice (q .row .latch))
+      go false v w = (counted-twice (q .beam .latch), counted-twice (q .row .latch))
+
+  moved-settled : (attrs : List ℕ) (q : Place) (c : Carried) → Settled c → Settled (movedIn p attrs q c)
+  unfolding movedIn
+  moved-settled attrs q c h = go (activeAt p q)
+    where
+      go : (t : Bool) → Settled (pick t (record { beam = pastCell p attrs (c .beam); row = c .row }) c)
+      go true = (counted-set _ (c .beam .latch) (h .0), h .1)
+      go false = h
+
+  turned-settled : (q : Place) (c : Carried) → Settled c → settledIn p (turnedIn p q c) ≡ turnedIn p q c
+  unfolding turnedIn turn
+  turned-settled q c h = go (ltb (q .clock .0 + 1) (countsIn p .ht .0)) (ltb (q .line .0 + 1) (countsIn p .vt .0))
+    where
+      to : (field line clock : ℕ) → Scan Beam
+      to field line clock = scan field line clock (pair (c .beam) (c .row))
+
+      kept : (field line clock : ℕ) → settledIn p (placeOf (to field line clock)) ≡ placeOf (to field line clock)
+      kept field line clock = rw (h .0, h .1)
+
+      after : (u v : Bool) → Scan Beam
+      after u v = pick u (to (q .field) (q .line .0) (q .clock .0 + 1)) (pick v (to (q .field) (q .line .0 + 1) 0) (to ((q .field + 1) % 256) 0 0))
+
+      go : (u v : Bool) → settledIn p (placeOf (after u v)) ≡ placeOf (after u v)
+      go true v = kept _ _ _
+      go false true = kept _ _ _
+      go false false = kept _ _ _
+
+  pub next-settled : (chars attrs : List ℕ) (q : Place) → settledIn p (nextPlace p chars attrs q) ≡ nextPlace p chars attrs q
+  next-settled chars attrs q =
+      ap (settledIn p) (sym (one-clock p chars attrs q))
+      ∙ turned-settled q _ (moved-settled attrs q _ (loaded-settled chars q))
+      ∙ one-clock p chars attrs q
+
+  -- ---- at once
+
+  row-settled : (chars attrs : List ℕ) (r c : ℕ) → Settled (rowAt p chars attrs r c)
+  unfolding rowAt
+  row-settled chars attrs r c = (counted-held chars attrs r c, counted-held chars attrs r 0)
+
+  pub at-settled : (chars attrs : List ℕ) (n : ℕ) → settledIn p (placeAt p chars attrs n) ≡ placeAt p chars attrs n
+  unfolding placeAt scanAt carriedBefore countsOf
+  at-settled chars attrs n =
+      let y = n / htOf (p .irs) in
+      let s = carried-all p chars attrs Settled (row-settled chars attrs) (counted-none, counted-none) (n % htOf (p .irs)) (y % vtOf (p .irs)) (y / vtOf (p .irs)) in
+      rw (s .0, s .1)
