@@ -314,21 +314,20 @@ static void draw_rows(const struct plan *p, uint8_t *out)
 
 /* ---- the call ---- */
 
-/* What a page's numbers are refused for: 12, 4, 5, 6. */
-static uint32_t page_refused(const uint8_t *numbers)
+/* What a page's numbers are refused for: 12, 4, 13, 14, 15, 6. */
+static feldrime_answer page_refused(const uint8_t *numbers)
 {
     const uint8_t *ir = numbers + 1;
-    unsigned hsync = 2u * (ir[2] >> 3 & 15) + 2;
-    unsigned ht = 2u * ((ir[1] & 127) + 1 + 2 * hsync);
+    struct porches porches = porches_of(ir);
 
     if (big_endian(numbers + 16) >= MEMORY || big_endian(numbers + 18) >= MEMORY || big_endian(numbers + 20) >= MEMORY
         || numbers[22] > most_switches(numbers[0]) || numbers[24] > 15)
-        return 12;
+        return (feldrime_answer){ 12, 0 };
     if ((ir[0] | ir[1]) & 128)
-        return 4;
-    if ((ir[2] & 7) == 0 || ht < ir[5] + 1u + hsync + (4u * (ir[2] & 7) - 1) + 2)
-        return 5;
-    return numbers[23] < 6 || numbers[23] > 12 ? 6 : 0;
+        return (feldrime_answer){ 4, 0 };
+    if (porches.refusal != 0)
+        return (feldrime_answer){ porches.refusal, porches.missing };
+    return (feldrime_answer){ numbers[23] < 6 || numbers[23] > 12 ? 6 : 0, 0 };
 }
 
 static void plan_page(struct plan *p, const uint8_t *numbers, uint8_t field)
@@ -355,11 +354,11 @@ static void plan_page(struct plan *p, const uint8_t *numbers, uint8_t field)
     p->cursor_to = !gate ? 0 : last_line < p->lines ? last_line + 1 : p->lines;
 }
 
-static uint32_t sizes_refused(const uint8_t *numbers, const size_t counts[7])
+static int sizes_refused(const uint8_t *numbers, const size_t counts[7])
 {
     static const size_t right[] = { 32, MEMORY, MEMORY, CHARACTERS * LIST, CHARACTERS, LIST, LIST };
 
-    return memcmp(counts, right, sizeof right) != 0 || (numbers[0] != 1 && numbers[0] != 2) ? 3 : 0;
+    return memcmp(counts, right, sizeof right) != 0 || (numbers[0] != 1 && numbers[0] != 2);
 }
 
 feldrime_answer expert_picture_draw(
@@ -374,13 +373,13 @@ feldrime_answer expert_picture_draw(
     uint8_t *out, size_t out_count)
 {
     struct plan p; /* not cleared: its tables are large */
-    uint32_t refusal = sizes_refused(numbers, (const size_t[]){
-        numbers_count, chars_count, attrs_count, words_count, flags_count, unshifted_count, shifted_count });
 
-    if (refusal == 0)
-        refusal = page_refused(numbers);
-    if (refusal != 0)
-        return (feldrime_answer){ refusal, 0 };
+    if (sizes_refused(numbers, (const size_t[]){
+            numbers_count, chars_count, attrs_count, words_count, flags_count, unshifted_count, shifted_count }))
+        return (feldrime_answer){ 3, 0 };
+    feldrime_answer refused = page_refused(numbers);
+    if (refused.refusal != 0)
+        return refused;
     p.chars = chars;
     p.attrs = attrs;
     plan_page(&p, numbers, field);

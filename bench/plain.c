@@ -90,11 +90,9 @@ feldrime_answer plain_line_draw(
         return answer(4);
 
     unsigned hact = ir[5] + 1u;
-    unsigned hsync = 2u * (ir[2] >> 3 & 15) + 2;
-    unsigned hbp_code = ir[2] & 7;
-    unsigned ht = 2u * ((ir[1] & 127) + 1 + 2 * hsync);
-    if (hbp_code == 0 || ht < hact + hsync + (4 * hbp_code - 1) + 2)
-        return answer(5);
+    struct porches porches = porches_of(ir);
+    if (porches.refusal != 0)
+        return (feldrime_answer){ porches.refusal, porches.missing };
 
     if (dots < 6 || dots > 12)
         return answer(6);

@@ -1,4 +1,4 @@
-/* What the C around the library shares: sizes, the bits of switches and attributes, the levels, addresses, a list's search. */
+/* What the C around the library shares: sizes, the bits of switches and attributes, the levels, porches, addresses, a list's search. */
 #ifndef RULES_H
 #define RULES_H
 
@@ -33,6 +33,25 @@ static inline unsigned first_address(const uint8_t *ir)
 static inline unsigned last_address(const uint8_t *ir)
 {
     return ((ir[9] >> 4) + 1u) * 1024 - 1;
+}
+
+/* What the clocks of a line are refused for, and by how many clocks its front porch misses 2. */
+struct porches {
+    uint32_t refusal, missing;
+};
+
+static inline struct porches porches_of(const uint8_t *ir)
+{
+    unsigned hsync = 2u * (ir[2] >> 3 & 15) + 2;
+    unsigned hbp_code = ir[2] & 7;
+    unsigned ht = 2u * ((ir[1] & 127) + 1 + 2 * hsync);
+    unsigned rest = ir[5] + 1u + hsync + 4 * hbp_code - 1;
+
+    if (hbp_code == 0)
+        return (struct porches){ 13, 0 };
+    if (ht >= rest + 2)
+        return (struct porches){ 0, 0 };
+    return (struct porches){ ht < rest ? 14 : 15, rest + 2 - ht };
 }
 
 /* An address in a page's numbers. */

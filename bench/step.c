@@ -48,11 +48,12 @@ feldrime_step_answer plain_step(
 
     unsigned hact = ir[5] + 1u;
     unsigned hsync = 2u * (ir[2] >> 3 & 15) + 2;
-    unsigned hbp_code = ir[2] & 7;
-    unsigned hbp = 4 * hbp_code - 1;
+    unsigned hbp = 4u * (ir[2] & 7) - 1;
     unsigned ht = 2u * ((ir[1] & 127) + 1 + 2 * hsync);
-    if (hbp_code == 0 || ht < hact + hsync + hbp + 2) {
-        a.refusal = 5;
+    struct porches porches = porches_of(ir);
+    if (porches.refusal != 0) {
+        a.refusal = porches.refusal;
+        a.beside = porches.missing;
         return a;
     }
 

@@ -21,11 +21,14 @@ static void fail(const char *name)
     exit(1);
 }
 
-static void judge(const char *name, uint32_t refusal, const char *hint)
+static void judge(const char *name, feldrime_answer answer, const char *hint)
 {
-    if (refusal == FELDRIME_DONE)
+    if (answer.refusal == FELDRIME_DONE)
         return;
-    fprintf(stderr, "draw: %s: refused %u, %s%s\n", name, (unsigned)refusal, feldrime_meaning(refusal), hint);
+    fprintf(stderr, "draw: %s: refused %u, %s%s", name, (unsigned)answer.refusal, feldrime_meaning(answer.refusal), hint);
+    if (answer.beside > 0)
+        fprintf(stderr, "; clocks missing: %u", (unsigned)answer.beside);
+    fputc('\n', stderr);
     exit(1);
 }
 
@@ -79,12 +82,12 @@ int main(int count, char *arguments[])
     }
     uint8_t field = field_of(arguments[3]);
     size_t bytes = read_file(arguments[1]);
-    judge(arguments[1], feldrime_read_page(&page, file, bytes).refusal,
+    judge(arguments[1], feldrime_read_page(&page, file, bytes),
           bytes == FELDRIME_FONT_FILE ? "; it has a font's size: PAGE comes before FONT" : "");
     bytes = read_file(arguments[2]);
-    judge(arguments[2], feldrime_read_font(&font, file, bytes).refusal,
+    judge(arguments[2], feldrime_read_font(&font, file, bytes),
           bytes == FELDRIME_PAGE_FILE ? "; it has a page's size: FONT comes after PAGE" : "");
-    judge(arguments[1], feldrime_draw(&page, &font, field, picture, sizeof picture).refusal, "");
+    judge(arguments[1], feldrime_draw(&page, &font, field, picture, sizeof picture), "");
     write_picture();
     return 0;
 }

@@ -21,8 +21,8 @@
    - A refused call leaves every lent buffer as it was. What stands beyond a drawn picture or line, a row's cells or a
      written file stays.
    - An answer is a struct by value. It begins with refusal, 0 where all was done, else the first that holds of the
-     numbers that stand at the call, in that order. beside is a number that belongs to some refusals, and so far to none:
-     it is 0. On a refusal the results are 0, unless the call says otherwise.
+     numbers that stand at the call, in that order. beside belongs to 14 and 15: by how many clocks the front porch misses
+     2, which is HACT + HSYNC + HBP + 2 - HT; else it is 0. On a refusal the results are 0, unless the call says otherwise.
    - The library keeps nothing between calls, and has no state of its own. Threads may call it at the same time, as long
      as a buffer that is being written is used by one call at a time. feldrime_picture_draw needs at most 80 KB of stack,
      the other calls little. */
@@ -39,7 +39,7 @@ extern "C" {
 /* The version of this header and of the archive that it belongs to. While it stays, all that is said here stays, though
    calls may be added. With another version calls, structs, sizes and refusal numbers may be others, and so may what is
    accepted and drawn: a program is then read through and compiled again. Files have versions of their own. */
-#define FELDRIME_VERSION 2
+#define FELDRIME_VERSION 3
 
 /* The sizes of buffers, in elements. */
 enum {
@@ -64,13 +64,15 @@ enum {
     FELDRIME_REFUSED_LENGTH = 2,
     FELDRIME_REFUSED_SIZE = 3,
     FELDRIME_REFUSED_RESERVED = 4,
-    FELDRIME_REFUSED_PORCH = 5,
     FELDRIME_REFUSED_WIDTH = 6,
     FELDRIME_REFUSED_RANGE = 7,
     FELDRIME_REFUSED_ROOM = 8,
     FELDRIME_REFUSED_REGISTER = 9,
     FELDRIME_REFUSED_COMMAND = 10,
-    FELDRIME_REFUSED_ADDRESS = 12
+    FELDRIME_REFUSED_ADDRESS = 12,
+    FELDRIME_REFUSED_BACK_PORCH = 13,
+    FELDRIME_REFUSED_LINE_SHORT = 14,
+    FELDRIME_REFUSED_FRONT_PORCH = 15
 };
 
 /* What a refusal number means, in words that name all its causes. */
@@ -88,8 +90,6 @@ static inline const char *feldrime_meaning(uint32_t refusal)
                "or the page's numbers do not begin with version 1 or 2";
     case FELDRIME_REFUSED_RESERVED:
         return "doubled rows (IR0[7]) or interlace (IR1[7]) is set";
-    case FELDRIME_REFUSED_PORCH:
-        return "the back porch code (IR2[2:0]) is 0, or the front porch is below 2 clocks";
     case FELDRIME_REFUSED_WIDTH:
         return "the dots of a cell are not 6 to 12";
     case FELDRIME_REFUSED_RANGE:
@@ -103,6 +103,13 @@ static inline const char *feldrime_meaning(uint32_t refusal)
     case FELDRIME_REFUSED_ADDRESS:
         return "screen start 1, screen start 2 or the cursor address is above 16383, "
                "one of the switches 4 to 7 is set (in version 2, switch 6 or 7), or the strike line is above 15";
+    case FELDRIME_REFUSED_BACK_PORCH:
+        return "the back porch code (IR2[2:0]) is 0";
+    case FELDRIME_REFUSED_LINE_SHORT:
+        return "the line is too short for its active, sync and back porch clocks "
+               "(EC in IR1, HSYNC and HBP in IR2, HACT in IR5)";
+    case FELDRIME_REFUSED_FRONT_PORCH:
+        return "the front porch is 0 or 1 clocks, and 2 are needed (EC in IR1, HSYNC and HBP in IR2, HACT in IR5)";
     default:
         return "no refusal has this number";
     }
@@ -181,23 +188,23 @@ typedef struct {
     uint32_t count; /* cells[0] to cells[count - 1] */
 } feldrime_cells;
 
-/* Could such a page be drawn? Refuses 3, 12, 4, 5, 6. */
+/* Could such a page be drawn? Refuses 3, 12, 4, 13, 14, 15, 6. */
 feldrime_answer feldrime_page_check(
     const uint8_t *numbers, size_t numbers_count);
 
-/* How large its picture is. Refuses 3, 12, 4, 5, 6. */
+/* How large its picture is. Refuses 3, 12, 4, 13, 14, 15, 6. */
 feldrime_size feldrime_page_size(
     const uint8_t *numbers, size_t numbers_count);
 
 /* Takes a page file apart: version byte, 1 or 2; 32792 in four bytes, high byte first; bytes 1 to 24 of the numbers;
-   character memory; attribute memory. Writes all of numbers, chars and attrs. Refuses 1, 2, 3, 12, 4, 5, 6. */
+   character memory; attribute memory. Writes all of numbers, chars and attrs. Refuses 1, 2, 3, 12, 4, 13, 14, 15, 6. */
 feldrime_answer feldrime_page_read(
     const uint8_t *file, size_t file_count,
     uint8_t *numbers, size_t numbers_count,
     uint8_t *chars, size_t chars_count,
     uint8_t *attrs, size_t attrs_count);
 
-/* Writes a page file to the first FELDRIME_PAGE_FILE bytes of out. Refuses 3, 12, 4, 5, 6. */
+/* Writes a page file to the first FELDRIME_PAGE_FILE bytes of out. Refuses 3, 12, 4, 13, 14, 15, 6. */
 feldrime_answer feldrime_page_write(
     const uint8_t *numbers, size_t numbers_count,
     const uint8_t *chars, size_t chars_count,
@@ -214,7 +221,7 @@ feldrime_answer feldrime_font_read(
     uint8_t *shifted, size_t shifted_count);
 
 /* Draws all visible lines as they look in a field, end to end, to the first lines x dots bytes of out, where lines and
-   dots are as feldrime_page_size gives them. Refuses 3, 12, 4, 5, 6, 8. */
+   dots are as feldrime_page_size gives them. Refuses 3, 12, 4, 13, 14, 15, 6, 8. */
 feldrime_answer feldrime_picture_draw(
     const uint8_t *numbers, size_t numbers_count,
     const uint8_t *chars, size_t chars_count,
@@ -226,7 +233,7 @@ feldrime_answer feldrime_picture_draw(
     uint8_t field,
     uint8_t *out, size_t out_count);
 
-/* Draws one of these lines, to the first dots bytes of out. Refuses 3, 12, 4, 5, 6, 7, 8. */
+/* Draws one of these lines, to the first dots bytes of out. Refuses 3, 12, 4, 13, 14, 15, 6, 7, 8. */
 feldrime_answer feldrime_line_draw(
     const uint8_t *numbers, size_t numbers_count,
     const uint8_t *chars, size_t chars_count,
@@ -239,14 +246,14 @@ feldrime_answer feldrime_line_draw(
     uint8_t *out, size_t out_count);
 
 /* A row's first run of cells: from where the row begins to the row's end, the last buffer address or 16383, whichever is
-   met first. Only a refusal has a count of 0. Refuses 3, 12, 4, 5, 6, 7. */
+   met first. Only a refusal has a count of 0. Refuses 3, 12, 4, 13, 14, 15, 6, 7. */
 feldrime_run feldrime_row_run(
     const uint8_t *numbers, size_t numbers_count,
     const uint8_t *chars, size_t chars_count,
     uint32_t row);
 
 /* All cells that a row shows: column c shows chars[cells[c]] and attrs[cells[c]]. Writes count elements, one for each
-   column; cells has FELDRIME_CELLS or more. Refuses 3, 12, 4, 5, 6, 7. */
+   column; cells has FELDRIME_CELLS or more. Refuses 3, 12, 4, 13, 14, 15, 6, 7. */
 feldrime_cells feldrime_row_cells(
     const uint8_t *numbers, size_t numbers_count,
     const uint8_t *chars, size_t chars_count,
@@ -398,16 +405,16 @@ typedef struct {
 } feldrime_step_answer;
 
 /* The board after power: version 1, and zeros throughout, so it is inactive until two master resets in a row. A step
-   refuses it until its IRs are written (5) and its dots are set (6). */
+   refuses it until its IRs are written (13) and its dots are set (6). */
 feldrime_board feldrime_power(void);
 
-/* An active board with a page's numbers, at clock 0, its pointer at IR0. Refuses 3, 12, 4, 5, 6; refused, it gives the
-   board after power. */
+/* An active board with a page's numbers, at clock 0, its pointer at IR0. Refuses 3, 12, 4, 13, 14, 15, 6; refused, it
+   gives the board after power. */
 feldrime_board_answer feldrime_board_of(
     const uint8_t *numbers, size_t numbers_count);
 
 /* The way back: a board's page as numbers, for feldrime_page_write and the calls that draw. Writes all of numbers. Place,
-   pointer and resets play no part. Refuses 3, 12, 4, 5, 6. */
+   pointer and resets play no part. Refuses 3, 12, 4, 13, 14, 15, 6. */
 feldrime_answer feldrime_numbers_of(
     feldrime_board board,
     uint8_t *numbers, size_t numbers_count);
@@ -436,9 +443,10 @@ feldrime_board_answer feldrime_set_video(
    read, set by feldrime_set_video and stepped all the same, its display off whatever the switch says.
 
    A write to an IR can make line or frame so short that the board's place is out of range, or leave a page that cannot
-   be drawn: the next step is then refused 7, or 4 or 5. The ways out of 7: write the IR as it was; write a master
-   reset; set place.line and place.clock to 0; take the board through feldrime_numbers_of and feldrime_board_of, which
-   begins at clock 0 and leaves display and cursor as they were. feldrime_state_at is none: it judges the place too. */
+   be drawn: the next step is then refused 7, or 4, 13, 14 or 15. The ways out of 7: write the IR as it was; write a
+   master reset; set place.line and place.clock to 0; take the board through feldrime_numbers_of and feldrime_board_of,
+   which begins at clock 0 and leaves display and cursor as they were. feldrime_state_at is none: it judges the place
+   too. */
 feldrime_board_answer feldrime_write(
     feldrime_board board,
     uint8_t address, uint8_t byte);
@@ -449,7 +457,7 @@ feldrime_byte feldrime_read(
     uint8_t address);
 
 /* The board at clock n, counted from clock 0 and not from the board's place, which is judged all the same. Refuses 3, 12,
-   4, 5, 6, 7; refused, it gives the old board. */
+   4, 13, 14, 15, 6, 7; refused, it gives the old board. */
 feldrime_board_answer feldrime_state_at(
     feldrime_board board,
     const uint8_t *chars, size_t chars_count,
@@ -457,8 +465,8 @@ feldrime_board_answer feldrime_state_at(
     uint32_t n);
 
 /* One clock: gives what the board puts out at its place, and moves the board on to the next clock where it stands.
-   Refuses 3, 12, 4, 5, 6, 7; refused, it leaves the board. 7 is for a line of VT or above, a clock of HT or above, an
-   address or row start above 16383, and a pointer above 14. */
+   Refuses 3, 12, 4, 13, 14, 15, 6, 7; refused, it leaves the board. 7 is for a line of VT or above, a clock of HT or
+   above, an address or row start above 16383, and a pointer above 14. */
 feldrime_step_answer feldrime_step(
     feldrime_board *board,
     const uint8_t *chars, size_t chars_count,

@@ -14,10 +14,13 @@ static bool unread(char why[WHY])
     return false;
 }
 
-static bool judge(uint32_t refusal, const char *hint, char why[WHY])
+static bool judge(feldrime_answer answer, const char *hint, char why[WHY])
 {
-    snprintf(why, WHY, "refused %u, %s%s", (unsigned)refusal, feldrime_meaning(refusal), hint);
-    return refusal == FELDRIME_DONE;
+    int end = snprintf(why, WHY, "refused %u, %s%s", (unsigned)answer.refusal, feldrime_meaning(answer.refusal), hint);
+
+    if (answer.beside > 0 && end < WHY)
+        snprintf(why + end, (size_t)(WHY - end), ": %u clock%s missing", (unsigned)answer.beside, answer.beside == 1 ? " is" : "s are");
+    return answer.refusal == FELDRIME_DONE;
 }
 
 /* The library counts: rows are there until one is refused. */
@@ -45,7 +48,7 @@ bool read_page(const char *name, struct page *page, char why[WHY])
     if (!read_file(name, file, sizeof file, &count))
         return unread(why);
     feldrime_answer answer = feldrime_read_page(&page->parts, file, count);
-    if (!judge(answer.refusal, count == FELDRIME_FONT_FILE ? " (it is as long as a font)" : "", why))
+    if (!judge(answer, count == FELDRIME_FONT_FILE ? " (it is as long as a font)" : "", why))
         return false;
     measure(page);
     return true;
@@ -60,7 +63,7 @@ bool read_font(const char *name, feldrime_font *font, char why[WHY])
     if (!read_file(name, file, sizeof file, &count))
         return unread(why);
     feldrime_answer answer = feldrime_read_font(font, file, count);
-    return judge(answer.refusal, count == FELDRIME_PAGE_FILE ? " (it is as long as a page)" : "", why);
+    return judge(answer, count == FELDRIME_PAGE_FILE ? " (it is as long as a page)" : "", why);
 }
 
 void cells_of(const struct page *page, uint32_t row, uint16_t cells[FELDRIME_CELLS])

@@ -48,6 +48,19 @@ ends 1 "short.font: refused 2, " "${feldrime[@]}" check "$page" "$work/short.fon
 [[ $said == *"fr.page: a page"* ]] || say "a good page is not told beside a bad font"
 ends 1 "refused 2, the length" "${feldrime[@]}" check "$font" "$page"
 [[ $said == *"(it is as long as a font)"*"(it is as long as a page)"* ]] || say "a page and a font that changed places are not told: $said"
+# its byte 7 is IR2, without a back porch 98 hex; its byte 10 is IR5: 52 to 54 cells leave a front porch of 1, 0 and -1
+while read -r number place byte missing; do
+    cp "$page" "$work/porch.page"
+    printf "\\x$byte" | dd of="$work/porch.page" bs=1 seek="$place" conv=notrunc status=none
+    ends 1 "porch.page: refused $number, " "${feldrime[@]}" check "$work/porch.page"
+    [[ $number -eq 13 || $said == *"(EC in IR1, HSYNC and HBP in IR2, HACT in IR5): $missing" ]] || say "what is missing is not told: $said"
+    [[ $number -ne 13 || $said != *missing* ]] || say "13 tells missing clocks: $said"
+    ends 1 "$said" "${feldrime[@]}" draw "$work/porch.page" "$font" "$work/out.png"
+done <<< "13 7 98
+15 10 33 1 clock is missing
+15 10 34 2 clocks are missing
+14 10 35 3 clocks are missing
+14 10 ff 205 clocks are missing"
 for word in check rows; do
     ends 1 "missing.page: cannot be read: No such file" "${feldrime[@]}" "$word" "$work/missing.page"
     ends 1 "cannot be read: Is a directory" "${feldrime[@]}" "$word" "$work"

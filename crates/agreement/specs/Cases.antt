@@ -5,7 +5,7 @@ use mathlib.Core.Bool.{Bool, true, false, _&&_, xor}
 use mathlib.Core.List.{List, [], _∷_}
 use lib.Dec.{eqb}
 use Rattle.units.specs.Units.{clocksOf}
-use Rattle.refusal.specs.Number.{numberOf}
+use Rattle.refusal.specs.Number.{numberOf, besideOf}
 use Rattle.raster.specs.Moves.{advance, advanceBy, toLast, around}
 use Rattle.raster.specs.Cells.{startOf, cellOf}
 use Rattle.raster.specs.Latch.{latched}
@@ -35,6 +35,7 @@ pub data Fact : Type 0 where
   HT HFP VT : ℕ → Fact
   frame : (clocks : ℕ) → Fact
   answers : (number : ℕ) → Fact
+  misses : (clocks : ℕ) → Fact
   column : (row column address : ℕ) → Fact
   columns : (row count from : ℕ) → Fact
   row : (row address : ℕ) → Fact
@@ -71,6 +72,7 @@ holds p (HFP n) = eqb (hfpOf (p .irs)) n
 holds p (VT n) = eqb (vtOf (p .irs)) n
 holds p (frame n) = eqb ((clocksOf (countsOf (p .irs) .vt) (countsOf (p .irs) .ht)) .0) n
 holds p (answers n) = eqb (numberOf (pageCheck p)) n
+holds p (misses n) = eqb (besideOf (pageCheck p)) n
 holds p (column r c a) = eqb (fetched p r c) a
 holds p (columns r n a) = columnsFrom p r n a
 holds p (row r a) = eqb (rowStart p [] r) a
@@ -95,7 +97,7 @@ cases =
     -- A1, A5
     record { given = page 35 80 0 16383 0 0; facts = HT 102 ∷ HFP 7 ∷ answers 0 ∷ VT 267 ∷ frame 27234 ∷ [] }
     -- A2
-    ∷ record { given = page 32 80 0 16383 0 0; facts = HFP 1 ∷ answers 5 ∷ [] }
+    ∷ record { given = page 32 80 0 16383 0 0; facts = HFP 1 ∷ answers 15 ∷ misses 1 ∷ [] }
     -- A3
     ∷ record { given = page 33 80 0 16383 0 0; facts = HFP 3 ∷ answers 0 ∷ [] }
     -- A4

@@ -11,7 +11,7 @@ use Rattle.units.specs.declared.Clocks.{Clocks}
 use Rattle.units.specs.declared.Lines.{Lines}
 use Rattle.units.specs.Units.{clocks, lines, during, clocksOf, wholeLines, dotsOf}
 use Rattle.refusal.specs.declared.Refusal.{Refusal}
-use Rattle.refusal.specs.Number.{numberOf, doneOf}
+use Rattle.refusal.specs.Number.{numberOf, besideOf, doneOf}
 use Rattle.raster.specs.declared.Buffer.{Buffer}
 use Rattle.raster.specs.declared.Cell.{Cell}
 use Rattle.raster.specs.Moves.{cell, advance, advanceBy}
@@ -101,6 +101,9 @@ dots-of-one n clock = only (dotsOf n clock)
 
 pub number-one : (x : Refusal) → OneAnswer (λ r. r ≡ numberOf x)
 number-one x = only (numberOf x)
+
+pub beside-one : (x : Refusal) → OneAnswer (λ r. r ≡ besideOf x)
+beside-one x = only (besideOf x)
 
 pub is-done-one : (x : Refusal) → OneAnswer (λ r. r ≡ doneOf x)
 is-done-one x = only (doneOf x)

@@ -1,7 +1,7 @@
--- What a call for C answers: the refusal's number of 01's table, 0 beside it, and the results.
+-- What a call for C answers: the refusal's number, the number beside it, and the results.
 use Prim.Native.Nat.{ℕ}
 use Rattle.refusal.specs.declared.Refusal.{Refusal}
-use Rattle.refusal.specs.Number.{numberOf}
+use Rattle.refusal.specs.Number.{numberOf, besideOf}
 use Rattle.board.specs.declared.Board.{Board}
 use Rattle.feldrime.specs.declared.Answer.{Answer}
 use Rattle.feldrime.specs.declared.SizeAnswer.{SizeAnswer}
@@ -11,19 +11,19 @@ use Rattle.feldrime.specs.declared.BoardAnswer.{BoardAnswer}
 use Rattle.feldrime.specs.declared.ByteAnswer.{ByteAnswer}
 
 abbrev pub answerOf : Refusal → Answer
-answerOf r = record { refusal = numberOf r; beside = 0 }
+answerOf r = record { refusal = numberOf r; beside = besideOf r }
 
 abbrev pub sizeAnswer : Refusal → (lines dots : ℕ) → SizeAnswer
-sizeAnswer r l d = record { refusal = numberOf r; beside = 0; lines = l; dots = d }
+sizeAnswer r l d = record { refusal = numberOf r; beside = besideOf r; lines = l; dots = d }
 
 abbrev pub runAnswer : Refusal → (first count : ℕ) → RunAnswer
-runAnswer r f n = record { refusal = numberOf r; beside = 0; first = f; count = n }
+runAnswer r f n = record { refusal = numberOf r; beside = besideOf r; first = f; count = n }
 
 abbrev pub cellsAnswer : Refusal → ℕ → CellsAnswer
-cellsAnswer r n = record { refusal = numberOf r; beside = 0; count = n }
+cellsAnswer r n = record { refusal = numberOf r; beside = besideOf r; count = n }
 
 abbrev pub boardAnswer : Refusal → Board → BoardAnswer
-boardAnswer r b = record { refusal = numberOf r; beside = 0; board = b }
+boardAnswer r b = record { refusal = numberOf r; beside = besideOf r; board = b }
 
 abbrev pub byteAnswer : Refusal → ℕ → ByteAnswer
-byteAnswer r v = record { refusal = numberOf r; beside = 0; byte = v }
+byteAnswer r v = record { refusal = numberOf r; beside = besideOf r; byte = v }

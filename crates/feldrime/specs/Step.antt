@@ -2,7 +2,7 @@
 use Prim.Native.Nat.{ℕ}
 use mathlib.Core.List.{List}
 use Rattle.lists.specs.Choice.{pick}
-use Rattle.refusal.specs.Number.{numberOf}
+use Rattle.refusal.specs.Number.{numberOf, besideOf}
 use Rattle.board.specs.declared.Board.{Board}
 use Rattle.shape.specs.Font.{fontOf}
 use Rattle.step.specs.declared.Stepped.{Stepped}
@@ -10,11 +10,11 @@ use Rattle.step.specs.Step.{stepOf}
 use Rattle.feldrime.specs.declared.StepAnswer.{StepAnswer}
 use Rattle.feldrime.specs.declared.StepBy.{StepBy}
 
--- the refusal's number, 0 beside it, the signals as 0 or 1, address and dots
+-- the refusal's number, the number beside it, the signals as 0 or 1, address and dots
 unfoldable pub numbered : Stepped → StepAnswer
 numbered s = record {
   refusal = numberOf (s .refusal);
-  beside = 0;
+  beside = besideOf (s .refusal);
   hsync = pick (s .signals .hsync) 1 0;
   vsync = pick (s .signals .vsync) 1 0;
   blank = pick (s .signals .blank) 1 0;

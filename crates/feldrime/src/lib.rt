@@ -22,7 +22,7 @@ ghost use Rattle.feldrime.specs.PictureDraw.{pictureDrawCheck, pictureDr
 ghost use Rattle.feldrime.specs.RowCells.{cellsFor, cellsPutFor};
 ghost use Rattle.feldrime.specs.Step.{numbered, stepNumbers};
 
-// The refusal's number, and a number beside it, which no refusal has yet.
+// The refusal's number, and the number beside it.
 #[repr(C)]
 pub struct Answer {
     pub refusal: u32,
@@ -34,7 +34,7 @@ fn answered(r: refusal::Refusal) -> Answer
 {
     Answer {
         refusal: refusal::number(r),
-        beside: 0,
+        beside: refusal::beside(r),
     }
 }
 
@@ -70,7 +70,7 @@ pub extern "C" fn feldrime_page_size(numbers: &[u8]) -> SizeAnswer
     let refused = s.refusal;
     SizeAnswer {
         refusal: refusal::number(refused),
-        beside: 0,
+        beside: refusal::beside(refused),
         lines: s.lines.0,
         dots: s.dots.0,
     }
@@ -224,7 +224,7 @@ pub extern "C" fn feldrime_row_run(numbers: &[u8], chars: &[u8], row: u32) -> Ru
     let refused = s.refusal;
     RunAnswer {
         refusal: refusal::number(refused),
-        beside: 0,
+        beside: refusal::beside(refused),
         first: s.start as u32,
         count: s.count as u32,
     }
@@ -260,7 +260,7 @@ pub extern "C" fn feldrime_row_cells(
     let refused = given.refusal;
     CellsAnswer {
         refusal: refusal::number(refused),
-        beside: 0,
+        beside: refusal::beside(refused),
         count: given.count as u32,
     }
 }
@@ -278,7 +278,7 @@ fn with_board(r: refusal::Refusal, b: board::Board) -> BoardAnswer
 {
     BoardAnswer {
         refusal: refusal::number(r),
-        beside: 0,
+        beside: refusal::beside(r),
         board: b,
     }
 }
@@ -360,7 +360,7 @@ pub extern "C" fn feldrime_read(b: board::Board, address: u8) -> ByteAnswer
     let refused = read.refusal;
     ByteAnswer {
         refusal: refusal::number(refused),
-        beside: 0,
+        beside: refusal::beside(refused),
         byte: read.byte as u32,
     }
 }
@@ -414,7 +414,7 @@ fn number_of(s: step::Stepped) -> StepAnswer
     let dots = s.dots;
     StepAnswer {
         refusal: refusal::number(refused),
-        beside: 0,
+        beside: refusal::beside(refused),
         hsync: bit(s.signals.hsync),
         vsync: bit(s.signals.vsync),
         blank: bit(s.signals.blank),

@@ -20,7 +20,7 @@ use Rattle.fetch.specs.Run.{rowCheck}
 unfoldable pub cellsOf : Page → List ℕ → ℕ → List ℕ
 cellsOf p chars row = tab (hactOf (p .irs)) (cellAt p chars row)
 
--- 3 for a character memory of n cells, or room for fewer than 256, the most that a row can have; then 12, 4, 5, 6, 7
+-- 3 for a character memory of n cells, or room for fewer than 256, the most that a row can have; then 12, 4, 13, 14, 15, 6, 7
 unfoldable pub cellsCheck : Board → (n row room : ℕ) → Refusal
 cellsCheck b n row room = rowCheck b (memoryRefused n || ltb room 256) row
 

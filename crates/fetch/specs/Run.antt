@@ -16,7 +16,7 @@ use Rattle.timing.specs.Check.{callCheck}
 use Rattle.fetch.specs.declared.Span.{Span}
 use Rattle.fetch.specs.Rows.{rowStart}
 
--- a call that asks for a row: 3 where a lent part has a wrong size, 12, 4, 5, 6, 7
+-- a call that asks for a row: 3 where a lent part has a wrong size, 12, 4, 13, 14, 15, 6, 7
 abbrev pub rowCheck : Board → (size : Bool) → (row : ℕ) → Refusal
 rowCheck b size row = callCheck b size (leb (rowsOf (b .page .irs)) row) false
 

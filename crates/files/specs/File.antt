@@ -33,7 +33,7 @@ lengthRefused file n = not (eqb (length file) (n + 5)) || not (eqb (longAt file 
 unfoldable pub fileCheck : List ℕ → (newest n : ℕ) → (size : Bool) → Refusal → Refusal
 fileCheck file newest n size rest = firstOf ((versionRefused file newest, Version) ∷ (lengthRefused file n, Length) ∷ (size, Size) ∷ []) rest
 
--- 1, 2, 3, then the page's own 12, 4, 5, 6; versions 1 and 2 are known
+-- 1, 2, 3, then the page's own 12, 4, 13, 14, 15, 6; versions 1 and 2 are known
 unfoldable pub readCheck : List ℕ → (size : Bool) → Refusal
 readCheck file size = fileCheck file 2 32792 size (pageCheck (pageAt file 5))
 
@@ -65,7 +65,7 @@ headOf p = pageHead p ++ pageBytes p
 unfoldable pub fileOf : Page → (chars attrs : List ℕ) → List ℕ
 fileOf p chars attrs = headOf p ++ (chars ++ attrs)
 
--- 3, the page's own 12, 4, 5, 6, then 7 for the state
+-- 3, the page's own 12, 4, 13, 14, 15, 6, then 7 for the state
 unfoldable pub writeCheck : Board → (chars attrs out : ℕ) → Refusal
 writeCheck b chars attrs out = callCheck b (memoriesRefused chars attrs || ltb out 32797) false false
 

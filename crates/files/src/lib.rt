@@ -228,7 +228,7 @@ fn put_file(p: board::Page, chars: &[u8], attrs: &[u8], out: &mut [u8])
     copies::put(attrs, 16413, out);
 }
 
-// 3, 12, 4, 5, 6, 7.
+// 3, 12, 4, 13, 14, 15, 6, 7.
 fn write_check(b: board::Board, chars: usize, attrs: usize, out: usize) -> refusal::Refusal
     ensures { λ r. ⌜ r ≡ writeCheck b chars attrs out ⌝ }
 {

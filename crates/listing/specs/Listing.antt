@@ -35,11 +35,11 @@ listingLine b chars attrs f line field = map markOf (lineDots b chars attrs f li
 
 -- ---- the calls
 
--- the page's own 12, 4, 5, 6, then 8 for a buffer of room bytes that is too short
+-- the page's own 12, 4, 13, 14, 15, 6, then 8 for a buffer of room bytes that is too short
 unfoldable pub headCheck : Page → (room : ℕ) → Refusal
 headCheck p room = firstOf ((not (doneOf (pageCheck p)), pageCheck p) ∷ (ltb room (length (listingHead p)), Room) ∷ []) Done
 
--- as a line is drawn: 3, 12, 4, 5, 6, 7; then 8, where the line feed needs room too
+-- as a line is drawn: 3, 12, 4, 13, 14, 15, 6, 7; then 8, where the line feed needs room too
 unfoldable pub lineCheck : Board → (size : Bool) → (line room : ℕ) → Refusal
 lineCheck b size line room = callCheck b size (leb (visibleOf (b .page .irs) .0) line) (ltb room (lineLength b + 1))
 

@@ -19,7 +19,7 @@ use Rattle.files.specs.File.{versionRefused}
 unfoldable pub numbersRefused : List ℕ → Bool
 numbersRefused numbers = not (eqb (length numbers) 32) || versionRefused numbers 2
 
--- 3 for the numbers, then the page's own 12, 4, 5, 6
+-- 3 for the numbers, then the page's own 12, 4, 13, 14, 15, 6
 unfoldable pub numbersCheck : List ℕ → Refusal
 numbersCheck numbers = pick (numbersRefused numbers) Size (pageCheck (pageAt numbers 1))
 
@@ -41,7 +41,7 @@ pageNumbers p = numbersWith (versionOf p) (pageBytes p)
 
 -- ---- a board's page as numbers
 
--- 3 where there is room for another number than 32, then the page's own 12, 4, 5, 6; the board's place is not judged
+-- 3 where there is room for another number than 32, then the page's own 12, 4, 13, 14, 15, 6; the board's place is not judged
 unfoldable pub numbersOfCheck : Board → (room : ℕ) → Refusal
 numbersOfCheck b room = pick (not (eqb room 32)) Size (pageCheck (b .page))
 

@@ -12,7 +12,7 @@ pub fn numbers_refused(numbers: &[u8]) -> bool
     (numbers.len() != 32) | files::version_refused(numbers, 2)
 }
 
-// The page check: 3, 12, 4, 5, 6.
+// The page check: 3, 12, 4, 13, 14, 15, 6.
 pub fn numbers_check(numbers: &[u8]) -> refusal::Refusal
     ensures { λ r. ⌜ r ≡ numbersCheck (now (numbers .entry)) ⌝ }
 {

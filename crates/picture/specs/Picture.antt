@@ -23,7 +23,7 @@ pictureDots b chars attrs f field = joined 0 (visibleOf (b .page .irs) .0) (λ (
 abbrev pub pictureLength : Page → ℕ
 pictureLength p = visibleOf (p .irs) .0 * (hactOf (p .irs) * p .video .dots .0)
 
--- 3, 12, 4, 5, 6, 7, 8 for a buffer of room bytes that is too short
+-- 3, 12, 4, 13, 14, 15, 6, 7, 8 for a buffer of room bytes that is too short
 unfoldable pub pictureCheck : Board → (size : Bool) → (room : ℕ) → Refusal
 pictureCheck b size room = callCheck b size false (ltb room (pictureLength (b .page)))
 

@@ -16,7 +16,7 @@ use Rattle.place.specs.Place.{placeAt}
 abbrev pub withPlace : Board → Place → Board
 withPlace b q = record { page = b .page; place = q; pointer = b .pointer; resets = b .resets }
 
--- 3 for the memories, 12, 4, 5, 6, 7
+-- 3 for the memories, 12, 4, 13, 14, 15, 6, 7
 abbrev pub stateCheck : Board → (chars attrs : List ℕ) → Refusal
 stateCheck b chars attrs = callCheck b (memoriesRefused (length chars) (length attrs)) false false
 

@@ -9,7 +9,7 @@ use lib.Dec.{ltb}
 use Rattle.lists.specs.Choice.{pick}
 use Rattle.refusal.specs.declared.Refusal.{Refusal}
 use Rattle.refusal.specs.declared.Refusal.the-variants.{Done, Size}
-use Rattle.refusal.specs.Number.{numberOf, doneOf}
+use Rattle.refusal.specs.Number.{numberOf, besideOf, doneOf}
 use Rattle.refusal.specs.Laws.{done-is}
 use Rattle.board.specs.declared.Board.{Board}
 use Rattle.board.specs.Range.{memoriesRefused}
@@ -105,10 +105,10 @@ module _ (file : List ℕ) (bytes : Bytes file) (out : List ℕ) {a : Answer} {f
   pub font-refused : (a .refusal ≡ 0 → ⊥) → (a ≡ answerOf (againCheck (fontCheck file false) 2455 (length out))) × (out ≡ writtenAgain (fontCheck file false) 2455 file out)
   font-refused e = read-stops (fontCheck file false) 2455 file out (read .0) e
 
-  pub font-wrote : a .refusal ≡ 0 → {w : Refusal} {out′ : List ℕ} → (w ≡ fontWriteCheck f (length out)) × (out′ ≡ fontWritten f out) → {n : ℕ} → n ≡ numberOf w
-      → (record { refusal = n; beside = 0 } ≡ answerOf (againCheck (fontCheck file false) 2455 (length out))) × (out′ ≡ writtenAgain (fontCheck file false) 2455 file out)
-  font-wrote e {w} {out′} write number =
+  pub font-wrote : a .refusal ≡ 0 → {w : Refusal} {out′ : List ℕ} → (w ≡ fontWriteCheck f (length out)) × (out′ ≡ fontWritten f out) → {n k : ℕ} → n ≡ numberOf w → k ≡ besideOf w
+      → (record { refusal = n; beside = k } ≡ answerOf (againCheck (fontCheck file false) 2455 (length out))) × (out′ ≡ writtenAgain (fontCheck file false) 2455 file out)
+  font-wrote e {w} {out′} write number beside =
       let ok : fontCheck file false ≡ Done = answer-done _ (read .0) e in
-      wrote 2455 file out ok (ap (λ (k : ℕ). record { refusal = k; beside = 0 }) number)
+      wrote 2455 file out ok (λ i. record { refusal = number i; beside = beside i })
       (λ l. let s = font-same file noFont ok bytes out l in (write .0 ∙ rw (read .1) (s .0), write .1 ∙ rw (read .1) (s .1)))
       (λ t. let s = font-short f out t in (write .0 ∙ s .0, write .1 ∙ s .1))

@@ -62,11 +62,11 @@ module _ (numbers : List ℕ) (fits : Bytes numbers) (chars attrs out : List ℕ
   abbrev Again : Answer → List ℕ → Type 0
   Again a x = (a ≡ answerOf (numbersAgainCheck numbers (length chars) (length attrs) (length out))) × (x ≡ numbersAgain numbers (length chars) (length attrs) out)
 
-  pub not-made : (m .refusal ≡ 0 → ⊥) → Again (record { refusal = m .refusal; beside = 0 }) out
+  pub not-made : (m .refusal ≡ 0 → ⊥) → Again (record { refusal = m .refusal; beside = m .beside }) out
   unfolding numbersAgainCheck numbersAgain
   not-made e =
       let r = made-refused numbers made e in
-      (rw (r .1, r .0), rw (r .1, r .1))
+      (rw (r .1) (r .0), rw (r .1, r .1))
 
   module _ (z : m .refusal ≡ 0) {w : Refusal} {file : List ℕ}
       (wrote : (w ≡ writeCheck (m .board) (length chars) (length attrs) 32797) × (file ≡ written (m .board) chars attrs zeros)) where

@@ -40,12 +40,12 @@ savedNumbers numbers out = pick (doneOf (savedCheck numbers (length out))) (take
 
 module _ (b : Board) (irs-all : length (b .page .irs) ≡ 15) {a : Answer} {numbers : List ℕ}
     (saved : (a ≡ answerOf (numbersOfCheck b 32)) × (numbers ≡ numbersOf b (replicate 32 0))) where
-  pub board-refused : (a .refusal ≡ 0 → ⊥) → {p : Board} → p ≡ powerOf → record { refusal = a .refusal; beside = 0; board = p } ≡ savedBoard b
+  pub board-refused : (a .refusal ≡ 0 → ⊥) → {p : Board} → p ≡ powerOf → record { refusal = a .refusal; beside = a .beside; board = p } ≡ savedBoard b
   unfolding savedBoard numbersOfCheck
   board-refused e q =
       let r : a .refusal ≡ numberOf (pageCheck (b .page)) = ap (λ (x : Answer). x .refusal) (saved .0) in
       let refused : doneOf (pageCheck (b .page)) ≡ false = ne-eqb _ _ (λ z. e (r ∙ z)) in
-      rw (refused, r, q)
+      rw (refused, q) (ap (λ (x : Answer). record { refusal = x .refusal; beside = x .beside; board = powerOf }) (saved .0))
 
   pub board-again : a .refusal ≡ 0 → {m : BoardAnswer} → m ≡ boardFor numbers → m ≡ savedBoard b
   unfolding savedBoard numbersOfCheck
@@ -56,11 +56,11 @@ module _ (b : Board) (irs-all : length (b .page .irs) ≡ 15) {a : Answer} {numb
 -- ---- numbers
 
 module _ (numbers : List ℕ) (fits : Bytes numbers) (out : List ℕ) {m : BoardAnswer} (made : m ≡ boardFor numbers) where
-  pub not-made : (m .refusal ≡ 0 → ⊥) → (record { refusal = m .refusal; beside = 0 } ≡ answerOf (savedCheck numbers (length out))) × (out ≡ savedNumbers numbers out)
+  pub not-made : (m .refusal ≡ 0 → ⊥) → (record { refusal = m .refusal; beside = m .beside } ≡ answerOf (savedCheck numbers (length out))) × (out ≡ savedNumbers numbers out)
   unfolding savedCheck savedNumbers
   not-made e =
       let r = made-refused numbers made e in
-      (rw (r .1, r .0), rw (r .1, r .1))
+      (rw (r .1) (r .0), rw (r .1, r .1))
 
   pub numbers-again : m .refusal ≡ 0 → {a : Answer} {x : List ℕ} → (a ≡ answerOf (numbersOfCheck (m .board) (length out))) × (x ≡ numbersOf (m .board) out)
       → (a ≡ answerOf (savedCheck numbers (length out))) × (x ≡ savedNumbers numbers out)

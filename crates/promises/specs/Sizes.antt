@@ -37,11 +37,11 @@ pub calls-agree : (numbers : List ℕ) (c : Answer) (s : SizeAnswer) (m : BoardA
 calls-agree numbers c s m p q r = rw (p, q, r) (agree numbers)
 
 -- numbers that are refused
-pub made-refused : (numbers : List ℕ) {m : BoardAnswer} → m ≡ boardFor numbers → (m .refusal ≡ 0 → ⊥) → (m .refusal ≡ numberOf (numbersCheck numbers)) × (doneOf (numbersCheck numbers) ≡ false)
+pub made-refused : (numbers : List ℕ) {m : BoardAnswer} → m ≡ boardFor numbers → (m .refusal ≡ 0 → ⊥) → (record { refusal = m .refusal; beside = m .beside } ≡ answerOf (numbersCheck numbers)) × (doneOf (numbersCheck numbers) ≡ false)
 unfolding boardFor
 made-refused numbers {m} made e =
-    let r : m .refusal ≡ numberOf (numbersCheck numbers) = ap (λ (x : BoardAnswer). x .refusal) made in
-    (r, ne-eqb _ _ (λ q. e (r ∙ q)))
+    let r : record { refusal = m .refusal; beside = m .beside } ≡ answerOf (numbersCheck numbers) = ap (λ (x : BoardAnswer). record { refusal = x .refusal; beside = x .beside }) made in
+    (r, ne-eqb _ _ (λ q. e (ap (λ (x : Answer). x .refusal) r ∙ q)))
 
 -- numbers that nothing refuses are made their board
 pub made-done : (numbers : List ℕ) {m : BoardAnswer} → m ≡ boardFor numbers → m .refusal ≡ 0 → (numbersCheck numbers ≡ Done) × (m .board ≡ numbersBoard numbers)

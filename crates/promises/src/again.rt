@@ -46,7 +46,7 @@ pub fn font_again(file: &[u8], out: &mut [u8]) -> Answer
     let refused = files::write_font(&words, &flags, &unshifted, &shifted, out);
     Answer {
         refusal: refusal::number(refused),
-        beside: 0,
+        beside: refusal::beside(refused),
     }
 }
 
@@ -60,7 +60,7 @@ pub fn numbers_again(numbers: &[u8], chars: &[u8], attrs: &[u8], out: &mut [u8])
     if made.refusal != 0 {
         return Answer {
             refusal: made.refusal,
-            beside: 0,
+            beside: made.beside,
         };
     }
     let board = made.board;

@@ -15,7 +15,7 @@ pub fn saved_again(b: board::Board) -> BoardAnswer
     if saved.refusal != 0 {
         return BoardAnswer {
             refusal: saved.refusal,
-            beside: 0,
+            beside: saved.beside,
             board: feldrime::feldrime_power(),
         };
     }
@@ -31,7 +31,7 @@ pub fn numbers_saved(numbers: &[u8], out: &mut [u8]) -> Answer
     if made.refusal != 0 {
         return Answer {
             refusal: made.refusal,
-            beside: 0,
+            beside: made.beside,
         };
     }
     let board = made.board;

@@ -8,14 +8,15 @@ use borrow.Author.Tests.{eq-eqb, ne-eqb, le-leb, lt-leb, lt-ltb, le-ltb, leb-fal
 use lib.Dec.{eqb, ltb, leb}
 use lib.ListN.{length, drop}
 use Rattle.lists.specs.Choice.{pick, firstOf, neither}
-use Rattle.refusal.specs.declared.Refusal.the-variants.{Done, Size, Reserved, Porch, Width, Range, Room, Address}
-use Rattle.refusal.specs.Number.{numberOf, doneOf}
+use Rattle.units.specs.declared.Clocks.{Clocks}
+use Rattle.refusal.specs.declared.Refusal.the-variants.{Done, Size, Reserved, BackPorch, LineShort, FrontPorch, Width, Range, Room, Address}
+use Rattle.refusal.specs.Number.{numberOf, besideOf, doneOf}
 use Rattle.refusal.specs.Laws.{done-is, passed, not-refused}
 use Rattle.board.specs.declared.Page.{Page}
 use Rattle.board.specs.declared.Board.{Board}
 use Rattle.board.specs.Range.{addressRefused}
 use Rattle.timing.specs.Fields.{visibleOf}
-use Rattle.timing.specs.Check.{reservedRefused, porchRefused, widthRefused, pageCheck, sizeOf, stateRefused, callCheck}
+use Rattle.timing.specs.Check.{reservedRefused, backPorchRefused, lineShort, frontPorchRefused, missing, widthRefused, pageCheck, sizeOf, stateRefused, callCheck}
 use Rattle.shape.specs.Font.{Font, fontOf}
 use Rattle.line.specs.Line.{lineLength, lineDots, drawCheck, drawnOf}
 use Rattle.video.specs.At.{lentRefused}
@@ -33,18 +34,29 @@ use Rattle.feldrime.specs.Step.{numbered, stepNumbers}
 use Rattle.agreement.specs.Steps.{range-ok, call-ok}
 use Rattle.promises_stepped.specs.Lines.{Steppable}
 
+-- a number with none beside it
+abbrev pub aloneOf : ℕ → Answer
+aloneOf n = record { refusal = n; beside = 0 }
+
 -- ---- 3 is a size and nothing else
 
 page-not-three : (p : Page) → numberOf (pageCheck p) ≡ 3 → ⊥
 unfolding pageCheck
-page-not-three p = go (addressRefused p) (reservedRefused (p .irs)) (porchRefused (p .irs)) (widthRefused (p .video .dots))
+page-not-three p =
+    go (addressRefused p) (reservedRefused (p .irs)) (backPorchRefused (p .irs)) (lineShort (p .irs)) (frontPorchRefused (p .irs)) (widthRefused (p .video .dots))
   where
-    go : (a r h w : Bool) → numberOf (firstOf ((a, Address) ∷ (r, Reserved) ∷ (h, Porch) ∷ (w, Width) ∷ []) Done) ≡ 3 → ⊥
-    go true r h w e = omega arith
-    go false true h w e = omega arith
-    go false false true w e = omega arith
-    go false false false true e = omega arith
-    go false false false false e = omega arith
+    n : Clocks
+    n = missing (p .irs)
+
+    go : (a r b l f w : Bool)
+        → numberOf (firstOf ((a, Address) ∷ (r, Reserved) ∷ (b, BackPorch) ∷ (l, LineShort n) ∷ (f, FrontPorch n) ∷ (w, Width) ∷ []) Done) ≡ 3 → ⊥
+    go true r b l f w e = omega arith
+    go false true b l f w e = omega arith
+    go false false true l f w e = omega arith
+    go false false false true f w e = omega arith
+    go false false false false true w e = omega arith
+    go false false false false false true e = omega arith
+    go false false false false false false e = omega arith
 
 call-three : (b : Board) (size : Bool) → numberOf (callCheck b size false false) ≡ 3 → size ≡ true
 unfolding callCheck
@@ -76,26 +88,40 @@ unfolding numbered
 step-by-value b chars attrs words flags unshifted shifted e =
     ap (λ (x : StepBy). x .answer .refusal) e ∙ ap numberOf (step-answer b chars attrs (fontOf words flags unshifted shifted))
 
+pub step-beside : (b : Board) (chars attrs words flags unshifted shifted : List ℕ) {s : StepBy} → s ≡ stepNumbers b chars attrs words flags unshifted shifted
+    → s .answer .beside ≡ besideOf (stepCheck b chars attrs (fontOf words flags unshifted shifted))
+unfolding numbered
+step-beside b chars attrs words flags unshifted shifted e =
+    ap (λ (x : StepBy). x .answer .beside) e ∙ ap besideOf (step-answer b chars attrs (fontOf words flags unshifted shifted))
+
 -- ---- the calls, one after the other
 
 module _ (numbers chars attrs words flags unshifted shifted : List ℕ) (line room : ℕ) {m : BoardAnswer} (made : m ≡ boardFor numbers) where
   -- what the call that draws answers
-  abbrev answer : ℕ
-  answer = numberOf (lineDrawCheck numbers chars attrs (fontOf words flags unshifted shifted) line room)
+  abbrev answer : Answer
+  answer = answerOf (lineDrawCheck numbers chars attrs (fontOf words flags unshifted shifted) line room)
 
   made-is : m .refusal ≡ numberOf (numbersCheck numbers)
   unfolding boardFor
   made-is = ap (λ (x : BoardAnswer). x .refusal) made
 
+  -- its answer without the board
+  abbrev own : Answer
+  own = record { refusal = m .refusal; beside = m .beside }
+
+  own-is : own ≡ answerOf (numbersCheck numbers)
+  unfolding boardFor
+  own-is = ap (λ (x : BoardAnswer). record { refusal = x .refusal; beside = x .beside }) made
+
   abbrev lent : Bool
   lent = lentRefused chars attrs (fontOf words flags unshifted shifted)
 
   -- 3 for the numbers, which a page's own answer never is
-  pub numbers-three : m .refusal ≡ 3 → 3 ≡ answer
+  pub numbers-three : m .refusal ≡ 3 → aloneOf 3 ≡ answer
   unfolding lineDrawCheck numbersCheck
   numbers-three e = go (numbersRefused numbers) refl
     where
-      go : (t : Bool) → numbersRefused numbers ≡ t → 3 ≡ answer
+      go : (t : Bool) → numbersRefused numbers ≡ t → aloneOf 3 ≡ answer
       go true t = rw t
       go false t = absurd (page-not-three (pageAt numbers 1) (rw t at (sym made-is ∙ e)))
 
@@ -109,11 +135,11 @@ module _ (numbers chars attrs words flags unshifted shifted : List ℕ) (line ro
 
   module _ {s : StepBy} (tried : s ≡ stepNumbers (m .board) chars attrs words flags unshifted shifted) where
     -- 3 for what is lent: a step answers it whatever the board is
-    pub lent-three : s .answer .refusal ≡ 3 → 3 ≡ answer
+    pub lent-three : s .answer .refusal ≡ 3 → aloneOf 3 ≡ answer
     unfolding lineDrawCheck drawCheck callCheck
     lent-three e = rw (call-three (m .board) lent (sym (step-by-value (m .board) chars attrs words flags unshifted shifted tried) ∙ e)) (go (numbersRefused numbers))
       where
-        go : (t : Bool) → 3 ≡ numberOf (pick t Size Size)
+        go : (t : Bool) → aloneOf 3 ≡ answerOf (pick t Size Size)
         go true = refl
         go false = refl
 
@@ -122,12 +148,12 @@ module _ (numbers chars attrs words flags unshifted shifted : List ℕ) (line ro
       lent-fine = call-size (m .board) lent (λ e. none-lent (step-by-value (m .board) chars attrs words flags unshifted shifted tried ∙ e))
 
       -- then the page's own
-      pub pages-own : (m .refusal ≡ 0 → ⊥) → m .refusal ≡ answer
+      pub pages-own : (m .refusal ≡ 0 → ⊥) → own ≡ answer
       unfolding lineDrawCheck drawCheck callCheck numbersCheck
       pages-own e =
-          let own : m .refusal ≡ numberOf (pageCheck (pageAt numbers 1)) = made-is ∙ rw (numbers-fine no-three) in
-          let refused : doneOf (pageCheck (pageAt numbers 1)) ≡ false = ne-eqb _ _ (λ q. e (own ∙ q)) in
-          rw (numbers-fine no-three, lent-fine, refused) own
+          let page : own ≡ answerOf (pageCheck (pageAt numbers 1)) = own-is ∙ rw (numbers-fine no-three) in
+          let refused : doneOf (pageCheck (pageAt numbers 1)) ≡ false = ne-eqb _ _ (λ q. e (ap (λ (x : Answer). x .refusal) page ∙ q)) in
+          rw (numbers-fine no-three, lent-fine, refused) page
 
       module _ (done : m .refusal ≡ 0) {z : SizeAnswer} (size : z ≡ sizeFor numbers) where
         page-done : pageCheck (pageAt numbers 1) ≡ Done
@@ -146,40 +172,40 @@ module _ (numbers chars attrs words flags unshifted shifted : List ℕ) (line ro
         at-zero = range-ok (numbersBoard numbers) (record { line-lt = omega arith; clock-lt = omega arith; beam-le = omega arith; row-le = omega arith; pointer-le = omega arith })
 
         -- then 7 for a line that is not visible, 8 for a buffer that is too short
-        pub hidden : z .lines ≤ line → 7 ≡ answer
+        pub hidden : z .lines ≤ line → aloneOf 7 ≡ answer
         unfolding lineDrawCheck drawCheck callCheck
         hidden h = rw (numbers-fine no-three, lent-fine, page-done, le-leb (visibleOf (pageAt numbers 1 .irs) .0) line (rw lines-are at h), or-true (stateRefused (numbersBoard numbers)))
 
-        pub no-room : line < z .lines → room < z .dots → 8 ≡ answer
+        pub no-room : line < z .lines → room < z .dots → aloneOf 8 ≡ answer
         unfolding lineDrawCheck drawCheck callCheck
         no-room h k = rw (numbers-fine no-three, lent-fine, page-done, lt-leb (visibleOf (pageAt numbers 1 .irs) .0) line (rw lines-are at h), at-zero, lt-ltb room (lineLength (numbersBoard numbers)) (rw dots-are at k))
 
-        pub nothing : line < z .lines → z .dots ≤ room → 0 ≡ answer
+        pub nothing : line < z .lines → z .dots ≤ room → aloneOf 0 ≡ answer
         unfolding lineDrawCheck drawCheck callCheck
         nothing h k = rw (numbers-fine no-three, lent-fine, page-done, lt-leb (visibleOf (pageAt numbers 1 .irs) .0) line (rw lines-are at h), at-zero, le-ltb room (lineLength (numbersBoard numbers)) (rw dots-are at k))
 
 -- ---- a line that nothing refuses can be stepped, and what stepping leaves is the line drawn; on a refusal the buffer stays
 
-module _ (numbers chars attrs : List ℕ) (f : Font) (line : ℕ) (out : List ℕ) {r : ℕ} (e : r ≡ numberOf (lineDrawCheck numbers chars attrs f line (length out))) where
-  answered : record { refusal = r; beside = 0 } ≡ answerOf (lineDrawCheck numbers chars attrs f line (length out))
-  answered = ap (λ (n : ℕ). record { refusal = n; beside = 0 }) e
+module _ (numbers chars attrs : List ℕ) (f : Font) (line : ℕ) (out : List ℕ) {r : Answer} (e : r ≡ answerOf (lineDrawCheck numbers chars attrs f line (length out))) where
+  number-is : r .refusal ≡ numberOf (lineDrawCheck numbers chars attrs f line (length out))
+  number-is = ap (λ (x : Answer). x .refusal) e
 
-  pub kept : (r ≡ 0 → ⊥) → (field : ℕ)
-      → (record { refusal = r; beside = 0 } ≡ answerOf (lineDrawCheck numbers chars attrs f line (length out))) × (out ≡ lineDrawn numbers chars attrs f line field out)
+  pub kept : (r .refusal ≡ 0 → ⊥) → (field : ℕ)
+      → (r ≡ answerOf (lineDrawCheck numbers chars attrs f line (length out))) × (out ≡ lineDrawn numbers chars attrs f line field out)
   unfolding lineDrawCheck lineDrawn drawnOf
-  kept n field = (answered, go (numbersRefused numbers) refl)
+  kept n field = (e, go (numbersRefused numbers) refl)
     where
       refused : doneOf (lineDrawCheck numbers chars attrs f line (length out)) ≡ false
-      refused = ne-eqb _ _ (λ q. n (e ∙ q))
+      refused = ne-eqb _ _ (λ q. n (number-is ∙ q))
 
       go : (t : Bool) → numbersRefused numbers ≡ t → out ≡ lineDrawn numbers chars attrs f line field out
       go true t = rw t
       go false t = rw (t, rw t at refused)
 
-  module _ (z : r ≡ 0) {m : BoardAnswer} (made : m ≡ boardFor numbers) where
+  module _ (z : r .refusal ≡ 0) {m : BoardAnswer} (made : m ≡ boardFor numbers) where
     accepted : (numbersRefused numbers ≡ false) × (drawCheck (numbersBoard numbers) (lentRefused chars attrs f) line (length out) ≡ Done)
     unfolding lineDrawCheck
-    accepted = passed (numbersRefused numbers) Size _ refl (done-is _ (eq-eqb _ _ (sym e ∙ z)))
+    accepted = passed (numbersRefused numbers) Size _ refl (done-is _ (eq-eqb _ _ (sym number-is ∙ z)))
 
     -- what the draw's checks passed
     record Steps : Type 0 where
@@ -208,9 +234,9 @@ module _ (numbers chars attrs : List ℕ) (f : Font) (line : ℕ) (out : List �
     steppable = rw board-is (steps .can-step)
 
     pub stepped : (field : ℕ) {out′ : List ℕ} → out′ ≡ lineDots (m .board) chars attrs f line field ++ drop (lineLength (m .board)) out
-        → (record { refusal = r; beside = 0 } ≡ answerOf (lineDrawCheck numbers chars attrs f line (length out))) × (out′ ≡ lineDrawn numbers chars attrs f line field out)
+        → (r ≡ answerOf (lineDrawCheck numbers chars attrs f line (length out))) × (out′ ≡ lineDrawn numbers chars attrs f line field out)
     unfolding lineDrawn drawnOf
-    stepped field q = (answered, rw (accepted .0, accepted .1) (rw board-is at q))
+    stepped field q = (e, rw (accepted .0, accepted .1) (rw board-is at q))
 
 -- two calls with the contract of the call that draws
 pub same-drawn : (numbers chars attrs : List ℕ) (f : Font) (line field : ℕ) (out other : List ℕ) {a b : Answer} {out′ other′ : List ℕ}

@@ -19,7 +19,7 @@ use Rattle.feldrime.specs.declared.StepBy.{StepBy}
 use Rattle.feldrime.specs.Answers.{boardAnswer}
 use Rattle.feldrime.specs.Step.{stepNumbers}
 use Rattle.agreement.specs.Steps.{after, at-once}
-use Rattle.promises_stepped.specs.Asked.{step-by-value}
+use Rattle.promises_stepped.specs.Asked.{step-by-value, step-beside}
 
 -- what a step answers for the board; where that is 0, the board that is asked for at clock n, and else the old one
 unfoldable pub steppedTo : Board → (chars attrs : List ℕ) → Font → ℕ → BoardAnswer
@@ -45,12 +45,13 @@ module _ (b : Board) (chars attrs words flags unshifted shifted : List ℕ) wher
   goes i here e = rw (e, here, add-one i)
 
   module _ (n : ℕ) {s : StepBy} (tried : s ≡ stepNumbers b chars attrs words flags unshifted shifted) where
-    pub not-stepped : (s .answer .refusal ≡ 0 → ⊥) → record { refusal = s .answer .refusal; beside = 0; board = b } ≡ steppedTo b chars attrs font n
+    pub not-stepped : (s .answer .refusal ≡ 0 → ⊥) → record { refusal = s .answer .refusal; beside = s .answer .beside; board = b } ≡ steppedTo b chars attrs font n
     unfolding steppedTo
     not-stepped e =
         let r : s .answer .refusal ≡ numberOf (stepCheck b chars attrs font) = step-by-value b chars attrs words flags unshifted shifted tried in
         let refused : doneOf (stepCheck b chars attrs font) ≡ false = ne-eqb _ _ (λ q. e (r ∙ q)) in
-        rw (r, refused)
+        let k = step-beside b chars attrs words flags unshifted shifted tried in
+        rw refused (λ i. record { refusal = r i; beside = k i; board = b })
 
     pub stepped : s .answer .refusal ≡ 0 → {first : Board} → first ≡ withPlace b clockZero → (i : ℕ) {at : Board} → at ≡ after first chars attrs font i → i ≡ n
         → record { refusal = 0; beside = 0; board = at } ≡ steppedTo b chars attrs font n

@@ -7,12 +7,12 @@ ghost use Prim.Native.Nat.{_<_};
 ghost use lib.ListN.{length, drop};
 ghost use Rattle.timing.specs.Fields.{visibleOf};
 ghost use Rattle.agreement.specs.Lines.{clockOf};
-ghost use Rattle.refusal.specs.Number.{numberOf};
 ghost use Rattle.shape.specs.Font.{fontNow, lentFont};
 ghost use Rattle.units.specs.Units.{clocks};
 ghost use Rattle.line.specs.Line.{lineDots, lineLength};
 ghost use Rattle.feldrime.specs.Answers.{answerOf};
 ghost use Rattle.feldrime.specs.LineDraw.{lineDrawCheck, lineDrawn};
+ghost use Rattle.promises_stepped.specs.Asked.{aloneOf};
 ghost use Rattle.promises_stepped.specs.Lines.{Steppable};
 
 // The board's clock at the first dot of a line, in the frame whose number is the field's.
@@ -62,6 +62,16 @@ fn step_line(
     }
 }
 
+// A number with none beside it.
+fn alone(number: u32) -> Answer
+    ensures { λ r. ⌜ r ≡ aloneOf number ⌝ }
+{
+    Answer {
+        refusal: number,
+        beside: 0,
+    }
+}
+
 // What the call that draws answers, from the calls that step. A step answers 3 for what is lent whatever the board is.
 fn line_answer(
     numbers: &[u8],
@@ -73,30 +83,33 @@ fn line_answer(
     shifted: &[u8],
     line: u32,
     room: usize,
-) -> u32
+) -> Answer
     ensures { λ r. let f = lentFont words flags unshifted shifted in
-        ⌜ r ≡ numberOf (lineDrawCheck (now (numbers .entry)) (now (chars .entry)) (now (attrs .entry)) f line room) ⌝ }
+        ⌜ r ≡ answerOf (lineDrawCheck (now (numbers .entry)) (now (chars .entry)) (now (attrs .entry)) f line room) ⌝ }
 {
     let made = feldrime::feldrime_board_of(numbers);
     if made.refusal == 3 {
-        return 3;
+        return alone(3);
     }
     let board = made.board;
     let tried = feldrime::step_numbers(board, chars, attrs, words, flags, unshifted, shifted);
     if tried.answer.refusal == 3 {
-        return 3;
+        return alone(3);
     }
     if made.refusal != 0 {
-        return made.refusal;
+        return Answer {
+            refusal: made.refusal,
+            beside: made.beside,
+        };
     }
     let size = feldrime::feldrime_page_size(numbers);
     if size.lines <= line {
-        return 7;
+        return alone(7);
     }
     if room < size.dots as usize {
-        return 8;
+        return alone(8);
     }
-    0
+    alone(0)
 }
 
 // Draws a visible line as it looks in a field by stepping, dot by dot: the contract is that of `feldrime_line_draw`.
@@ -117,7 +130,7 @@ pub fn line_by_steps(
         × (now (out .exit) ≡ lineDrawn (now (numbers .entry)) (now (chars .entry)) (now (attrs .entry)) f line field (now (out .entry))) ⌝ }
 {
     let room = out.len();
-    let refused = line_answer(
+    let answer = line_answer(
         numbers,
         chars,
         attrs,
@@ -128,7 +141,7 @@ pub fn line_by_steps(
         line,
         room,
     );
-    if refused == 0 {
+    if answer.refusal == 0 {
         let made = feldrime::feldrime_board_of(numbers);
         let board = made.board;
         step_line(
@@ -144,10 +157,7 @@ pub fn line_by_steps(
             field,
         );
     }
-    Answer {
-        refusal: refused,
-        beside: 0,
-    }
+    answer
 }
 
 // The two ways to draw from C, over the same numbers: the same answer, and what was the same in both buffers is the same again.

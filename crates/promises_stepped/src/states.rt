@@ -22,7 +22,7 @@ pub fn stepped_to(
     if refused != 0 {
         return BoardAnswer {
             refusal: refused,
-            beside: 0,
+            beside: tried.answer.beside,
             board: b,
         };
     }

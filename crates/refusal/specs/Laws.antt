@@ -3,7 +3,7 @@ use mathlib.Core.Path.{_≡_, refl, sym, ap, _∙_}
 use mathlib.Core.Bool.{Bool, true, false, not, true≢false}
 use Rattle.lists.specs.Choice.{pick}
 use Rattle.refusal.specs.declared.Refusal.{Refusal}
-use Rattle.refusal.specs.declared.Refusal.the-variants.{Done, Version, Length, Size, Reserved, Porch, Width, Range, Room, Register, Command, Address}
+use Rattle.refusal.specs.declared.Refusal.the-variants.{Done, Version, Length, Size, Reserved, BackPorch, LineShort, FrontPorch, Width, Range, Room, Register, Command, Address}
 use Rattle.refusal.specs.Number.{doneOf}
 
 pub done-is : (r : Refusal) → doneOf r ≡ true → r ≡ Done
@@ -12,7 +12,9 @@ done-is Version e = absurd (true≢false (sym e))
 done-is Length e = absurd (true≢false (sym e))
 done-is Size e = absurd (true≢false (sym e))
 done-is Reserved e = absurd (true≢false (sym e))
-done-is Porch e = absurd (true≢false (sym e))
+done-is BackPorch e = absurd (true≢false (sym e))
+done-is (LineShort missing) e = absurd (true≢false (sym e))
+done-is (FrontPorch missing) e = absurd (true≢false (sym e))
 done-is Width e = absurd (true≢false (sym e))
 done-is Range e = absurd (true≢false (sym e))
 done-is Room e = absurd (true≢false (sym e))

@@ -1,14 +1,17 @@
-// The answer numbers of document 01, by name.
+// The answer numbers of documents 01 and 02, by name.
 ghost use mathlib.Core.Path.{_≡_};
-ghost use Rattle.refusal.specs.Number.{numberOf, doneOf};
+ghost use Rattle.refusal.specs.Number.{numberOf, besideOf, doneOf};
 
+// A line that is too short, and a front porch that is, tell by how many clocks the front porch misses 2.
 pub enum Refusal {
     Done,
     Version,
     Length,
     Size,
     Reserved,
-    Porch,
+    BackPorch,
+    LineShort(units::Clocks),
+    FrontPorch(units::Clocks),
     Width,
     Range,
     Room,
@@ -26,13 +29,37 @@ pub fn number(r: Refusal) -> u32
         Refusal::Length => 2,
         Refusal::Size => 3,
         Refusal::Reserved => 4,
-        Refusal::Porch => 5,
+        Refusal::BackPorch => 13,
+        Refusal::LineShort(_) => 14,
+        Refusal::FrontPorch(_) => 15,
         Refusal::Width => 6,
         Refusal::Range => 7,
         Refusal::Room => 8,
         Refusal::Register => 9,
         Refusal::Command => 10,
         Refusal::Address => 12,
+    }
+}
+
+// The number that belongs to a refusal, or 0.
+pub fn beside(r: Refusal) -> u32
+    ensures { λ n. ⌜ n ≡ besideOf r ⌝ }
+{
+    match r {
+        Refusal::Done => 0,
+        Refusal::Version => 0,
+        Refusal::Length => 0,
+        Refusal::Size => 0,
+        Refusal::Reserved => 0,
+        Refusal::BackPorch => 0,
+        Refusal::LineShort(missing) => missing.0,
+        Refusal::FrontPorch(missing) => missing.0,
+        Refusal::Width => 0,
+        Refusal::Range => 0,
+        Refusal::Room => 0,
+        Refusal::Register => 0,
+        Refusal::Command => 0,
+        Refusal::Address => 0,
     }
 }
 

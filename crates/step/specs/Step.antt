@@ -38,7 +38,7 @@ steppedOf b chars attrs f = record {
   board = withPlace b (nextPlace (b .page) chars attrs (b .place));
 }
 
--- 3, 12, 4, 5, 6, 7
+-- 3, 12, 4, 13, 14, 15, 6, 7
 abbrev pub stepCheck : Board → (chars attrs : List ℕ) → Font → Refusal
 stepCheck b chars attrs f = callCheck b (lentRefused chars attrs f) false false
 

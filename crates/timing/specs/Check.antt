@@ -1,40 +1,55 @@
 -- The page check of 01, and the size of an accepted page's picture.
-use Prim.Native.Nat.{ℕ, _/_, _%_}
+use Prim.Native.Nat.{ℕ, _+_, _-_, _/_, _%_}
 use mathlib.Core.Bool.{Bool, _||_, not}
 use mathlib.Core.List.{List, [], _∷_}
 use lib.Dec.{eqb, ltb, leb}
 use Rattle.lists.specs.Choice.{pick, firstOf}
+use Rattle.units.specs.declared.Clocks.{Clocks}
 use Rattle.units.specs.declared.Dots.{Dots}
 use Rattle.units.specs.declared.Lines.{Lines}
 use Rattle.units.specs.Units.{clocks, lines, dots, dotsOf}
 use Rattle.refusal.specs.declared.Refusal.{Refusal}
-use Rattle.refusal.specs.declared.Refusal.the-variants.{Done, Size, Reserved, Porch, Width, Range, Room, Address}
+use Rattle.refusal.specs.declared.Refusal.the-variants.{Done, Size, Reserved, BackPorch, LineShort, FrontPorch, Width, Range, Room, Address}
 use Rattle.refusal.specs.Number.{doneOf}
 use Rattle.board.specs.declared.Page.{Page}
 use Rattle.board.specs.declared.Board.{Board}
 use Rattle.board.specs.Range.{addressRefused, cellsRefused, pointerRefused}
 use Rattle.timing.specs.declared.PageSize.{PageSize}
-use Rattle.timing.specs.Fields.{ir, hfpOf, hactOf, htOf, vtOf, visibleOf}
+use Rattle.timing.specs.Fields.{ir, restOf, hfpOf, hactOf, htOf, vtOf, visibleOf}
 
 -- 4: IR0[7] or IR1[7] set
 abbrev pub reservedRefused : List ℕ → Bool
 reservedRefused irs = eqb (ir irs 0 / 128 % 2) 1 || eqb (ir irs 1 / 128 % 2) 1
 
--- 5: HBP code 0, or HFP below 2
-abbrev pub porchRefused : List ℕ → Bool
-porchRefused irs = eqb (ir irs 2 % 8) 0 || ltb (hfpOf irs) 2
+-- 13: HBP code 0
+abbrev pub backPorchRefused : List ℕ → Bool
+backPorchRefused irs = eqb (ir irs 2 % 8) 0
+
+-- 14: the line is too short for its active, sync and back porch clocks
+abbrev pub lineShort : List ℕ → Bool
+lineShort irs = ltb (htOf irs) (restOf irs)
+
+-- 15: HFP 0 or 1
+abbrev pub frontPorchRefused : List ℕ → Bool
+frontPorchRefused irs = ltb (hfpOf irs) 2
+
+-- by how many clocks the front porch misses 2: HACT + HSYNC + HBP + 2 - HT
+abbrev pub missing : List ℕ → Clocks
+missing irs = clocks (restOf irs + 2 - htOf irs)
 
 -- 6: dots not 6 to 12
 abbrev pub widthRefused : Dots → Bool
 widthRefused d = ltb (d .0) 6 || ltb 12 (d .0)
 
--- lowest number first, except that 12 precedes 4
+-- 12, 4, 13, 14, 15, 6
 unfoldable pub pageCheck : Page → Refusal
 pageCheck p =
     firstOf
     ((addressRefused p, Address)
     ∷ (reservedRefused (p .irs), Reserved)
-    ∷ (porchRefused (p .irs), Porch)
+    ∷ (backPorchRefused (p .irs), BackPorch)
+    ∷ (lineShort (p .irs), LineShort (missing (p .irs)))
+    ∷ (frontPorchRefused (p .irs), FrontPorch (missing (p .irs)))
     ∷ (widthRefused (p .video .dots), Width)
     ∷ [])
     Done
@@ -57,7 +72,7 @@ stateRefused b =
     || cellsRefused (b .place)
     || pointerRefused (b .pointer)
 
--- drawing, stepping, states and runs give 3, then the page's own 12, 4, 5, 6, then 7 for the state and for what is asked, then 8
+-- drawing, stepping, states and runs give 3, then the page's own 12, 4, 13, 14, 15, 6, then 7 for the state and for what is asked, then 8
 unfoldable pub callCheck : Board → (size asked room : Bool) → Refusal
 callCheck b size asked room =
     firstOf

@@ -11,7 +11,7 @@ use Rattle.lists.specs.Choice.{pick, neither, pick-le}
 use Rattle.units.specs.declared.Lines.{Lines}
 use Rattle.units.specs.declared.Dots.{Dots}
 use Rattle.units.specs.Units.{clocksOf}
-use Rattle.refusal.specs.declared.Refusal.the-variants.{Done, Size, Reserved, Porch, Width, Range, Room, Address}
+use Rattle.refusal.specs.declared.Refusal.the-variants.{Done, Size, Reserved, BackPorch, LineShort, FrontPorch, Width, Range, Room, Address}
 use Rattle.refusal.specs.Number.{doneOf}
 use Rattle.refusal.specs.Laws.{done-is, passed, not-refused}
 use Rattle.raster.specs.Moves.{Bounded}
@@ -20,7 +20,7 @@ use Rattle.board.specs.declared.Page.{Page}
 use Rattle.board.specs.declared.Board.{Board}
 use Rattle.board.specs.Range.{startsRefused, switchesRefused, addressRefused, cellsRefused, pointerRefused}
 use Rattle.timing.specs.Fields.{ir, linesOf, rowsOf, hactOf, htOf, hfpOf, vsyncOf, vtOf, bufferOf, countsOf}
-use Rattle.timing.specs.Check.{reservedRefused, porchRefused, widthRefused, pageCheck, sized, sizeOf, stateRefused, callCheck}
+use Rattle.timing.specs.Check.{reservedRefused, backPorchRefused, lineShort, frontPorchRefused, missing, widthRefused, pageCheck, sized, sizeOf, stateRefused, callCheck}
 
 -- ---- any registers
 
@@ -73,15 +73,16 @@ accepted p e =
     let d = p .video .dots .0 in
     let a = passed (addressRefused p) Address _ refl e in
     let b = passed (reservedRefused irs) Reserved _ refl (a .1) in
-    let c = passed (porchRefused irs) Porch _ refl (b .1) in
-    let w = passed (widthRefused (p .video .dots)) Width _ refl (c .1) in
+    let c = passed (backPorchRefused irs) BackPorch _ refl (b .1) in
+    let l = passed (lineShort irs) (LineShort (missing irs)) _ refl (c .1) in
+    let f = passed (frontPorchRefused irs) (FrontPorch (missing irs)) _ refl (l .1) in
+    let w = passed (widthRefused (p .video .dots)) Width _ refl (f .1) in
     let known = switchesRefused (p .version) (p .switches) in
     let a4 = neither (startsRefused s || known) (ltb 15 (p .video .strike)) (a .0) in
     let a3 = neither (startsRefused s) known (a4 .0) in
     let a2 = neither (ltb 16383 (s .start1) || ltb 16383 (s .cursor)) (ltb 16383 (s .start2)) (a3 .0) in
     let a1 = neither (ltb 16383 (s .start1)) (ltb 16383 (s .cursor)) (a2 .0) in
     let b1 = neither (eqb (ir irs 0 / 128 % 2) 1) (eqb (ir irs 1 / 128 % 2) 1) (b .0) in
-    let c1 = neither (eqb (ir irs 2 % 8) 0) (ltb (hfpOf irs) 2) (c .0) in
     let w1 = neither (ltb d 6) (ltb 12 d) (w .0) in
     record {
       start1 = ltb-false _ _ (a1 .0);
@@ -91,8 +92,8 @@ accepted p e =
       strike = ltb-false _ _ (a4 .1);
       plain = eqb-false _ _ (b1 .0);
       straight = eqb-false _ _ (b1 .1);
-      hbp = eqb-false _ _ (c1 .0);
-      hfp = ltb-false _ _ (c1 .1);
+      hbp = eqb-false _ _ (c .0);
+      hfp = ltb-false _ _ (f .0);
       least = ltb-false _ _ (w1 .0);
       most = ltb-false _ _ (w1 .1);
     }

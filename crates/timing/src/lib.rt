@@ -5,8 +5,8 @@ ghost use Prim.Native.Nat.{_/_, _%_};
 ghost use Rattle.lists.specs.Choice.{firstOf};
 ghost use Rattle.units.specs.Units.{clocks, lines};
 ghost use Rattle.refusal.specs.declared.Refusal.{Refusal};
-ghost use Rattle.timing.specs.Fields.{ir, linesOf, ecOf, tableOf, hsyncOf, hbpOf, vfpOf, vbpOf, blinkOf, rowsOf, hactOf, cursorOf, vsyncOf, underlineOf, bufferOf, htOf, hfpOf, visibleOf, vtOf, countsOf, timingOf};
-ghost use Rattle.timing.specs.Check.{reservedRefused, porchRefused, widthRefused, pageCheck, sizeOf, stateRefused, callCheck};
+ghost use Rattle.timing.specs.Fields.{ir, linesOf, ecOf, tableOf, hsyncOf, hbpOf, vfpOf, vbpOf, blinkOf, rowsOf, hactOf, cursorOf, vsyncOf, underlineOf, bufferOf, htOf, restOf, hfpOf, visibleOf, vtOf, countsOf, timingOf};
+ghost use Rattle.timing.specs.Check.{reservedRefused, backPorchRefused, lineShort, frontPorchRefused, missing, widthRefused, pageCheck, sizeOf, stateRefused, callCheck};
 
 // A line's and a frame's front porch and sync, and the counts that the beam goes by.
 pub struct Timing {
@@ -101,11 +101,17 @@ fn ht_of(irs: [u8; 15]) -> units::Clocks
     ec_of(irs).plus(hsync_of(irs).times(2)).times(2)
 }
 
+// What a line has besides its front porch.
+fn rest_of(irs: [u8; 15]) -> units::Clocks
+    ensures { λ r. ⌜ r ≡ clocks (restOf irs) ⌝ }
+{
+    hact_of(irs).plus(hsync_of(irs)).plus(hbp_of(irs))
+}
+
 fn hfp_of(irs: [u8; 15]) -> units::Clocks
     ensures { λ r. ⌜ r ≡ clocks (hfpOf irs) ⌝ }
 {
-    let rest = hact_of(irs).plus(hsync_of(irs)).plus(hbp_of(irs));
-    ht_of(irs).minus(rest)
+    ht_of(irs).minus(rest_of(irs))
 }
 
 // The lines that show a picture.
@@ -205,11 +211,32 @@ fn reserved_refused(irs: [u8; 15]) -> bool
     (irs[0] / 128 % 2 == 1) | (irs[1] / 128 % 2 == 1)
 }
 
-// 5: HBP code 0, or a front porch below 2.
-fn porch_refused(irs: [u8; 15]) -> bool
-    ensures { λ r. ⌜ r ≡ porchRefused irs ⌝ }
+// 13: HBP code 0.
+fn back_porch_refused(irs: [u8; 15]) -> bool
+    ensures { λ r. ⌜ r ≡ backPorchRefused irs ⌝ }
 {
-    (irs[2] % 8 == 0) | hfp_of(irs).below(units::Clocks(2))
+    irs[2] % 8 == 0
+}
+
+// 14: the line is too short for its active, sync and back porch clocks.
+fn line_short(irs: [u8; 15]) -> bool
+    ensures { λ r. ⌜ r ≡ lineShort irs ⌝ }
+{
+    ht_of(irs).below(rest_of(irs))
+}
+
+// 15: a front porch of 0 or 1.
+fn front_porch_refused(irs: [u8; 15]) -> bool
+    ensures { λ r. ⌜ r ≡ frontPorchRefused irs ⌝ }
+{
+    hfp_of(irs).below(units::Clocks(2))
+}
+
+// By how many clocks the front porch misses 2.
+fn missing(irs: [u8; 15]) -> units::Clocks
+    ensures { λ r. ⌜ r ≡ missing irs ⌝ }
+{
+    rest_of(irs).plus(units::Clocks(2)).minus(ht_of(irs))
 }
 
 // 6: dots not 6 to 12.
@@ -219,16 +246,29 @@ pub fn width_refused(d: units::Dots) -> bool
     d.below(units::Dots(6)) | units::Dots(12).below(d)
 }
 
-// The order of the page check.
-fn first_of(address: bool, reserved: bool, porch: bool, width: bool) -> refusal::Refusal
-    ensures { λ r. ⌜ r ≡ firstOf ((address, Refusal.Address) ∷ (reserved, Refusal.Reserved) ∷ (porch, Refusal.Porch) ∷ (width, Refusal.Width) ∷ []) Refusal.Done ⌝ }
+// The order of the page check, where so many clocks are missing.
+fn first_of(
+    address: bool,
+    reserved: bool,
+    back: bool,
+    short: bool,
+    front: bool,
+    width: bool,
+    missing: units::Clocks,
+) -> refusal::Refusal
+    ensures { λ r. ⌜ r ≡ firstOf ((address, Refusal.Address) ∷ (reserved, Refusal.Reserved) ∷ (back, Refusal.BackPorch)
+        ∷ (short, Refusal.LineShort missing) ∷ (front, Refusal.FrontPorch missing) ∷ (width, Refusal.Width) ∷ []) Refusal.Done ⌝ }
 {
     if address {
         refusal::Refusal::Address
     } else if reserved {
         refusal::Refusal::Reserved
-    } else if porch {
-        refusal::Refusal::Porch
+    } else if back {
+        refusal::Refusal::BackPorch
+    } else if short {
+        refusal::Refusal::LineShort(missing)
+    } else if front {
+        refusal::Refusal::FrontPorch(missing)
     } else if width {
         refusal::Refusal::Width
     } else {
@@ -244,8 +284,11 @@ pub fn page_check(p: board::Page) -> refusal::Refusal
     first_of(
         board::address_refused(p),
         reserved_refused(irs),
-        porch_refused(irs),
+        back_porch_refused(irs),
+        line_short(irs),
+        front_porch_refused(irs),
         width_refused(dots),
+        missing(irs),
     )
 }
 

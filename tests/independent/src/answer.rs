@@ -5,6 +5,7 @@ use std::io::{BufRead, Write};
 use crate::board::{Board, Page};
 use crate::calls;
 use crate::files::{page_of_head, page_of_numbers};
+use crate::judge::Refusal;
 use crate::machine::Shown;
 use crate::registers;
 use crate::script::{board_of_text, board_text, hex, number, small, Buffers, Sum};
@@ -85,7 +86,7 @@ struct Desk<'a> {
 struct Steps {
     done: u32,
     sum: Sum,
-    refusal: u32,
+    refusal: Refusal,
     last: Shown,
 }
 
@@ -162,23 +163,24 @@ impl<'a> Desk<'a> {
         }
     }
 
-    /// "CALL POWER MODE COUNT REFUSAL BESIDE RESULTS BUFFERS"; the number beside a refusal is 0 throughout.
+    /// "CALL POWER MODE COUNT REFUSAL BESIDE RESULTS BUFFERS"
     fn report(
         &mut self,
         call: &str,
         handed: Handed,
         count: u32,
-        refusal: u32,
+        refusal: Refusal,
         results: &str,
         lent: &[&str],
     ) -> Result<(), String> {
         let buffers = self.buffers.report(lent)?;
         let space = if results.is_empty() { "" } else { " " };
         let Handed { power, mode } = handed;
-        self.say(&format!("{} {} {} {} {} 0{}{}{}", call, power, mode, count, refusal, space, results, buffers))
+        let Refusal { number, beside } = refusal;
+        self.say(&format!("{} {} {} {} {} {}{}{}{}", call, power, mode, count, number, beside, space, results, buffers))
     }
 
-    fn report_board(&mut self, call: &str, handed: Handed, refusal: u32, lent: &[&str]) -> Result<(), String> {
+    fn report_board(&mut self, call: &str, handed: Handed, refusal: Refusal, lent: &[&str]) -> Result<(), String> {
         let board = format!("board {}", board_text(&self.board));
         self.report(call, handed, 1, refusal, &board, lent)
     }
@@ -193,7 +195,7 @@ impl<'a> Desk<'a> {
         self.report("page_check", self.numbers_handed(), 1, refusal, "", &["numbers"])
     }
 
-    fn page_size(&mut self) -> Result<(u32, u32, u32), String> {
+    fn page_size(&mut self) -> Result<(Refusal, u32, u32), String> {
         let (refusal, lines, dots) = calls::page_size(&self.buffers.numbers);
         let results = format!("lines {} dots {}", lines, dots);
         self.report("page_size", self.numbers_handed(), 1, refusal, &results, &["numbers"])?;
@@ -219,14 +221,14 @@ impl<'a> Desk<'a> {
         self.report("font_read", Handed::NO_PAGE, 1, refusal, "", &["file", "words", "flags", "unshifted", "shifted"])
     }
 
-    fn draw(&mut self, line: u32, field: u8) -> u32 {
+    fn draw(&mut self, line: u32, field: u8) -> Refusal {
         let mut out = std::mem::take(&mut self.buffers.out);
         let refusal = calls::line_draw(&self.buffers.numbers, &self.buffers.lent(), line, field, &mut out);
         self.buffers.out = out;
         refusal
     }
 
-    fn report_lines(&mut self, count: u32, refusal: u32, results: &str) -> Result<(), String> {
+    fn report_lines(&mut self, count: u32, refusal: Refusal, results: &str) -> Result<(), String> {
         let lent = [&["numbers"], &FONT_AND_MEMORIES[..], &["out"]].concat();
         self.report("line_draw", self.numbers_handed(), count, refusal, results, &lent)
     }
@@ -236,7 +238,7 @@ impl<'a> Desk<'a> {
         self.report_lines(1, refusal, "")
     }
 
-    fn picture_draw(&mut self, field: u8) -> Result<u32, String> {
+    fn picture_draw(&mut self, field: u8) -> Result<Refusal, String> {
         let mut out = std::mem::take(&mut self.buffers.out);
         let refusal = calls::picture_draw(&self.buffers.numbers, &self.buffers.lent(), field, &mut out);
         self.buffers.out = out;
@@ -245,12 +247,12 @@ impl<'a> Desk<'a> {
         Ok(refusal)
     }
 
-    fn cells(&mut self, row: u32) -> (u32, u32) {
+    fn cells(&mut self, row: u32) -> (Refusal, u32) {
         let b = &mut self.buffers;
         calls::row_cells(&b.numbers, &b.chars, row, &mut b.cells)
     }
 
-    fn report_cells(&mut self, count: u32, refusal: u32, results: &str) -> Result<(), String> {
+    fn report_cells(&mut self, count: u32, refusal: Refusal, results: &str) -> Result<(), String> {
         self.report("row_cells", self.numbers_handed(), count, refusal, results, &["numbers", "chars", "cells"])
     }
 
@@ -267,7 +269,7 @@ impl<'a> Desk<'a> {
 
     fn power(&mut self) -> Result<(), String> {
         self.board = Board::power();
-        self.report_board("power", Handed::NO_PAGE, 0, &[])
+        self.report_board("power", Handed::NO_PAGE, Refusal::NONE, &[])
     }
 
     fn board_of(&mut self) -> Result<(), String> {
@@ -310,7 +312,7 @@ impl<'a> Desk<'a> {
         let (refusal, shown) = calls::step(&mut self.board, &self.buffers.lent());
         steps.last = shown;
         steps.refusal = refusal;
-        if refusal != 0 {
+        if refusal.refused() {
             return Ok(());
         }
         steps.done += 1;
@@ -324,13 +326,13 @@ impl<'a> Desk<'a> {
 
     fn report_steps(&mut self, steps: &Steps) -> Result<(), String> {
         let results = format!("sum {:016x} {} board {}", steps.sum.0, shown_text(&steps.last), board_text(&self.board));
-        let count = if steps.refusal == 0 { steps.done } else { 1 };
+        let count = if !steps.refusal.refused() { steps.done } else { 1 };
         self.report("step", Handed::board(&self.board), count, steps.refusal, &results, &FONT_AND_MEMORIES)
     }
 
     fn step(&mut self, count: u32) -> Result<(), String> {
-        let mut steps = Steps { done: 0, sum: Sum::new(), refusal: 0, last: Shown::default() };
-        while steps.done < count && steps.refusal == 0 {
+        let mut steps = Steps { done: 0, sum: Sum::new(), refusal: Refusal::NONE, last: Shown::default() };
+        while steps.done < count && !steps.refusal.refused() {
             self.step_once(&mut steps)?;
         }
         self.report_steps(&steps)
@@ -340,7 +342,7 @@ impl<'a> Desk<'a> {
     /// the cells those that the steps fetched on each line.
     fn frame(&mut self) -> Result<(), String> {
         let (refusal, lines, width) = self.page_size()?;
-        if refusal != 0 {
+        if refusal.refused() {
             return Ok(());
         }
         let field = self.board.place.field;
@@ -355,11 +357,11 @@ impl<'a> Desk<'a> {
     fn frame_by_steps(&mut self, lines: u32, width: u32) -> Result<Frame, String> {
         let mut picture = vec![0; lines as usize * width as usize];
         let mut addresses = Vec::new();
-        let mut steps = Steps { done: 0, sum: Sum::new(), refusal: 0, last: Shown::default() };
+        let mut steps = Steps { done: 0, sum: Sum::new(), refusal: Refusal::NONE, last: Shown::default() };
         loop {
             let (place, dots) = (self.board.place, self.board.page.dots);
             self.step_once(&mut steps)?;
-            if steps.refusal != 0 {
+            if steps.refusal.refused() {
                 break;
             }
             if place.line < lines && (place.clock + 1) * dots <= width {
@@ -378,15 +380,15 @@ impl<'a> Desk<'a> {
     fn frame_by_lines(&mut self, lines: u32, width: u32, field: u8) -> Result<Vec<u8>, String> {
         self.buffers.fill("out", width as usize, 0)?;
         let mut picture = Vec::new();
-        let (mut done, mut refusal) = (0, 0);
-        while done < lines && refusal == 0 {
+        let (mut done, mut refusal) = (0, Refusal::NONE);
+        while done < lines && !refusal.refused() {
             refusal = self.draw(done, field);
-            if refusal == 0 {
+            if !refusal.refused() {
                 picture.extend(&self.buffers.out);
                 done += 1;
             }
         }
-        let count = if refusal == 0 { done } else { 1 };
+        let count = if !refusal.refused() { done } else { 1 };
         self.report_lines(count, refusal, &format!("sum {:016x}", Sum::of(&picture).0))?;
         Ok(picture)
     }
@@ -403,18 +405,18 @@ impl<'a> Desk<'a> {
         let rows = u32::from(self.buffers.numbers[5] & 0x7F) + 1;
         self.buffers.fill("cells", 256, 1)?;
         let (mut found, mut sum) = (Vec::new(), Sum::new());
-        let (mut done, mut refusal) = (0, 0);
-        while done < rows && refusal == 0 {
+        let (mut done, mut refusal) = (0, Refusal::NONE);
+        while done < rows && !refusal.refused() {
             let (answer, count) = self.cells(done);
             refusal = answer;
-            if refusal == 0 {
+            if !refusal.refused() {
                 let row = &self.buffers.cells[..count as usize];
                 row.iter().for_each(|&address| sum.add(u32::from(address)));
                 (0..lines / rows).for_each(|_| found.extend(row));
                 done += 1;
             }
         }
-        let count = if refusal == 0 { done } else { 1 };
+        let count = if !refusal.refused() { done } else { 1 };
         self.report_cells(count, refusal, &format!("sum {:016x}", sum.0))?;
         Ok(found)
     }

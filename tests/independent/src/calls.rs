@@ -1,36 +1,36 @@
-//! The calls of the C boundary, answered from 01. Each gives its refusal number first. "A refusal returns zeros beside its
+//! The calls of the C boundary, answered from 01. Each gives its refusal first. "A refusal returns zeros beside its
 //! number (an empty part for a run) and the old state"; what was lent stays as it was.
 
 use crate::board::{Board, Font, Lent};
 use crate::files::{self, page_of_numbers};
-use crate::judge::{self, Fault};
+use crate::judge::{self, fault, Fault, Refusal};
 use crate::machine::{self, Shown};
 use crate::sheet;
 
-pub fn page_check(numbers: &[u8]) -> u32 {
+pub fn page_check(numbers: &[u8]) -> Refusal {
     match page_of_numbers(numbers) {
         Some(page) => judge::first(&judge::page(&page)),
-        None => 3,
+        None => Refusal::plain(3),
     }
 }
 
 /// The refusal, visible lines, dots in a line.
-pub fn page_size(numbers: &[u8]) -> (u32, u32, u32) {
+pub fn page_size(numbers: &[u8]) -> (Refusal, u32, u32) {
     match (page_check(numbers), page_of_numbers(numbers)) {
-        (0, Some(page)) => (0, page.visible_lines(), page.line_dots() as u32),
+        (Refusal::NONE, Some(page)) => (Refusal::NONE, page.visible_lines(), page.line_dots() as u32),
         (refusal, _) => (refusal, 0, 0),
     }
 }
 
-pub fn page_read(file: &[u8], numbers: &mut [u8], chars: &mut [u8], attrs: &mut [u8]) -> u32 {
+pub fn page_read(file: &[u8], numbers: &mut [u8], chars: &mut [u8], attrs: &mut [u8]) -> Refusal {
     let mut faults = judge::file(file, &files::PAGE_VERSIONS, files::PAGE_LENGTH);
-    faults.extend([(3, numbers.len() != files::NUMBERS), judge::memory(chars), judge::memory(attrs)]);
-    if judge::first(&faults) != 0 {
+    faults.extend([fault(3, numbers.len() != files::NUMBERS), judge::memory(chars), judge::memory(attrs)]);
+    if judge::first(&faults).refused() {
         return judge::first(&faults);
     }
     let (page, file_chars, file_attrs) = files::page_parts(file);
     let refusal = judge::first(&judge::page(&page));
-    if refusal == 0 {
+    if !refusal.refused() {
         numbers.copy_from_slice(&files::numbers_of(&page));
         chars.copy_from_slice(file_chars);
         attrs.copy_from_slice(file_attrs);
@@ -39,26 +39,32 @@ pub fn page_read(file: &[u8], numbers: &mut [u8], chars: &mut [u8], attrs: &mut 
 }
 
 /// "bytes beyond stay, as do those beyond a written file"
-pub fn page_write(numbers: &[u8], chars: &[u8], attrs: &[u8], out: &mut [u8]) -> u32 {
+pub fn page_write(numbers: &[u8], chars: &[u8], attrs: &[u8], out: &mut [u8]) -> Refusal {
     let page = match page_of_numbers(numbers) {
         Some(page) => page,
-        None => return 3,
+        None => return Refusal::plain(3),
     };
     let mut faults = judge::page(&page);
     // "or file output below the file's size"
-    faults.extend([judge::memory(chars), judge::memory(attrs), (3, out.len() < files::PAGE_FILE)]);
+    faults.extend([judge::memory(chars), judge::memory(attrs), fault(3, out.len() < files::PAGE_FILE)]);
     let refusal = judge::first(&faults);
-    if refusal == 0 {
+    if !refusal.refused() {
         out[..files::PAGE_FILE].copy_from_slice(&files::page_file(&page, chars, attrs));
     }
     refusal
 }
 
-pub fn font_read(file: &[u8], words: &mut [u16], flags: &mut [u8], unshifted: &mut [u8], shifted: &mut [u8]) -> u32 {
+pub fn font_read(
+    file: &[u8],
+    words: &mut [u16],
+    flags: &mut [u8],
+    unshifted: &mut [u8],
+    shifted: &mut [u8],
+) -> Refusal {
     let mut faults = judge::file(file, &files::FONT_VERSIONS, files::FONT_LENGTH);
     faults.extend(judge::font(&Font { words, flags, unshifted, shifted }));
     let refusal = judge::first(&faults);
-    if refusal == 0 {
+    if !refusal.refused() {
         let font = files::font_parts(file);
         words.copy_from_slice(&font.words);
         flags.copy_from_slice(&font.flags);
@@ -75,34 +81,34 @@ fn lent_faults(lent: &Lent) -> Vec<Fault> {
     faults
 }
 
-pub fn line_draw(numbers: &[u8], lent: &Lent, line: u32, field: u8, out: &mut [u8]) -> u32 {
+pub fn line_draw(numbers: &[u8], lent: &Lent, line: u32, field: u8, out: &mut [u8]) -> Refusal {
     let page = match page_of_numbers(numbers) {
         Some(page) => page,
-        None => return 3,
+        None => return Refusal::plain(3),
     };
     let mut faults = lent_faults(lent);
     faults.extend(judge::page(&page));
-    faults.push((7, line >= page.visible_lines()));
+    faults.push(fault(7, line >= page.visible_lines()));
     // "8: line buffer too short"
-    faults.push((8, out.len() < page.line_dots()));
+    faults.push(fault(8, out.len() < page.line_dots()));
     let refusal = judge::first(&faults);
-    if refusal == 0 {
+    if !refusal.refused() {
         out[..page.line_dots()].copy_from_slice(&sheet::line(&page, lent, line, field));
     }
     refusal
 }
 
 /// "All visible lines, end to end, a byte a dot [..] at the front of `out`, bytes beyond stay."
-pub fn picture_draw(numbers: &[u8], lent: &Lent, field: u8, out: &mut [u8]) -> u32 {
+pub fn picture_draw(numbers: &[u8], lent: &Lent, field: u8, out: &mut [u8]) -> Refusal {
     let page = match page_of_numbers(numbers) {
         Some(page) => page,
-        None => return 3,
+        None => return Refusal::plain(3),
     };
     let mut faults = lent_faults(lent);
     faults.extend(judge::page(&page));
-    faults.push((8, out.len() < page.picture_dots()));
+    faults.push(fault(8, out.len() < page.picture_dots()));
     let refusal = judge::first(&faults);
-    if refusal == 0 {
+    if !refusal.refused() {
         for line in 0..page.visible_lines() {
             let from = line as usize * page.line_dots();
             out[from..from + page.line_dots()].copy_from_slice(&sheet::line(&page, lent, line, field));
@@ -112,17 +118,17 @@ pub fn picture_draw(numbers: &[u8], lent: &Lent, field: u8, out: &mut [u8]) -> u
 }
 
 /// The refusal, where the run begins, how many cells it has. "A refusal shows an empty part"
-pub fn row_run(numbers: &[u8], chars: &[u8], row: u32) -> (u32, u32, u32) {
+pub fn row_run(numbers: &[u8], chars: &[u8], row: u32) -> (Refusal, u32, u32) {
     let page = match page_of_numbers(numbers) {
         Some(page) => page,
-        None => return (3, 0, 0),
+        None => return (Refusal::plain(3), 0, 0),
     };
     let mut faults = judge::page(&page);
-    faults.extend([judge::memory(chars), (7, row >= page.rows())]);
+    faults.extend([judge::memory(chars), fault(7, row >= page.rows())]);
     match judge::first(&faults) {
-        0 => {
+        Refusal::NONE => {
             let (first, count) = sheet::run(&page, chars, row);
-            (0, u32::from(first), count)
+            (Refusal::NONE, u32::from(first), count)
         }
         refusal => (refusal, 0, 0),
     }
@@ -132,36 +138,36 @@ pub fn row_run(numbers: &[u8], chars: &[u8], row: u32) -> (u32, u32, u32) {
 const MOST_CELLS: usize = 256;
 
 /// The refusal and how many cells the row fetches; their addresses stand in front, "elements beyond the row's cells stay".
-pub fn row_cells(numbers: &[u8], chars: &[u8], row: u32, cells: &mut [u16]) -> (u32, u32) {
+pub fn row_cells(numbers: &[u8], chars: &[u8], row: u32, cells: &mut [u16]) -> (Refusal, u32) {
     let page = match page_of_numbers(numbers) {
         Some(page) => page,
-        None => return (3, 0),
+        None => return (Refusal::plain(3), 0),
     };
     let mut faults = judge::page(&page);
-    faults.extend([judge::memory(chars), (3, cells.len() < MOST_CELLS), (7, row >= page.rows())]);
+    faults.extend([judge::memory(chars), fault(3, cells.len() < MOST_CELLS), fault(7, row >= page.rows())]);
     let refusal = judge::first(&faults);
-    if refusal != 0 {
+    if refusal.refused() {
         return (refusal, 0);
     }
     let found = sheet::row_cells(&page, chars, row);
     cells[..found.len()].copy_from_slice(&found);
-    (0, found.len() as u32)
+    (Refusal::NONE, found.len() as u32)
 }
 
 /// A refused page gives the board that power gives.
-pub fn board_of(numbers: &[u8]) -> (u32, Board) {
+pub fn board_of(numbers: &[u8]) -> (Refusal, Board) {
     match (page_check(numbers), page_of_numbers(numbers)) {
-        (0, Some(page)) => (0, Board::of_page(page)),
+        (Refusal::NONE, Some(page)) => (Refusal::NONE, Board::of_page(page)),
         (refusal, _) => (refusal, Board::power()),
     }
 }
 
 /// "A board's page as 32 numbers, the way back": of the board only its page is judged.
-pub fn numbers_of(board: &Board, numbers: &mut [u8]) -> u32 {
+pub fn numbers_of(board: &Board, numbers: &mut [u8]) -> Refusal {
     let mut faults = judge::page(&board.page);
-    faults.push((3, numbers.len() != files::NUMBERS));
+    faults.push(fault(3, numbers.len() != files::NUMBERS));
     let refusal = judge::first(&faults);
-    if refusal == 0 {
+    if !refusal.refused() {
         numbers.copy_from_slice(&files::numbers_of(&board.page));
     }
     refusal
@@ -176,23 +182,23 @@ fn board_faults(board: &Board) -> Vec<Fault> {
 }
 
 /// The state for clock n, found in both ways; `None` beside the refusal where they differ.
-pub fn state_at(board: &Board, chars: &[u8], attrs: &[u8], n: u32) -> (u32, Option<Board>) {
+pub fn state_at(board: &Board, chars: &[u8], attrs: &[u8], n: u32) -> (Refusal, Option<Board>) {
     let mut faults = board_faults(board);
     faults.extend([judge::memory(chars), judge::memory(attrs)]);
     let refusal = judge::first(&faults);
-    if refusal != 0 {
+    if refusal.refused() {
         return (refusal, Some(*board));
     }
     let worked_out = Board { place: sheet::place_at(&board.page, chars, attrs, n), ..*board };
     let stepped = machine::state_at(board, chars, attrs, n);
-    (0, Some(worked_out).filter(|&at| at == stepped))
+    (Refusal::NONE, Some(worked_out).filter(|&at| at == stepped))
 }
 
-pub fn step(board: &mut Board, lent: &Lent) -> (u32, Shown) {
+pub fn step(board: &mut Board, lent: &Lent) -> (Refusal, Shown) {
     let mut faults = board_faults(board);
     faults.extend(lent_faults(lent));
     match judge::first(&faults) {
-        0 => (0, machine::step(board, lent)),
+        Refusal::NONE => (Refusal::NONE, machine::step(board, lent)),
         refusal => (refusal, Shown::default()),
     }
 }

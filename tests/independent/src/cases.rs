@@ -1,8 +1,9 @@
-//! 01 "Numbers on both sides": cases A1 to A10 and the listing, in both ways of this program; and a page for R-1, drawn
-//! by hand.
+//! 01 "Numbers on both sides": cases A1 to A10, A2 as R-2 has it, and the listing, in both ways of this program; and a page
+//! for R-1, drawn by hand.
 
 use crate::board::{Board, Font, Lent, Page};
 use crate::files::{self, numbers_of};
+use crate::judge::Refusal;
 use crate::listing::listing;
 use crate::{calls, machine, sheet};
 
@@ -106,7 +107,7 @@ fn frame_by_steps(page: &Page) -> u32 {
     }
 }
 
-fn check(page: &Page) -> u32 {
+fn check(page: &Page) -> Refusal {
     calls::page_check(&numbers_of(page))
 }
 
@@ -121,12 +122,24 @@ pub fn all() -> Vec<(&'static str, bool)> {
 }
 
 fn timing_cases() -> Vec<(&'static str, bool)> {
-    let timing = |hact, ec| (page(hact, ec).ht(), page(hact, ec).hfp(), check(&page(hact, ec)));
+    let timing = |hact, ec| {
+        let Refusal { number, beside } = check(&page(hact, ec));
+        (page(hact, ec).ht(), page(hact, ec).hfp(), (number, beside))
+    };
+    let no_back_porch = |hact, ec| {
+        let mut page = page(hact, ec);
+        page.irs[2] &= !7;
+        check(&page) == Refusal::plain(13)
+    };
     vec![
-        ("A1", timing(80, 35) == (102, 7, 0)),
-        ("A2", timing(80, 32) == (96, 1, 5)),
-        ("A3", timing(80, 33) == (98, 3, 0)),
-        ("A4", timing(81, 33) == (98, 2, 0)),
+        ("A1", timing(80, 35) == (102, 7, (0, 0))),
+        ("A2", timing(80, 32) == (96, 1, (15, 1))),
+        ("A3", timing(80, 33) == (98, 3, (0, 0))),
+        ("A4", timing(81, 33) == (98, 2, (0, 0))),
+        ("R-2 no front porch", timing(81, 32) == (96, 0, (15, 2))),
+        ("R-2 a clock short", timing(82, 32) == (96, -1, (14, 3))),
+        ("R-2 far too short", timing(256, 1) == (34, -237, (14, 239))),
+        ("R-2 no back porch", no_back_porch(80, 35) && no_back_porch(80, 32) && no_back_porch(256, 1)),
         ("A5", page(80, 35).vt() == 267 && page(80, 35).frame_clocks() == 27234),
         ("A5 by steps", frame_by_steps(&page(80, 35)) == 27234),
     ]

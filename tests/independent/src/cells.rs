@@ -4,8 +4,8 @@
 use std::collections::BTreeMap;
 use std::io::BufRead;
 
-/// "Lowest number first, except that 12 precedes 4": the table's columns.
-const NUMBERS: [u32; 12] = [0, 1, 2, 3, 12, 4, 5, 6, 7, 8, 9, 10];
+/// "Lowest number first, except that 12 precedes 4", and R-2's three in the place of 5: the table's columns.
+const NUMBERS: [u32; 14] = [0, 1, 2, 3, 12, 4, 13, 14, 15, 6, 7, 8, 9, 10];
 
 const NO_BOARD: &[&str] = &["-"];
 const INACTIVE: &[&str] = &["inactive-0", "inactive-1"];
@@ -15,7 +15,7 @@ const EVERY_POWER: &[&str] = &["inactive-0", "inactive-1", "active"];
 const NO_PAGE: &[&str] = &["-"];
 const BOTH: &[&str] = &["character", "field"];
 
-/// Which answers a call may give in a power state and a mode, and 01's words for it.
+/// Which answers a call may give in a power state and a mode, and 01's words for it, with R-2's numbers.
 struct Allowed {
     call: &'static str,
     powers: &'static [&'static str],
@@ -34,40 +34,40 @@ const fn allowed(
     Allowed { call, powers, modes, numbers, words }
 }
 
-const FILES: &str = "Files give 1, 2 (reading only), 3, 12, 4, 5, 6";
-const DRAWING: &str = "Drawing, stepping, states and runs give 3 to 8 and 12";
+const FILES: &str = "Files give 1, 2 (reading only), 3, 12, 4, 13, 14, 15, 6";
+const DRAWING: &str = "Drawing, stepping, states and runs give 3, 4, 6 to 8 and 12 to 15";
 const REGISTERS: &str = "Register calls give 12, 7 (for the pointer only), 9, 10";
 
 /// Every cell of the table that 01 allows. A page's numbers hold no place and no pointer, so that calls which
 /// take them have no 7 but for an asked line or row; 8 needs a buffer for dots. Numbers that are no page are 3.
 const ALLOWED: &[Allowed] = &[
     allowed("page_check", NO_BOARD, NO_PAGE, &[3], FILES),
-    allowed("page_check", NO_BOARD, BOTH, &[0, 12, 4, 5, 6], FILES),
+    allowed("page_check", NO_BOARD, BOTH, &[0, 12, 4, 13, 14, 15, 6], FILES),
     allowed("page_size", NO_BOARD, NO_PAGE, &[3], FILES),
-    allowed("page_size", NO_BOARD, BOTH, &[0, 12, 4, 5, 6], FILES),
+    allowed("page_size", NO_BOARD, BOTH, &[0, 12, 4, 13, 14, 15, 6], FILES),
     allowed("page_read", NO_BOARD, NO_PAGE, &[1, 2], FILES),
-    allowed("page_read", NO_BOARD, BOTH, &[0, 2, 3, 12, 4, 5, 6], FILES),
+    allowed("page_read", NO_BOARD, BOTH, &[0, 2, 3, 12, 4, 13, 14, 15, 6], FILES),
     allowed("page_write", NO_BOARD, NO_PAGE, &[3], FILES),
-    allowed("page_write", NO_BOARD, BOTH, &[0, 3, 12, 4, 5, 6], FILES),
+    allowed("page_write", NO_BOARD, BOTH, &[0, 3, 12, 4, 13, 14, 15, 6], FILES),
     allowed("font_read", NO_BOARD, NO_PAGE, &[0, 1, 2, 3], FILES),
     allowed("line_draw", NO_BOARD, NO_PAGE, &[3], DRAWING),
-    allowed("line_draw", NO_BOARD, BOTH, &[0, 3, 12, 4, 5, 6, 7, 8], DRAWING),
+    allowed("line_draw", NO_BOARD, BOTH, &[0, 3, 12, 4, 13, 14, 15, 6, 7, 8], DRAWING),
     allowed("picture_draw", NO_BOARD, NO_PAGE, &[3], DRAWING),
-    allowed("picture_draw", NO_BOARD, BOTH, &[0, 3, 12, 4, 5, 6, 8], DRAWING),
+    allowed("picture_draw", NO_BOARD, BOTH, &[0, 3, 12, 4, 13, 14, 15, 6, 8], DRAWING),
     allowed("row_run", NO_BOARD, NO_PAGE, &[3], DRAWING),
-    allowed("row_run", NO_BOARD, BOTH, &[0, 3, 12, 4, 5, 6, 7], DRAWING),
+    allowed("row_run", NO_BOARD, BOTH, &[0, 3, 12, 4, 13, 14, 15, 6, 7], DRAWING),
     allowed("row_cells", NO_BOARD, NO_PAGE, &[3], DRAWING),
-    allowed("row_cells", NO_BOARD, BOTH, &[0, 3, 12, 4, 5, 6, 7], DRAWING),
+    allowed("row_cells", NO_BOARD, BOTH, &[0, 3, 12, 4, 13, 14, 15, 6, 7], DRAWING),
     allowed("power", NO_BOARD, NO_PAGE, &[0], "Power gives zeros throughout"),
     allowed("board_of", NO_BOARD, NO_PAGE, &[3], FILES),
-    allowed("board_of", NO_BOARD, BOTH, &[0, 12, 4, 5, 6], FILES),
-    allowed("numbers_of", EVERY_POWER, BOTH, &[0, 3, 12, 4, 5, 6], FILES),
+    allowed("board_of", NO_BOARD, BOTH, &[0, 12, 4, 13, 14, 15, 6], FILES),
+    allowed("numbers_of", EVERY_POWER, BOTH, &[0, 3, 12, 4, 13, 14, 15, 6], FILES),
     allowed("set_video", EVERY_POWER, BOTH, &[0, 12, 6], "refusing 12, then 6"),
     allowed("write", INACTIVE, BOTH, &[0, 12, 7, 9], "after 9 an inactive board answers 0"),
     allowed("write", ACTIVE, BOTH, &[0, 12, 7, 9, 10], REGISTERS),
     allowed("read", EVERY_POWER, BOTH, &[0, 12, 7, 9], REGISTERS),
-    allowed("state_at", EVERY_POWER, BOTH, &[0, 3, 12, 4, 5, 6, 7], DRAWING),
-    allowed("step", EVERY_POWER, BOTH, &[0, 3, 12, 4, 5, 6, 7], DRAWING),
+    allowed("state_at", EVERY_POWER, BOTH, &[0, 3, 12, 4, 13, 14, 15, 6, 7], DRAWING),
+    allowed("step", EVERY_POWER, BOTH, &[0, 3, 12, 4, 13, 14, 15, 6, 7], DRAWING),
 ];
 
 /// How often a call gave a number in a power state and a mode.

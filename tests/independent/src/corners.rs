@@ -42,6 +42,7 @@ pub fn all() -> Vec<Maker> {
         named("page-files", |script, dice| page_files(script, dice, in_version_1)),
         named("page-files-in-field-mode", |script, dice| page_files(script, dice, |page| in_field_mode(page, false))),
         named("font-files", font_files),
+        named("porches", porches),
         named("nothing", nothing),
     ]);
     all.extend(latches::boards());
@@ -483,6 +484,28 @@ fn font_files(script: &mut Script, dice: &mut Dice) {
     script.say("call board_of");
     script.say("frame");
     lines(script, dice, &page);
+}
+
+/// front porches about 0, 1 and 2 and far from them, with every code of sync and back porch; some need a HACT that no
+/// register holds, and are left.
+fn porches(script: &mut Script, dice: &mut Dice) {
+    let mut page = some_page(dice);
+    page.irs[0] &= 0x7F;
+    script.say("fill numbers 32 1");
+    for codes in 0..=0x7F {
+        for ec in [1, 2, 31, 32, 33, 128] {
+            page.irs[1] = ec - 1;
+            page.irs[2] = codes;
+            page.irs[5] = 0;
+            let widest = page.hfp();
+            let hacts = (-3..=4).map(|hfp| widest + 1 - hfp).chain([1, 2, 80, 255, 256]);
+            for hact in hacts.filter(|hact| (1..=256).contains(hact)) {
+                page.irs[5] = (hact - 1) as u8;
+                script.say(format!("set numbers 0 {}", hex(&[&[page.version][..], &bytes_of(&page)].concat())));
+                script.say("call page_check");
+            }
+        }
+    }
 }
 
 /// NULL and 0 for everything that can be lent, with the largest numbers beside.

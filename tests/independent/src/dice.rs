@@ -74,7 +74,7 @@ pub fn page(dice: &mut Dice, shape: Shape) -> Page {
         }
         page.dots = shape.dots;
         page.strike = dice.between(0, shape.lines.min(15)) as u8;
-        if judge::first(&judge::page(&page)) == 0 {
+        if !judge::first(&judge::page(&page)).refused() {
             return page;
         }
     }

@@ -43,7 +43,7 @@ pub struct Case {
 /// Something wrong, or something that a call does not judge.
 pub type Fault = Box<dyn Fn(&mut Case)>;
 
-/// HFP 3, so that one less of EC makes it 1; 2 rows of 3 lines of 6 cells, 8 dots. Version 2 is in field mode.
+/// HFP 3; 2 rows of 3 lines of 6 cells, 8 dots. Version 2 is in field mode.
 fn base(call: &str, resets: u8, version: u8) -> Case {
     let switches = if version == 2 { 0x1B } else { 0x0B };
     let mut page = Page { version, switches, dots: 8, strike: 1, start1: 1020, ..Page::default() };
@@ -117,19 +117,39 @@ fn strike_faults() -> Vec<Fault> {
     vec![fault(|case| case.board.page.strike = 16), fault(|case| case.board.page.strike = 255)]
 }
 
-/// 4, 5 and 6.
+/// HACT (0 for 256), EC, the codes of HSYNC and HBP, and the front porch that they make: 2EC + 3HSYNC - HACT - HBP.
+const PORCHES: [(u8, u8, u8, u8, i32); 10] = [
+    // the longest one, and what is just enough
+    (1, 128, 15, 1, 348),
+    (5, 2, 0, 1, 2),
+    // 15: a clock short, and a line that just fits
+    (6, 2, 0, 1, 1),
+    (5, 1, 0, 1, 0),
+    (9, 15, 0, 7, 0),
+    // 14: the line itself a clock short, two, and as many as can be
+    (6, 1, 0, 1, -1),
+    (7, 1, 0, 1, -2),
+    (255, 1, 0, 1, -250),
+    (255, 1, 0, 7, -274),
+    (0, 1, 0, 7, -275),
+];
+
+/// 4, 13, 14, 15 and 6.
 fn timing_faults() -> Vec<Fault> {
-    vec![
-        fault(|case| case.board.page.irs[0] |= 0x80),
-        fault(|case| case.board.page.irs[1] |= 0x80),
-        fault(|case| case.board.page.irs[2] &= !7),
-        fault(|case| case.board.page.irs[1] = case.board.page.irs[1].saturating_sub(1)),
-        fault(|case| case.board.page.irs[5] = 255),
-        fault(|case| case.board.page.dots = 5),
-        fault(|case| case.board.page.dots = 13),
-        fault(|case| case.board.page.dots = 0),
-        fault(|case| case.board.page.dots = 255),
-    ]
+    let mut all = vec![fault(|case| case.board.page.irs[0] |= 0x80), fault(|case| case.board.page.irs[1] |= 0x80)];
+    all.extend(PORCHES.iter().map(|&porch| fault(move |case| set_porch(&mut case.board.page, porch))));
+    // after the porches, so that it stands beside each of them
+    all.push(fault(|case| case.board.page.irs[2] &= !7));
+    all.extend([5, 13, 0, 255].map(|dots| fault(move |case| case.board.page.dots = dots)));
+    all
+}
+
+/// What else these registers hold is kept.
+fn set_porch(page: &mut Page, (hact, ec, hsync, hbp, hfp): (u8, u8, u8, u8, i32)) {
+    page.irs[1] = page.irs[1] & 0x80 | (ec - 1);
+    page.irs[2] = page.irs[2] & 0x80 | hsync << 3 | hbp;
+    page.irs[5] = hact.wrapping_sub(1);
+    assert_eq!(page.hfp(), hfp);
 }
 
 fn page_faults() -> Vec<Fault> {
@@ -248,7 +268,7 @@ fn faults_of(call: &str) -> Vec<Fault> {
         }
         // it judges neither place nor pointer, nor what the numbers held before
         "numbers_of" => vec![numbers_faults(), page_faults(), pointer_faults(), place_faults()],
-        // what these three do not judge stands here too: the place, 4, 5, and for the first the pointer
+        // what these three do not judge stands here too: the place, 4, 13 to 15, and for the first the pointer
         "set_video" => {
             let judged = vec![version_faults(), address_faults(), video_faults()];
             judged.into_iter().chain([strike_faults(), timing_faults(), pointer_faults(), place_faults()]).collect()

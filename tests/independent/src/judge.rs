@@ -3,35 +3,59 @@
 
 use crate::board::{Board, Font, Page, FONT_FLAGS, FONT_LIST, FONT_WORDS, MEMORY};
 
-/// A refusal number and whether its reason holds.
-pub type Fault = (u32, bool);
+/// What a call answers: a refusal number, 0 where all was done, and the number beside it.
+#[derive(Clone, Copy, PartialEq, Eq, Debug, Default)]
+pub struct Refusal {
+    pub number: u32,
+    pub beside: u32,
+}
 
-/// "Lowest number first, except that 12 precedes 4"
-const ORDER: [u32; 11] = [1, 2, 3, 12, 4, 5, 6, 7, 8, 9, 10];
+impl Refusal {
+    pub const NONE: Refusal = Refusal::plain(0);
 
-pub fn first(faults: &[Fault]) -> u32 {
-    let holds = |number: u32| faults.contains(&(number, true));
-    ORDER.iter().copied().find(|&number| holds(number)).unwrap_or(0)
+    /// One that gives no number beside it.
+    pub const fn plain(number: u32) -> Refusal {
+        Refusal { number, beside: 0 }
+    }
+
+    pub fn refused(self) -> bool {
+        self.number != 0
+    }
+}
+
+/// A refusal and whether its reason holds.
+pub type Fault = (Refusal, bool);
+
+/// "Lowest number first, except that 12 precedes 4"; R-2: "5 goes; 13, 14 and 15 take its place in that order"
+const ORDER: [u32; 13] = [1, 2, 3, 12, 4, 13, 14, 15, 6, 7, 8, 9, 10];
+
+pub fn first(faults: &[Fault]) -> Refusal {
+    let holding = |number: u32| faults.iter().find(|(refusal, holds)| *holds && refusal.number == number);
+    ORDER.iter().find_map(|&number| holding(number)).map_or(Refusal::NONE, |&(refusal, _)| refusal)
+}
+
+pub fn fault(number: u32, holds: bool) -> Fault {
+    (Refusal::plain(number), holds)
 }
 
 /// "1: version byte missing or not 1; 2: length field or bytes present wrong"; R-1 for pages: "1 now means neither 1 nor 2"
 pub fn file(file: &[u8], versions: &[u8], length: u32) -> Vec<Fault> {
     let known = file.first().is_some_and(|version| versions.contains(version));
     let field = file.get(1..5).map(|b| u32::from_be_bytes([b[0], b[1], b[2], b[3]]));
-    vec![(1, !known), (2, field != Some(length) || file.len() != 5 + length as usize)]
+    vec![fault(1, !known), fault(2, field != Some(length) || file.len() != 5 + length as usize)]
 }
 
 /// "3: a lent memory or font part of wrong size"
 pub fn memory(lent: &[u8]) -> Fault {
-    (3, lent.len() != MEMORY)
+    fault(3, lent.len() != MEMORY)
 }
 
 pub fn font(font: &Font) -> Vec<Fault> {
     vec![
-        (3, font.words.len() != FONT_WORDS),
-        (3, font.flags.len() != FONT_FLAGS),
-        (3, font.unshifted.len() != FONT_LIST),
-        (3, font.shifted.len() != FONT_LIST),
+        fault(3, font.words.len() != FONT_WORDS),
+        fault(3, font.flags.len() != FONT_FLAGS),
+        fault(3, font.unshifted.len() != FONT_LIST),
+        fault(3, font.shifted.len() != FONT_LIST),
     ]
 }
 
@@ -40,44 +64,57 @@ pub fn font(font: &Font) -> Vec<Fault> {
 pub fn addresses(page: &Page) -> Vec<Fault> {
     let no_switches = if page.known_version() == 2 { 0xC0 } else { 0xF0 };
     vec![
-        (12, page.start1 > 16383),
-        (12, page.cursor > 16383),
-        (12, page.start2 > 16383),
-        (12, page.switches & no_switches != 0),
+        fault(12, page.start1 > 16383),
+        fault(12, page.cursor > 16383),
+        fault(12, page.start2 > 16383),
+        fault(12, page.switches & no_switches != 0),
     ]
 }
 
 pub fn strike(line: u8) -> Fault {
-    (12, line > 15)
+    fault(12, line > 15)
 }
 
 /// "6: dots not 6 to 12"
 pub fn dots(dots: u32) -> Fault {
-    (6, !(6..=12).contains(&dots))
+    fault(6, !(6..=12).contains(&dots))
 }
 
-/// What a page alone can be refused for: 12, 4, 5, 6.
+/// R-2: "a back porch code of 0; a line too short for its active, sync and back porch clocks; a front porch of 0 or 1. The
+/// second and third also give by how many clocks the front porch misses 2, exactly."
+fn porches(page: &Page) -> Vec<Fault> {
+    let taken = page.hact() as i32 + page.hsync() as i32 + page.hbp();
+    let line = page.ht() as i32;
+    let missing = |number: u32| Refusal { number, beside: (taken + 2 - line).max(0) as u32 };
+    vec![
+        fault(13, page.hbp_code() == 0),
+        (missing(14), line < taken),
+        (missing(15), line == taken || line == taken + 1),
+    ]
+}
+
+/// What a page alone can be refused for: 12, 4, 13, 14, 15, 6.
 pub fn page(page: &Page) -> Vec<Fault> {
     let mut faults = addresses(page);
     faults.push(strike(page.strike));
-    faults.push((4, page.doubled_rows() || page.interlace()));
-    faults.push((5, page.hbp_code() == 0 || page.hfp() < 2));
+    faults.push(fault(4, page.doubled_rows() || page.interlace()));
+    faults.extend(porches(page));
     faults.push(dots(page.dots));
     faults
 }
 
 /// "7: [..] IR pointer out of range": 003 allows 0 to 14.
 pub fn pointer(board: &Board) -> Fault {
-    (7, board.pointer > 14)
+    fault(7, board.pointer > 14)
 }
 
 /// "7: [..] a state's line, clock in the line, address, row start [..] out of range"
 pub fn place(board: &Board) -> Vec<Fault> {
     let (page, place) = (&board.page, &board.place);
     vec![
-        (7, place.line >= page.vt()),
-        (7, place.clock >= page.ht()),
-        (7, place.address > 16383),
-        (7, place.row_start > 16383),
+        fault(7, place.line >= page.vt()),
+        fault(7, place.clock >= page.ht()),
+        fault(7, place.address > 16383),
+        fault(7, place.row_start > 16383),
     ]
 }

@@ -2,6 +2,7 @@
 
 use crate::calls;
 use crate::files::{NUMBERS, PAGE_FILE};
+use crate::judge::Refusal;
 use crate::script::Buffers;
 
 /// "The listing program reads a page file (32,797 bytes), then a font file (the rest)"
@@ -53,10 +54,11 @@ fn drawn(page: &[u8], font: &[u8], field: u8) -> Result<Vec<Vec<u8>>, u32> {
     (0..lines).map(draw).collect()
 }
 
-fn accepted(refusal: u32) -> Result<(), u32> {
-    if refusal == 0 {
-        Ok(())
+/// The number alone: the number beside it is not printed.
+fn accepted(refusal: Refusal) -> Result<(), u32> {
+    if refusal.refused() {
+        Err(refusal.number)
     } else {
-        Err(refusal)
+        Ok(())
     }
 }

@@ -1,4 +1,4 @@
-//! A second reading of 01, of 02's R-1 and of the papers, for comparing with the library. It shares nothing with it. Start
+//! A second reading of 01, of 02's R-1 and R-2 and of the papers, for comparing with the library. It shares nothing with it. Start
 //! with `board`, then `machine` (the first way of drawing) and `sheet` (the second).
 
 mod answer;
@@ -28,7 +28,7 @@ use std::io::{self, BufReader, BufWriter, Read, Write};
 use std::process::exit;
 
 const USAGE: &str = "usage: independent COMMAND
-  self SEED PAGES            compares its own two ways, 01's cases and R-1's
+  self SEED PAGES            compares its own two ways, 01's cases, R-1's and R-2's
   make SEED COUNT [FIRST]    prints COUNT scripts, from number FIRST on; without FIRST the whole fixed list at least
   answer < SCRIPTS           prints its own answers
   cells COUNT OURS THEIRS    compares two streams of answers, prints the table of calls
@@ -92,7 +92,7 @@ fn compare_own(seed: u64, pages: u64) -> Result<(), String> {
         }
     }
     let compared = twoways::compare(seed, pages)?;
-    println!("{} cases of 01 and R-1 come out", cases::all().len());
+    println!("{} cases of 01, R-1 and R-2 come out", cases::all().len());
     let modes = format!("{} pages, {} of them in field mode", pages, compared.in_field_mode);
     println!("{}: {} clocks, {} lines, {} states agree", modes, compared.clocks, compared.lines, compared.states);
     Ok(())

@@ -1,7 +1,7 @@
 //! 01 "The board that is built": writes, reads and commands. Commands are read off 003's Table 6 as printed.
 
 use crate::board::{Board, Page, Place};
-use crate::judge;
+use crate::judge::{self, fault, Refusal};
 
 #[derive(Clone, Copy, PartialEq, Eq, Debug)]
 enum Command {
@@ -57,12 +57,12 @@ fn carried(byte: u8) -> bool {
 }
 
 /// "a call of its own sets dots, strike line, BKGND and RBLANK, refusing 12, then 6"
-pub fn set_video(board: &mut Board, dots: u8, strike: u8, bkgnd: bool, rblank: bool) -> u32 {
+pub fn set_video(board: &mut Board, dots: u8, strike: u8, bkgnd: bool, rblank: bool) -> Refusal {
     let mut faults = judge::addresses(&board.page);
     faults.push(judge::strike(strike));
     faults.push(judge::dots(u32::from(dots)));
     let refusal = judge::first(&faults);
-    if refusal == 0 {
+    if !refusal.refused() {
         board.page.dots = u32::from(dots);
         board.page.strike = strike;
         set_switch(&mut board.page, 2, bkgnd);
@@ -76,16 +76,16 @@ fn register_faults(board: &Board, address: u8) -> Vec<judge::Fault> {
     let mut faults = judge::addresses(&board.page);
     faults.push(judge::strike(board.page.strike));
     faults.push(judge::pointer(board));
-    faults.push((9, address > 7));
+    faults.push(fault(9, address > 7));
     faults
 }
 
-pub fn write(board: &mut Board, address: u8, byte: u8) -> u32 {
+pub fn write(board: &mut Board, address: u8, byte: u8) -> Refusal {
     let mut faults = register_faults(board, address);
     // "after 9 an inactive board answers 0"
-    faults.push((10, board.active() && address == 1 && !carried(byte)));
+    faults.push(fault(10, board.active() && address == 1 && !carried(byte)));
     let refusal = judge::first(&faults);
-    if refusal != 0 {
+    if refusal.refused() {
         return refusal;
     }
     if address == 1 && named(byte) == [Command::MasterReset] {
@@ -96,15 +96,15 @@ pub fn write(board: &mut Board, address: u8, byte: u8) -> u32 {
     } else {
         write_active(board, address, byte);
     }
-    0
+    Refusal::NONE
 }
 
 /// "Reads at 0 and 1 give 0"; the refusal and the byte.
-pub fn read(board: &Board, address: u8) -> (u32, u8) {
+pub fn read(board: &Board, address: u8) -> (Refusal, u8) {
     let refusal = judge::first(&register_faults(board, address));
     let page = &board.page;
     let byte = match address {
-        _ if refusal != 0 => 0,
+        _ if refusal.refused() => 0,
         2 => low(page.start1),
         3 => high(page.start1),
         4 => low(page.cursor),

@@ -2,7 +2,7 @@ use mathlib.Core.Path.{refl, sym, ap, _∙_}
 use native.Mathlib.Omega.{arith}
 use borrow.Author.Needs.{needs}
 use Rattle.lists.specs.Choice.{stop, pass}
-use Rattle.refusal.specs.Number.{numberOf}
+use Rattle.refusal.specs.Number.{numberOf, besideOf}
 use Rattle.timing.specs.Check.{sizeOf}
 use Rattle.timing.specs.declared.PageSize.{PageSize}
 use Rattle.numbers.specs.Laws.{numbers-all}
@@ -20,10 +20,15 @@ page-at-requires c κs = omega (arith, numbers-all (c .before .before .before .a
 returns-2 : tie.Need-returns-2
 unfolding sizeFor
 returns-2 c =
-    let left = c .before .before .before in
-    let size = c .before .page-size .ensures ∙ ap sizeOf (c .before .before .page-at .ensures) in
+    let left = c .before .before .before .before in
+    let size = c .before .before .page-size .ensures ∙ ap sizeOf (c .before .before .before .page-at .ensures) in
     pass _ (sym (left .before .numbers-refused .ensures) ∙ left .if1 .left)
-    (λ i. record { refusal = (c .number .ensures ∙ ap (λ (x : PageSize). numberOf (x .refusal)) size) i; beside = 0; lines = size i .lines .0; dots = size i .dots .0 })
+    (λ i. record {
+      refusal = (c .before .number .ensures ∙ ap (λ (x : PageSize). numberOf (x .refusal)) size) i;
+      beside = (c .beside .ensures ∙ ap (λ (x : PageSize). besideOf (x .refusal)) size) i;
+      lines = size i .lines .0;
+      dots = size i .dots .0;
+    })
 
 pub feldrime-page-size-spec : {M : Type 1} → statement M
 feldrime-page-size-spec =
@@ -32,6 +37,7 @@ feldrime-page-size-spec =
     (λ c κs. search needs)
     returns
     page-at-requires
+    (λ c κs. search needs)
     (λ c κs. search needs)
     (λ c κs. search needs)
     returns-2)

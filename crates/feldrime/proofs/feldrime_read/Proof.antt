@@ -1,14 +1,18 @@
 use mathlib.Core.Path.{ap, _∙_}
 use borrow.Author.Needs.{needs}
-use Rattle.refusal.specs.Number.{numberOf}
+use Rattle.refusal.specs.Number.{numberOf, besideOf}
 use Rattle.registers.specs.declared.ByteRead.{ByteRead}
 use Rattle.feldrime.proofs.feldrime_read.Statement.{statement}
 use Rattle.feldrime.proofs.feldrime_read.Tie as tie
 
 returns : tie.Need-returns
 returns c =
-    let read = c .before .before .read .ensures in
-    λ i. record { refusal = (c .before .number .ensures ∙ ap (λ (x : ByteRead). numberOf (x .refusal)) read) i; beside = 0; byte = read i .byte }
+    let read = c .before .before .before .read .ensures in
+    λ i. record {
+      refusal = (c .before .before .number .ensures ∙ ap (λ (x : ByteRead). numberOf (x .refusal)) read) i;
+      beside = (c .before .beside .ensures ∙ ap (λ (x : ByteRead). besideOf (x .refusal)) read) i;
+      byte = read i .byte;
+    }
 
 pub feldrime-read-spec : {M : Type 1} → statement M
-feldrime-read-spec = tie.close (tie.spec (λ c κs. search needs) (λ c κs. search needs) (λ c. search needs) returns)
+feldrime-read-spec = tie.close (tie.spec (λ c κs. search needs) (λ c κs. search needs) (λ c κs. search needs) (λ c. search needs) returns)

@@ -16,16 +16,16 @@ returns c = let t = sym (c .before .numbers-refused .ensures) ∙ c .if1 .taken 
 board-at-requires : tie.Need-board-at-requires
 board-at-requires c κs = omega (arith, numbers-all (c .before .before .before .before .before .args .numbers .now) (sym (c .before .numbers-refused .ensures) ∙ c .if1 .left))
 
-cast-t12 : tie.Need-cast-t12
-cast-t12 c =
-    let row = c .before .before .before .before in
+cast-t13 : tie.Need-cast-t13
+cast-t13 c =
+    let row = c .before .before .before .before .before in
     let small : row .row-cells .result .count ≤ 256 = rw (row .row-cells .ensures .0) (count-small _ _ _ _) in
     omega (arith, small)
 
 returns-2 : tie.Need-returns-2
 unfolding cellsFor cellsPutFor
 returns-2 c =
-    let row = c .before .before .before .before in
+    let row = c .before .before .before .before .before in
     let made = row .before .before in
     let left = made .before in
     let t = sym (left .before .numbers-refused .ensures) ∙ left .if1 .left in
@@ -40,6 +40,7 @@ feldrime-row-cells-spec =
     board-at-requires
     (λ c κs. search needs)
     (λ c κs. search needs)
-    cast-t12
+    (λ c κs. search needs)
+    cast-t13
     (λ c. search needs)
     returns-2)

@@ -2,7 +2,7 @@ use mathlib.Core.Path.{refl, sym, ap, _∙_}
 use native.Mathlib.Omega.{arith}
 use borrow.Author.Needs.{needs}
 use Rattle.lists.specs.Choice.{stop, pass}
-use Rattle.refusal.specs.Number.{numberOf}
+use Rattle.refusal.specs.Number.{numberOf, besideOf}
 use Rattle.board.specs.declared.Board.{Board}
 use Rattle.fetch.specs.Run.{spanOf}
 use Rattle.fetch.specs.declared.Span.{Span}
@@ -21,11 +21,16 @@ board-at-requires c κs = omega (arith, numbers-all (c .before .before .before .
 returns-2 : tie.Need-returns-2
 unfolding runFor
 returns-2 c =
-    let left = c .before .before .before .before .before in
+    let left = c .before .before .before .before .before .before in
     let args = left .before .before .before .before .args in
-    let span = c .before .before .before .span-of .ensures .0 ∙ ap (λ (b : Board). spanOf b (args .chars .now) (args .row)) (c .before .before .before .before .board-at .ensures) in
+    let span = c .before .before .before .before .span-of .ensures .0 ∙ ap (λ (b : Board). spanOf b (args .chars .now) (args .row)) (c .before .before .before .before .before .board-at .ensures) in
     pass _ (sym (left .before .numbers-refused .ensures) ∙ left .if1 .left)
-    (λ i. record { refusal = (c .before .before .number .ensures ∙ ap (λ (x : Span). numberOf (x .refusal)) span) i; beside = 0; first = span i .start; count = span i .count })
+    (λ i. record {
+      refusal = (c .before .before .before .number .ensures ∙ ap (λ (x : Span). numberOf (x .refusal)) span) i;
+      beside = (c .before .before .beside .ensures ∙ ap (λ (x : Span). besideOf (x .refusal)) span) i;
+      first = span i .start;
+      count = span i .count;
+    })
 
 pub feldrime-row-run-spec : {M : Type 1} → statement M
 feldrime-row-run-spec =
@@ -34,6 +39,7 @@ feldrime-row-run-spec =
     (λ c κs. search needs)
     returns
     board-at-requires
+    (λ c κs. search needs)
     (λ c κs. search needs)
     (λ c κs. search needs)
     (λ c. search needs)

@@ -1,36 +1,9 @@
-use native.Mathlib.Omega.{arith}
 use borrow.Author.Needs.{needs}
 use Rattle.timing.proofs.hfp_of.Statement.{statement}
 use Rattle.timing.proofs.hfp_of.Tie as tie
 
-plus-requires : tie.Need-plus-requires
-plus-requires c κs = rw (c .hsync-of .ensures, c .before .hact-of .ensures) (omega arith)
-
-plus-requires-2 : tie.Need-plus-requires-2
-plus-requires-2 c κs =
-    rw (c .hbp-of .ensures, c .before .plus .ensures, c .before .before .hsync-of .ensures, c .before .before .before .hact-of .ensures) (omega arith)
-
 returns : tie.Need-returns
-returns c =
-    rw (
-      c .minus .ensures,
-      c .before .ht-of .ensures,
-      c .before .before .plus2 .ensures,
-      c .before .before .before .hbp-of .ensures,
-      c .before .before .before .before .plus .ensures,
-      c .before .before .before .before .before .hsync-of .ensures,
-      c .before .before .before .before .before .before .hact-of .ensures,
-    )
+returns c = rw (c .minus .ensures, c .before .rest-of .ensures, c .before .before .ht-of .ensures)
 
 pub hfp-of-spec : {M : Type 1} → statement M
-hfp-of-spec =
-    tie.close
-    (tie.spec
-    (λ c κs. search needs)
-    (λ c κs. search needs)
-    plus-requires
-    (λ c κs. search needs)
-    plus-requires-2
-    (λ c κs. search needs)
-    (λ c κs. search needs)
-    returns)
+hfp-of-spec = tie.close (tie.spec (λ c κs. search needs) (λ c κs. search needs) (λ c κs. search needs) returns)

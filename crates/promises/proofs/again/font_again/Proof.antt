@@ -11,11 +11,11 @@ returns c =
 
 returns-2 : tie.Need-returns-2
 returns-2 c =
-    let written = c .before .before .before in
+    let written = c .before .before .before .before in
     let left = written .before .before .before .before .before .before in
     let read = left .before .before .before .before .before .before in
     let known = read .before .before .before .before .before .before in
-    font-wrote _ (λ i. known .shared-slice-known .given i .fits) _ (read .feldrime-font-read .ensures) (left .if1 .left) (written .write-font .ensures) (c .number .ensures)
+    font-wrote _ (λ i. known .shared-slice-known .given i .fits) _ (read .feldrime-font-read .ensures) (left .if1 .left) (written .write-font .ensures) (c .before .number .ensures) (c .beside .ensures)
 
 pub font-again-spec : {M : Type 1} → statement M
 font-again-spec =
@@ -31,6 +31,7 @@ font-again-spec =
     (λ c. search needs)
     (λ c. search needs)
     (λ c. search needs)
+    (λ c κs. search needs)
     (λ c κs. search needs)
     (λ c κs. search needs)
     (λ c. search needs)

@@ -1,0 +1,117 @@
+-- 02, R-2: which porch. Which pages are accepted is as it was when one number, 5, stood for all three faults; each of the three is told exactly where its fact
+-- holds and none before it does; and the number beside is what the front porch misses. Assumes nothing.
+use Prim.Native.Nat.{ℕ, _+_, _-_, _%_, _≤_}
+use mathlib.Core.Path.{_≡_, refl, sym, ap, _∙_}
+use mathlib.Core.Bool.{Bool, true, false, not, _&&_, _||_}
+use mathlib.Core.List.{List, [], _∷_}
+use native.Mathlib.Omega.{arith}
+use borrow.Author.Tests.{not-true, lt-ltb, ltb-true, ltb-false}
+use lib.Dec.{eqb, ltb}
+use Rattle.lists.specs.Choice.{pick, firstOf, both}
+use Rattle.units.specs.declared.Clocks.{Clocks}
+use Rattle.refusal.specs.declared.Refusal.{Refusal}
+use Rattle.refusal.specs.declared.Refusal.the-variants.{Done, Version, Length, Size, Reserved, BackPorch, LineShort, FrontPorch, Width, Range, Room, Register, Command, Address}
+use Rattle.refusal.specs.Number.{numberOf, besideOf, doneOf}
+use Rattle.board.specs.declared.Page.{Page}
+use Rattle.board.specs.Range.{addressRefused}
+use Rattle.timing.specs.Fields.{ir, restOf, hfpOf, htOf}
+use Rattle.timing.specs.Check.{reservedRefused, backPorchRefused, lineShort, frontPorchRefused, missing, widthRefused, pageCheck}
+
+-- 5, as it was: HBP code 0, or HFP below 2
+abbrev pub porchThen : List ℕ → Bool
+porchThen irs = eqb (ir irs 2 % 8) 0 || ltb (hfpOf irs) 2
+
+-- whether such a page was accepted
+abbrev pub acceptedThen : Page → Bool
+acceptedThen p = pick (addressRefused p) false (pick (reservedRefused (p .irs)) false (pick (porchThen (p .irs)) false (pick (widthRefused (p .video .dots)) false true)))
+
+-- the page check by its six facts
+abbrev order : (a r b l f w : Bool) → Clocks → Refusal
+order a r b l f w n = firstOf ((a, Address) ∷ (r, Reserved) ∷ (b, BackPorch) ∷ (l, LineShort n) ∷ (f, FrontPorch n) ∷ (w, Width) ∷ []) Done
+
+module _ (p : Page) where
+  abbrev irs : List ℕ
+  irs = p .irs
+
+  by-facts : pageCheck p ≡ order (addressRefused p) (reservedRefused irs) (backPorchRefused irs) (lineShort irs) (frontPorchRefused irs) (widthRefused (p .video .dots)) (missing irs)
+  unfolding pageCheck
+  by-facts = refl
+
+  -- a line that is too short has no front porch
+  short-porch : lineShort irs ≡ true → frontPorchRefused irs ≡ true
+  short-porch e = lt-ltb (hfpOf irs) 2 (omega (arith, ltb-true (htOf irs) (restOf irs) e))
+
+  pub accepted-as-before : doneOf (pageCheck p) ≡ acceptedThen p
+  accepted-as-before =
+      ap doneOf by-facts ∙ go (addressRefused p) (reservedRefused irs) (backPorchRefused irs) (lineShort irs) (frontPorchRefused irs) (widthRefused (p .video .dots)) short-porch
+    where
+      go : (a r b l f w : Bool) → (l ≡ true → f ≡ true)
+          → doneOf (order a r b l f w (missing irs)) ≡ pick a false (pick r false (pick (b || f) false (pick w false true)))
+      go true r b l f w s = refl
+      go false true b l f w s = refl
+      go false false true l f w s = refl
+      go false false false true f w s = rw (s refl)
+      go false false false false true w s = refl
+      go false false false false false true s = refl
+      go false false false false false false s = refl
+
+  abbrev number : ℕ
+  number = numberOf (pageCheck p)
+
+  -- neither 12 nor 4, which come before a porch
+  abbrev pub clear : Bool
+  clear = not (addressRefused p) && not (reservedRefused irs)
+
+  -- nor 13
+  abbrev pub reached : Bool
+  reached = clear && not (backPorchRefused irs)
+
+  -- each exactly where its fact holds and none before it does, and what stands beside it
+  pub told : (eqb number 13 ≡ clear && backPorchRefused irs)
+      × (eqb number 14 ≡ reached && lineShort irs)
+      × (eqb number 15 ≡ reached && not (lineShort irs) && frontPorchRefused irs)
+      × (besideOf (pageCheck p) ≡ pick (eqb number 14 || eqb number 15) (restOf irs + 2 - htOf irs) 0)
+  unfolding pageCheck
+  told = go (addressRefused p) (reservedRefused irs) (backPorchRefused irs) (lineShort irs) (frontPorchRefused irs) (widthRefused (p .video .dots))
+    where
+      go : (a r b l f w : Bool) → (eqb (numberOf (order a r b l f w (missing irs))) 13 ≡ not a && not r && b)
+          × (eqb (numberOf (order a r b l f w (missing irs))) 14 ≡ not a && not r && not b && l)
+          × (eqb (numberOf (order a r b l f w (missing irs))) 15 ≡ not a && not r && not b && not l && f)
+          × (besideOf (order a r b l f w (missing irs))
+          ≡ pick (eqb (numberOf (order a r b l f w (missing irs))) 14 || eqb (numberOf (order a r b l f w (missing irs))) 15) (restOf irs + 2 - htOf irs) 0)
+      go true r b l f w = (refl, refl, refl, refl)
+      go false true b l f w = (refl, refl, refl, refl)
+      go false false true l f w = (refl, refl, refl, refl)
+      go false false false true f w = (refl, refl, refl, refl)
+      go false false false false true w = (refl, refl, refl, refl)
+      go false false false false false true = (refl, refl, refl, refl)
+      go false false false false false false = (refl, refl, refl, refl)
+
+  pub missed-14 : number ≡ 14 → 3 ≤ besideOf (pageCheck p)
+  missed-14 e =
+      let short = both reached (lineShort irs) (sym (told .1) ∙ rw e) .1 in
+      rw (told .3, e) (omega (arith, ltb-true (htOf irs) (restOf irs) short))
+
+  pub missed-15 : number ≡ 15 → (1 ≤ besideOf (pageCheck p)) × (besideOf (pageCheck p) ≤ 2)
+  missed-15 e =
+      let f = both (reached && not (lineShort irs)) (frontPorchRefused irs) (sym (told .2) ∙ rw e) in
+      let long = ltb-false (htOf irs) (restOf irs) (not-true _ (both reached (not (lineShort irs)) (f .0) .1)) in
+      let low = ltb-true (hfpOf irs) 2 (f .1) in
+      rw (told .3, e) (omega (arith, long, low), omega (arith, long, low))
+
+-- no other refusal has a number beside it
+pub beside-none : (r : Refusal) → (numberOf r ≡ 14 → ⊥) → (numberOf r ≡ 15 → ⊥) → besideOf r ≡ 0
+beside-none Done s f = refl
+beside-none Version s f = refl
+beside-none Length s f = refl
+beside-none Size s f = refl
+beside-none Reserved s f = refl
+beside-none BackPorch s f = refl
+beside-none Width s f = refl
+beside-none Range s f = refl
+beside-none Room s f = refl
+beside-none Register s f = refl
+beside-none Command s f = refl
+beside-none Address s f = refl
+beside-none (LineShort n) s f = absurd (s refl)
+beside-none (FrontPorch n) s f = absurd (f refl)

@@ -1,9 +1,0 @@
-use borrow.Author.Needs.{needs}
-use Rattle.timing.proofs.porch_refused.Statement.{statement}
-use Rattle.timing.proofs.porch_refused.Tie as tie
-
-returns : tie.Need-returns
-returns c = rw (c .below .ensures, c .before .hfp-of .ensures)
-
-pub porch-refused-spec : {M : Type 1} → statement M
-porch-refused-spec = tie.close (tie.spec (λ c. search needs) (λ c κs. search needs) (λ c κs. search needs) returns)
