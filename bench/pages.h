@@ -21,7 +21,7 @@ struct page {
 /* Pages that are measured together, so many times. */
 struct set {
     const char *name;
-    struct page pages[8];
+    struct page pages[16];
     size_t count;
     unsigned times;
 };

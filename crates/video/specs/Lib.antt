@@ -1,5 +1,6 @@
 -- Levels, the look of a cell, and its dots.
 pub mod Levels
+pub mod Table
 pub mod Scene
 pub mod Look
 pub mod Cell

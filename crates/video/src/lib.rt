@@ -3,7 +3,9 @@ ghost use mathlib.Core.Path.{_≡_};
 ghost use mathlib.Core.Bool.{xor};
 ghost use Prim.Native.Nat.{_≤_, _<_};
 ghost use Rattle.lists.specs.Choice.{hasBit};
-ghost use Rattle.video.specs.Levels.{blankLevel, symbolLevel, surroundLevel};
+ghost use Rattle.lists.specs.Choice.{pick};
+ghost use Rattle.video.specs.Levels.{blankLevel};
+ghost use Rattle.video.specs.Table.{line, ofTwo, ofEight, decided};
 ghost use Rattle.video.specs.Scene.{blinkAt, cursorGate, sceneOf, cursorAt};
 ghost use Rattle.video.specs.Look.{lookOf};
 ghost use Rattle.shape.specs.Font.{lentFont};
@@ -36,6 +38,28 @@ pub struct Look {
     pub surround: u8,
 }
 
+// The inputs of 000's Table 1.
+struct Case {
+    blank: bool,
+    rblank: bool,
+    bkgnd: bool,
+    reverse: bool,
+    ahilt: bool,
+    nondisplay: bool,
+}
+
+// A line of it: what it asks of each input, and what it gives, the level of the symbol, underline and strike-through too, and that of its surround.
+struct TableLine {
+    blank: u8,
+    rblank: u8,
+    bkgnd: u8,
+    reverse: u8,
+    ahilt: u8,
+    nondisplay: u8,
+    symbol: u8,
+    surround: u8,
+}
+
 // The bit of a weight, of the switches or of the attributes.
 fn has(byte: u8, weight: u8) -> bool
     requires { ⌜ 0 < weight ⌝ }
@@ -61,14 +85,121 @@ fn cursor_gate(k: timing::CursorLook, on: bool, scan: units::Lines, field: u8) -
     on & k.first.at_most(scan) & scan.at_most(k.last) & (!k.blinks | half)
 }
 
+// Black, gray, white.
+const B: u8 = 0;
+
+const G: u8 = 1;
+
+const W: u8 = 2;
+
+// Don't care.
+const D: u8 = 2;
+
+fn line(
+    blank: u8,
+    rblank: u8,
+    bkgnd: u8,
+    reverse: u8,
+    ahilt: u8,
+    nondisplay: u8,
+    symbol: u8,
+    surround: u8,
+) -> TableLine
+    ensures { λ r. ⌜ r ≡ line blank rblank bkgnd reverse ahilt nondisplay symbol surround ⌝ }
+{
+    TableLine {
+        blank: blank,
+        rblank: rblank,
+        bkgnd: bkgnd,
+        reverse: reverse,
+        ahilt: ahilt,
+        nondisplay: nondisplay,
+        symbol: symbol,
+        surround: surround,
+    }
+}
+
+fn bit(t: bool) -> u8
+    ensures { λ r. ⌜ r ≡ pick t 1 0 ⌝ }
+{
+    if t { 1 } else { 0 }
+}
+
+// Of two sides whose lines differ in a column, the one whose mark there, the first side's, is met by the input.
+fn of_two(mark: u8, t: bool, a: TableLine, b: TableLine) -> TableLine
+    ensures { λ r. ⌜ r ≡ ofTwo mark t a b ⌝ }
+{
+    if (mark == D) | (mark == bit(t)) { a } else { b }
+}
+
+// Of eight lines that count upward in REVERSE, AHILT and NON-DISPLAY.
+fn of_eight(
+    k: Case,
+    l1: TableLine,
+    l2: TableLine,
+    l3: TableLine,
+    l4: TableLine,
+    l5: TableLine,
+    l6: TableLine,
+    l7: TableLine,
+    l8: TableLine,
+) -> TableLine
+    ensures { λ r. ⌜ r ≡ ofEight k l1 l2 l3 l4 l5 l6 l7 l8 ⌝ }
+{
+    let a = of_two(l1.nondisplay, k.nondisplay, l1, l2);
+    let b = of_two(l3.nondisplay, k.nondisplay, l3, l4);
+    let c = of_two(l5.nondisplay, k.nondisplay, l5, l6);
+    let d = of_two(l7.nondisplay, k.nondisplay, l7, l8);
+    let e = of_two(l1.ahilt, k.ahilt, a, b);
+    let f = of_two(l5.ahilt, k.ahilt, c, d);
+    of_two(l1.reverse, k.reverse, e, f)
+}
+
+// 000 Table 1, "Attributes Hierarchy", and the line of it that a case stands in.
+fn table_1(k: Case) -> TableLine
+    ensures { λ r. ⌜ r ≡ decided k ⌝ }
+{
+    // BLANK, RBLANK, BKGND, REVERSE, AHILT, NON-DISPLAY, SYMBOL, SURROUND
+    let l1 = line(0, D, 0, 0, 0, 0, G, B);
+    let l2 = line(0, D, 0, 0, 0, 1, B, B);
+    let l3 = line(0, D, 0, 0, 1, 0, W, B);
+    let l4 = line(0, D, 0, 0, 1, 1, B, B);
+    let l5 = line(0, D, 0, 1, 0, 0, B, G);
+    let l6 = line(0, D, 0, 1, 0, 1, G, G);
+    let l7 = line(0, D, 0, 1, 1, 0, B, W);
+    let l8 = line(0, D, 0, 1, 1, 1, W, W);
+    let l9 = line(0, D, 1, 0, 0, 0, B, G);
+    let l10 = line(0, D, 1, 0, 0, 1, G, G);
+    let l11 = line(0, D, 1, 0, 1, 0, B, W);
+    let l12 = line(0, D, 1, 0, 1, 1, W, W);
+    let l13 = line(0, D, 1, 1, 0, 0, G, B);
+    let l14 = line(0, D, 1, 1, 0, 1, B, B);
+    let l15 = line(0, D, 1, 1, 1, 0, W, B);
+    let l16 = line(0, D, 1, 1, 1, 1, B, B);
+    let l17 = line(1, 0, 0, D, D, D, B, B);
+    let l18 = line(1, 0, 1, D, D, D, G, G);
+    let l19 = line(1, 1, D, D, D, D, B, B);
+    let dark = of_eight(k, l1, l2, l3, l4, l5, l6, l7, l8);
+    let light = of_eight(k, l9, l10, l11, l12, l13, l14, l15, l16);
+    let shown = of_two(l1.bkgnd, k.bkgnd, dark, light);
+    let border = of_two(l17.bkgnd, k.bkgnd, l17, l18);
+    let blanked = of_two(l17.rblank, k.rblank, border, l19);
+    of_two(l1.blank, k.blank, shown, blanked)
+}
+
 // The level while BLANK is high.
 fn blank_level(rblank: bool, bkgnd: bool) -> u8
     ensures { λ r. ⌜ r ≡ blankLevel rblank bkgnd ⌝ }
 {
-    if rblank {
-        return 0;
-    }
-    if bkgnd { 1 } else { 0 }
+    let found = table_1(Case {
+        blank: true,
+        rblank: rblank,
+        bkgnd: bkgnd,
+        reverse: false,
+        ahilt: false,
+        nondisplay: false,
+    });
+    found.symbol
 }
 
 pub fn scene_of(b: board::Board, scan: units::Lines, field: u8) -> Scene
@@ -120,22 +251,6 @@ fn exclusive(a: bool, b: bool) -> bool
     a ^ b
 }
 
-// T: white if highlighted, else gray; the surround is black, or T where E holds.
-fn surround_level(e: bool, highlight: bool) -> u8
-    ensures { λ r. ⌜ r ≡ surroundLevel e highlight ⌝ }
-{
-    if e { if highlight { 2 } else { 1 } } else { 0 }
-}
-
-fn symbol_level(e: bool, highlight: bool, hidden: bool) -> u8
-    ensures { λ r. ⌜ r ≡ symbolLevel e highlight hidden ⌝ }
-{
-    if hidden {
-        return surround_level(e, highlight);
-    }
-    surround_level(!e, highlight)
-}
-
 // The look of a cell from the attributes that are valid at it, and CURSOR.
 pub fn look_of(s: Scene, attributes: u8, cursor: bool) -> Look
     ensures { λ r. ⌜ r ≡ lookOf s attributes cursor ⌝ }
@@ -149,11 +264,19 @@ pub fn look_of(s: Scene, attributes: u8, cursor: bool) -> Look
     }
     let highlight = has(attributes, 16);
     let hidden = has(attributes, 2) | (has(attributes, 4) & s.blink);
-    let e = exclusive(s.bkgnd, exclusive(has(attributes, 1), cursor));
+    let reverse = exclusive(has(attributes, 1), cursor);
+    let found = table_1(Case {
+        blank: false,
+        rblank: false,
+        bkgnd: s.bkgnd,
+        reverse: reverse,
+        ahilt: highlight,
+        nondisplay: hidden,
+    });
     Look {
         lit: (has(attributes, 8) & s.underline) | (has(attributes, 32) & s.strike),
-        symbol: symbol_level(e, highlight, hidden),
-        surround: surround_level(e, highlight),
+        symbol: found.symbol,
+        surround: found.surround,
     }
 }
 
