@@ -2,8 +2,7 @@
 ghost use mathlib.Core.Path.{_≡_};
 ghost use mathlib.Core.Bool.{xor};
 ghost use Prim.Native.Nat.{_≤_, _<_};
-ghost use Rattle.lists.specs.Choice.{hasBit};
-ghost use Rattle.lists.specs.Choice.{pick};
+ghost use Rattle.lists.specs.Choice.{pick, hasBit};
 ghost use Rattle.video.specs.Levels.{blankLevel};
 ghost use Rattle.video.specs.Table.{line, ofTwo, ofEight, decided};
 ghost use Rattle.video.specs.Scene.{blinkAt, cursorGate, sceneOf, cursorAt};

@@ -5,10 +5,9 @@ use borrow.Author.Tests.{not-true, not-false}
 use borrow.Author.Needs.{needs}
 use Rattle.lists.specs.Choice.{hasBit}
 use Rattle.video.specs.declared.Scene.{Scene}
-use Rattle.video.specs.declared.Look.{Look}
 use Rattle.video.specs.declared.TableLine.{TableLine}
 use Rattle.video.specs.Table.{caseOf, decided, by-rule}
-use Rattle.video.specs.Look.{nonDisplay, litOf, lookWith, shownLook, blankLook, lookOf}
+use Rattle.video.specs.Look.{nonDisplay, litOf, lookWith, blankLook, lookOf}
 use Rattle.video.proofs.look_of.Statement.{statement}
 use Rattle.video.proofs.look_of.Tie as tie
 
