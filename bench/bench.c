@@ -21,6 +21,8 @@ static uint8_t picture[2048 * FELDRIME_LINE];
 static struct set sheets[WIDTHS], rows[WIDTHS], cell, off, samples;
 static struct set latched[4]; /* of version 2: field mode with ACD off and on and with display off, character mode with ACD on */
 static struct set running[3], standing[3]; /* the same pages in field mode and in character mode */
+static struct set wide[WIDTHS], headline;  /* the sheets with rows of double width, and with headlines of double height */
+static struct set mixed[2];                /* rows of every code and an odd number of columns, in both modes */
 
 /* ---- what is timed ---- */
 
@@ -170,18 +172,30 @@ static void print_modes(const struct set *field, const struct set *character)
            ratio(run_zero_state, field, run_zero_state, character), ratio(run_far_state, field, run_far_state, character));
 }
 
+/* Rows of double width beside plain ones: half as many cells, and as many dots. */
+static void print_wide(const struct set *doubled, const struct set *plain)
+{
+    printf("picture %s: wide/plain %.2f\n", doubled->name, ratio(run_library_picture, doubled, run_library_picture, plain));
+    printf("line %s: wide/plain %.2f\n", doubled->name, ratio(run_library_lines, doubled, run_library_lines, plain));
+}
+
 static void print_all(const struct set *eight)
 {
     for (size_t w = 0; w < WIDTHS; w++)
         print_drawing(&sheets[w]);
     print_drawing(&latched[0]);
+    print_drawing(&wide[8 - LEAST]);
+    print_drawing(&headline);
     print_drawing(&samples);
+    for (size_t w = 0; w < WIDTHS; w++)
+        print_wide(&wide[w], &sheets[w]);
     for (size_t w = 0; w < WIDTHS; w++)
         print_few("one row", &rows[w]);
     print_few("one cell", &cell);
     print_off(eight);
     printf("step: library/plain %.2f\n", ratio(run_library_step, eight, run_plain_step, eight));
     printf("step, field mode: library/plain %.2f\n", ratio(run_library_step, &latched[0], run_plain_step, &latched[0]));
+    printf("step, wide rows: library/plain %.2f\n", ratio(run_library_step, &wide[8 - LEAST], run_plain_step, &wide[8 - LEAST]));
     printf("state: n = 2^32 - 1 / n = 0 %.2f\n", ratio(run_far_state, eight, run_zero_state, eight));
     for (size_t i = 0; i < COUNT(running); i++)
         print_modes(&running[i], &standing[i]);
@@ -203,6 +217,25 @@ static void make_running(void)
     }
 }
 
+static void make_coded(void)
+{
+    static const char *const names[] = {
+        "6 dots, wide rows", "7 dots, wide rows", "8 dots, wide rows", "9 dots, wide rows", "10 dots, wide rows", "11 dots, wide rows",
+        "12 dots, wide rows",
+    };
+    static const uint8_t all_wide[] = { WIDE_ROW };
+    static const uint8_t top_and_bottom[] = { TOP_ROW, BOTTOM_ROW, PLAIN_ROW, PLAIN_ROW, PLAIN_ROW, PLAIN_ROW };
+    static const uint8_t every[] = { WIDE_ROW, TOP_ROW, BOTTOM_ROW, PLAIN_ROW, BOTTOM_ROW };
+
+    for (unsigned w = 0; w < WIDTHS; w++)
+        coded(&wide[w], &sheets[w], names[w], all_wide, COUNT(all_wide));
+    coded(&headline, &sheets[8 - LEAST], "8 dots, headlines", top_and_bottom, COUNT(top_and_bottom));
+    make_sheets(&mixed[0], "every row code", ROWS, COLUMNS - 1, 11, ON);
+    make_sheets(&mixed[1], "every row code in field mode", ROWS, COLUMNS - 1, 7, ON | FIELD_MODE);
+    for (size_t i = 0; i < COUNT(mixed); i++)
+        coded(&mixed[i], &mixed[i], mixed[i].name, every, COUNT(every));
+}
+
 static void make_all(void)
 {
     static const char *const names[] = { "6 dots", "7 dots", "8 dots", "9 dots", "10 dots", "11 dots", "12 dots" };
@@ -220,12 +253,13 @@ static void make_all(void)
     make_sheets(&latched[2], "field mode with display off", ROWS, COLUMNS, 8, OFF | FIELD_MODE);
     make_sheets(&latched[3], "version 2 in character mode", ROWS, COLUMNS, 8, ON | ACD);
     make_running();
+    make_coded();
 }
 
 static int all_same(const struct set *eight)
 {
     for (size_t w = 0; w < WIDTHS; w++)
-        if (!same_pictures(&sheets[w]) || !same_pictures(&rows[w]))
+        if (!same_pictures(&sheets[w]) || !same_pictures(&rows[w]) || !same_pictures(&wide[w]))
             return 0;
     for (size_t i = 0; i < COUNT(latched); i++)
         if (!same_pictures(&latched[i]) || !same_steps(&latched[i]))
@@ -233,8 +267,11 @@ static int all_same(const struct set *eight)
     for (size_t i = 0; i < COUNT(running); i++)
         if (!same_pictures(&running[i]) || !same_pictures(&standing[i]))
             return 0;
-    return same_pictures(&cell) && same_pictures(&off) && same_pictures(&samples)
-        && same_steps(eight) && states_answer(eight);
+    for (size_t i = 0; i < COUNT(mixed); i++)
+        if (!same_pictures(&mixed[i]) || !same_steps(&mixed[i]))
+            return 0;
+    return same_pictures(&cell) && same_pictures(&off) && same_pictures(&headline) && same_pictures(&samples)
+        && same_steps(eight) && same_steps(&wide[8 - LEAST]) && states_answer(eight);
 }
 
 int main(int count, char *arguments[])

@@ -6,6 +6,7 @@
  *   cell to the right, so that only a row's last cell needs care.
  * - No branch goes by what a cell holds. Lines that can be lit, and the cursor, are drawn over.
  * - Field mode goes over a row's cells once more before they are drawn, and character mode skips that.
+ * - A row of double width doubles its shapes' bytes as it draws them, and has loops of its own.
  *
  * Bytes of a number stand in memory lowest first, as on x86-64 and on Arm. */
 #include <string.h>
@@ -17,24 +18,31 @@
 #define MOST_CELLS 256u
 #define NO_CHARACTER CHARACTERS /* the glyph of a code that shows none */
 #define LOOKS 32u               /* reverse, blank, blink, underline and highlight are the low five bits */
+#define MOST_LIT 4u             /* lines of a row that an attribute can light: two, or in a half two twice */
 #define EVERY_BYTE 0x0101010101010101u
 
 /* Two numbers of eight dots, a byte each. */
 typedef uint64_t pair __attribute__((vector_size(16)));
+typedef uint8_t bytes __attribute__((vector_size(16)));
 
 /* A cell's levels: the surround's in every byte, and what makes the symbol's of it. */
 struct look {
     uint64_t surround, change;
 };
 
+/* The scan line of each line of a row, and the lines that an attribute can light. */
+struct scans {
+    uint8_t scan[MOST_LINES], lit[MOST_LIT], lit_count;
+};
+
 struct plan {
-    const uint8_t *chars, *attrs;
+    const uint8_t *ir, *chars, *attrs;
     unsigned hact, lines, rows, dots, width; /* width is of a line, in dots */
     unsigned first, last, start1, start2, table;
     unsigned field_mode, bare; /* bare: a cell with AFLG shows no character */
-    unsigned cursor, cursor_from, cursor_to; /* the cursor's address; its lines are from .. to - 1, or none */
-    unsigned lit[2], lit_count;              /* the lines that an attribute can light */
-    uint8_t lights[MOST_LINES];              /* by which attributes */
+    unsigned cursor, cursor_from, cursor_to; /* the cursor's address; its scan lines are from .. to - 1, or none */
+    uint8_t lights[MOST_LINES];              /* the attributes that light a scan line */
+    struct scans scans[CODES];               /* by the row's code */
     struct look looks[LOOKS];
     union {
         uint64_t narrow[(CHARACTERS + 1) * MOST_LINES];
@@ -43,8 +51,9 @@ struct plan {
 };
 
 struct row {
+    unsigned code, cells;
     unsigned cursors;            /* how many cells the cursor is at, */
-    uint8_t at[MOST_CELLS];      /* and their columns */
+    uint8_t at[MOST_CELLS];      /* and which */
     uint8_t codes[MOST_CELLS];
     uint8_t attrs[MOST_CELLS];
 };
@@ -88,10 +97,16 @@ static void make_lights(struct plan *p, unsigned underline, unsigned strike)
     memset(p->lights, 0, sizeof p->lights);
     p->lights[underline] |= UNDERLINE;
     p->lights[strike] |= STRIKE;
-    p->lit_count = 0;
-    for (unsigned line = 0; line < p->lines; line++)
-        if (p->lights[line])
-            p->lit[p->lit_count++] = line;
+    for (unsigned code = 0; code < CODES; code++) {
+        struct scans *s = &p->scans[code];
+
+        s->lit_count = 0;
+        for (unsigned line = 0; line < p->lines; line++) {
+            s->scan[line] = scan_of(code, line, p->lines);
+            if (p->lights[s->scan[line]])
+                s->lit[s->lit_count++] = line;
+        }
+    }
 }
 
 static void make_shapes(
@@ -128,18 +143,19 @@ static void make_shapes(
 /* Copies the row's cells, stretch by stretch, and gives the address after them. */
 static unsigned fetch_row(const struct plan *p, unsigned at, struct row *row)
 {
-    unsigned column = 0;
+    unsigned cell = 0;
 
+    row->cells = cells_in(row->code, p->hact);
     row->cursors = 0;
-    while (column < p->hact) {
+    while (cell < row->cells) {
         unsigned end = at <= p->last ? p->last + 1 : MEMORY;
-        unsigned count = end - at < p->hact - column ? end - at : p->hact - column;
+        unsigned count = end - at < row->cells - cell ? end - at : row->cells - cell;
 
-        memcpy(row->codes + column, p->chars + at, count);
-        memcpy(row->attrs + column, p->attrs + at, count);
+        memcpy(row->codes + cell, p->chars + at, count);
+        memcpy(row->attrs + cell, p->attrs + at, count);
         if (p->cursor - at < count)
-            row->at[row->cursors++] = column + (p->cursor - at);
-        column += count;
+            row->at[row->cursors++] = cell + (p->cursor - at);
+        cell += count;
         at += count;
         if (at == p->last + 1)
             at = p->first;
@@ -152,12 +168,12 @@ static unsigned fetch_row(const struct plan *p, unsigned at, struct row *row)
 /* Field mode: each of the row's cells gets the attribute byte that is valid there. Gives the one at the row's end. */
 static unsigned run_on(const struct plan *p, struct row *row, unsigned latch)
 {
-    for (unsigned column = 0; column < p->hact; column++) {
-        unsigned attr = row->attrs[column], sets = attr >> 7;
+    for (unsigned cell = 0; cell < row->cells; cell++) {
+        unsigned attr = row->attrs[cell], sets = attr >> 7;
 
         latch = sets ? attr : latch;
-        row->attrs[column] = latch;
-        row->codes[column] = sets & p->bare ? 0 : row->codes[column];
+        row->attrs[cell] = latch;
+        row->codes[cell] = sets & p->bare ? 0 : row->codes[cell];
     }
     return latch;
 }
@@ -223,6 +239,7 @@ static inline void put_pair(uint8_t *at, unsigned dots, pair value)
 static inline __attribute__((always_inline)) unsigned narrow_cells(
     const struct plan *p, const struct row *row, uint8_t *out, unsigned dots)
 {
+    const struct scans *plain = &p->scans[PLAIN_ROW];
     unsigned lines = p->lines, width = p->width, column = 0;
 
     for (; column + 2 < p->hact; column += 2) {
@@ -239,8 +256,8 @@ static inline __attribute__((always_inline)) unsigned narrow_cells(
             put_pair(at, dots, surround ^ (shape & change));
             at += width;
         }
-        for (unsigned i = 0; i < p->lit_count; i++) {
-            unsigned line = p->lit[i], lights = p->lights[line];
+        for (unsigned i = 0; i < plain->lit_count; i++) {
+            unsigned line = plain->lit[i], lights = p->lights[line];
             pair lit = { shape_a[line] | all_if(mark_a & lights), shape_b[line] | all_if(mark_b & lights) };
 
             put_pair(out + column * dots + line * width, dots, surround ^ (lit & change));
@@ -252,6 +269,7 @@ static inline __attribute__((always_inline)) unsigned narrow_cells(
 /* The row's cells but the last. Gives how many. */
 static unsigned wide_cells(const struct plan *p, const struct row *row, uint8_t *out)
 {
+    const struct scans *plain = &p->scans[PLAIN_ROW];
     unsigned lines = p->lines, width = p->width, dots = p->dots, column = 0;
 
     for (; column + 1 < p->hact; column++) {
@@ -267,8 +285,8 @@ static unsigned wide_cells(const struct plan *p, const struct row *row, uint8_t 
             memcpy(at, &value, 16);
             at += width;
         }
-        for (unsigned i = 0; i < p->lit_count; i++) {
-            unsigned line = p->lit[i];
+        for (unsigned i = 0; i < plain->lit_count; i++) {
+            unsigned line = plain->lit[i];
             uint64_t lit = all_if(mark & p->lights[line]);
             pair value = surround ^ ((shape[line] | (pair){ lit, lit }) & change);
 
@@ -276,6 +294,116 @@ static unsigned wide_cells(const struct plan *p, const struct row *row, uint8_t 
         }
     }
     return column;
+}
+
+/* The first and the last eight of sixteen dots, each twice. */
+static inline pair low_twice(pair shape)
+{
+    return (pair)__builtin_shuffle((bytes)shape, (bytes){ 0, 0, 1, 1, 2, 2, 3, 3, 4, 4, 5, 5, 6, 6, 7, 7 });
+}
+
+static inline pair high_twice(pair shape)
+{
+    return (pair)__builtin_shuffle((bytes)shape, (bytes){ 8, 8, 9, 9, 10, 10, 11, 11, 12, 12, 13, 13, 14, 14, 15, 15 });
+}
+
+/* A cell of a row of double width in so many dots, on the scan lines from .. to - 1, and not a byte beside it. */
+static void draw_doubled(
+    const struct plan *p, const struct scans *s, uint8_t *out, unsigned dots, unsigned glyph, unsigned mark,
+    unsigned from, unsigned to)
+{
+    struct look look = p->looks[mark % LOOKS];
+    pair surround = { look.surround, look.surround }, change = { look.change, look.change };
+
+    for (unsigned line = 0; line < p->lines; line++) {
+        unsigned scan = s->scan[line], at = glyph * p->lines + scan;
+        uint64_t lit = all_if(mark & p->lights[scan]);
+        pair shape = p->dots > 8 ? p->shapes.wide[at] : (pair){ p->shapes.narrow[at], 0 };
+        pair both[2];
+
+        if (scan < from || scan >= to)
+            continue;
+        shape |= (pair){ lit, lit };
+        both[0] = surround ^ (low_twice(shape) & change);
+        both[1] = surround ^ (high_twice(shape) & change);
+        memcpy(out + line * p->width, both, dots);
+    }
+}
+
+/* A row of double width but its last two cells, of which one may have no more than a column. Gives how many it drew. */
+static unsigned doubled_narrow(const struct plan *p, const struct scans *s, const struct row *row, uint8_t *out)
+{
+    unsigned lines = p->lines, width = p->width, cell = 0;
+
+    for (; cell + 2 < row->cells; cell++) {
+        unsigned mark = mark_of(row->attrs[cell]);
+        struct look look = p->looks[mark % LOOKS];
+        const uint64_t *shape = p->shapes.narrow + glyph_of(row->codes[cell]) * lines;
+        pair surround = { look.surround, look.surround }, change = { look.change, look.change };
+        uint8_t *left = out + 2 * cell * p->dots, *at = left;
+
+        for (unsigned line = 0; line < lines; line++) {
+            pair value = surround ^ (low_twice((pair){ shape[s->scan[line]], 0 }) & change);
+
+            memcpy(at, &value, 16);
+            at += width;
+        }
+        for (unsigned i = 0; i < s->lit_count; i++) {
+            unsigned line = s->lit[i], scan = s->scan[line];
+            uint64_t lit = shape[scan] | all_if(mark & p->lights[scan]);
+            pair value = surround ^ (low_twice((pair){ lit, 0 }) & change);
+
+            memcpy(left + line * width, &value, 16);
+        }
+    }
+    return cell;
+}
+
+static unsigned doubled_wide(const struct plan *p, const struct scans *s, const struct row *row, uint8_t *out)
+{
+    unsigned lines = p->lines, width = p->width, cell = 0;
+
+    for (; cell + 2 < row->cells; cell++) {
+        unsigned mark = mark_of(row->attrs[cell]);
+        struct look look = p->looks[mark % LOOKS];
+        const pair *shape = p->shapes.wide + glyph_of(row->codes[cell]) * lines;
+        pair surround = { look.surround, look.surround }, change = { look.change, look.change };
+        uint8_t *left = out + 2 * cell * p->dots, *at = left;
+
+        for (unsigned line = 0; line < lines; line++) {
+            pair value = shape[s->scan[line]];
+            pair both[2] = { surround ^ (low_twice(value) & change), surround ^ (high_twice(value) & change) };
+
+            memcpy(at, both, 32);
+            at += width;
+        }
+        for (unsigned i = 0; i < s->lit_count; i++) {
+            unsigned line = s->lit[i], scan = s->scan[line];
+            uint64_t lit = all_if(mark & p->lights[scan]);
+            pair value = shape[scan] | (pair){ lit, lit };
+            pair both[2] = { surround ^ (low_twice(value) & change), surround ^ (high_twice(value) & change) };
+
+            memcpy(left + line * width, both, 32);
+        }
+    }
+    return cell;
+}
+
+static void draw_doubled_row(const struct plan *p, const struct row *row, uint8_t *out)
+{
+    const struct scans *s = &p->scans[row->code];
+    unsigned last = p->hact / 2; /* the cell that has one column, if there is one */
+    unsigned cell = p->dots > 8 ? doubled_wide(p, s, row, out) : doubled_narrow(p, s, row, out);
+
+    for (; cell < row->cells; cell++)
+        draw_doubled(p, s, out + 2 * cell * p->dots, cell < last ? 2 * p->dots : p->dots, glyph_of(row->codes[cell]),
+            mark_of(row->attrs[cell]), 0, p->lines);
+    for (unsigned i = 0; i < row->cursors; i++) {
+        unsigned c = row->at[i];
+
+        draw_doubled(p, s, out + 2 * c * p->dots, c < last ? 2 * p->dots : p->dots, glyph_of(row->codes[c]),
+            mark_of(row->attrs[c]) ^ REVERSE, p->cursor_from, p->cursor_to);
+    }
 }
 
 static void draw_row(const struct plan *p, const struct row *row, uint8_t *out)
@@ -300,15 +428,23 @@ static void draw_rows(const struct plan *p, uint8_t *out)
     unsigned at = p->start1, latch = 0;
 
     for (unsigned r = 0; r < p->rows; r++) {
-        unsigned entry = p->start2 + 2 * r;
+        uint8_t *lines = out + (size_t)r * p->lines * p->width;
         struct row row;
 
-        if (p->table)
-            at = p->chars[entry % MEMORY] + (p->chars[(entry + 1) % MEMORY] & 63u) * 256;
+        row.code = PLAIN_ROW;
+        if (p->table) {
+            struct row_entry entry = row_entry(p->ir, p->chars, p->start2, r);
+
+            at = entry.start;
+            row.code = entry.code;
+        }
         at = fetch_row(p, at, &row);
         if (p->field_mode)
             latch = run_on(p, &row, latch);
-        draw_row(p, &row, out + (size_t)r * p->lines * p->width);
+        if (row.code == PLAIN_ROW)
+            draw_row(p, &row, lines);
+        else
+            draw_doubled_row(p, &row, lines);
     }
 }
 
@@ -323,7 +459,7 @@ static feldrime_answer page_refused(const uint8_t *numbers)
     if (big_endian(numbers + 16) >= MEMORY || big_endian(numbers + 18) >= MEMORY || big_endian(numbers + 20) >= MEMORY
         || numbers[22] > most_switches(numbers[0]) || numbers[24] > 15)
         return (feldrime_answer){ 12, 0 };
-    if ((ir[0] | ir[1]) & 128)
+    if (reserved_set(ir))
         return (feldrime_answer){ 4, 0 };
     if (porches.refusal != 0)
         return (feldrime_answer){ porches.refusal, porches.missing };
@@ -337,6 +473,7 @@ static void plan_page(struct plan *p, const uint8_t *numbers, uint8_t field)
     unsigned last_line = ir[6] & 15;
     int gate = numbers[22] & CURSOR && (!(ir[7] & 32) || field % cursor_period < cursor_period / 2);
 
+    p->ir = ir;
     p->hact = ir[5] + 1u;
     p->lines = (ir[0] >> 3 & 15) + 1u;
     p->rows = (ir[4] & 127) + 1u;

@@ -3,6 +3,8 @@
 #include <stdio.h>
 #include <string.h>
 
+#include "rules.h"
+
 #define LINES 10
 
 /* A xorshift generator with a fixed seed: the same inputs in every run. */
@@ -90,6 +92,32 @@ void switched(struct set *to, const struct set *from, uint8_t switches)
     *to = *from;
     for (size_t p = 0; p < to->count; p++)
         to->pages[p].numbers[22] = switches;
+}
+
+static void code_rows(struct page *page, const uint8_t *codes, size_t count)
+{
+    unsigned table = big_endian(page->numbers + 20);
+
+    page->numbers[1] |= 0x80;
+    page->numbers[3] |= 0x80;
+    for (uint32_t row = 0; row < page->lines / LINES; row++) {
+        unsigned low = (table + 2 * row) % MEMORY, high = (low + 1) % MEMORY;
+        uint8_t code = codes[row % count];
+
+        if (row > 0 && code == BOTTOM_ROW) {
+            page->chars[low] = page->chars[(low + MEMORY - 2) % MEMORY];
+            page->chars[high] = page->chars[(high + MEMORY - 2) % MEMORY];
+        }
+        page->chars[high] = (page->chars[high] & 63) | code << 6;
+    }
+}
+
+void coded(struct set *to, const struct set *from, const char *name, const uint8_t *codes, size_t count)
+{
+    *to = *from;
+    to->name = name;
+    for (size_t p = 0; p < to->count; p++)
+        code_rows(&to->pages[p], codes, count);
 }
 
 void without_aflg(struct set *set)

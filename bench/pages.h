@@ -37,6 +37,9 @@ void make_sheets(struct set *set, const char *name, uint8_t rows, uint8_t column
 /* The same pages with other switches. */
 void switched(struct set *to, const struct set *from, uint8_t switches);
 
+/* The same pages with the row table on and these row codes, over and over. A bottom half has the cells of the row before it. */
+void coded(struct set *to, const struct set *from, const char *name, const uint8_t *codes, size_t count);
+
 /* Takes AFLG from all cells, or from all but the first of each row: there a search for it from the row below goes over the whole row. */
 void without_aflg(struct set *set);
 void aflg_in_each_row(struct set *set);

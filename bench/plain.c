@@ -29,15 +29,15 @@ static unsigned moved(unsigned at, unsigned k, unsigned first, unsigned last)
     return (first + (k - to_last - 1) % round) % MEMORY;
 }
 
-/* Where a row begins. */
-static unsigned row_start(const uint8_t *numbers, const uint8_t *chars, unsigned row)
+/* Where a row begins, and its code. */
+static struct row_entry row_begin(const uint8_t *numbers, const uint8_t *chars, unsigned row)
 {
     const uint8_t *ir = numbers + 1;
-    unsigned entry = big_endian(numbers + 20) + 2 * row;
 
     if (ir[2] & 128)
-        return chars[entry % MEMORY] + (chars[(entry + 1) % MEMORY] & 63u) * 256;
-    return moved(big_endian(numbers + 16), row * (ir[5] + 1u), first_address(ir), last_address(ir));
+        return row_entry(ir, chars, big_endian(numbers + 20), row);
+    unsigned start = moved(big_endian(numbers + 16), row * (ir[5] + 1u), first_address(ir), last_address(ir));
+    return (struct row_entry){ start, PLAIN_ROW };
 }
 
 /* The attribute byte that is latched when a row begins, sought from the end of the row before it backward; 0 for none. */
@@ -46,10 +46,10 @@ static unsigned latched_before(const uint8_t *numbers, const uint8_t *chars, con
     const uint8_t *ir = numbers + 1;
 
     while (row-- > 0) {
-        unsigned start = row_start(numbers, chars, row);
+        struct row_entry entry = row_begin(numbers, chars, row);
 
-        for (unsigned c = ir[5] + 1u; c-- > 0;) {
-            unsigned at = moved(start, c, first_address(ir), last_address(ir));
+        for (unsigned c = cells_in(entry.code, ir[5] + 1u); c-- > 0;) {
+            unsigned at = moved(entry.start, c, first_address(ir), last_address(ir));
 
             if (attrs[at] & AFLG)
                 return attrs[at];
@@ -86,7 +86,7 @@ feldrime_answer plain_line_draw(
         || strike > 15)
         return answer(12);
 
-    if ((ir[0] | ir[1]) & 128)
+    if (reserved_set(ir))
         return answer(4);
 
     unsigned hact = ir[5] + 1u;
@@ -112,10 +112,12 @@ feldrime_answer plain_line_draw(
     }
 
     unsigned row = line / lines;
-    unsigned scan = line % lines;
+    struct row_entry entry = row_begin(numbers, chars, row);
+    unsigned at = entry.start;
+    unsigned wide = entry.code != PLAIN_ROW;
+    unsigned scan = scan_of(entry.code, line % lines, lines);
     unsigned first = first_address(ir);
     unsigned last = last_address(ir);
-    unsigned at = row_start(numbers, chars, row);
 
     unsigned field_mode = switches & FIELD_MODE;
     unsigned bare = setting_is_bare(switches);
@@ -134,7 +136,7 @@ feldrime_answer plain_line_draw(
     unsigned lights = ((ir[7] & 15u) == scan ? UNDERLINE : 0) | (strike == scan ? STRIKE : 0);
     unsigned hides = BLANK | (blink ? BLINK : 0);
 
-    for (unsigned c = 0; c < hact; c++) {
+    for (unsigned c = 0; c < hact; c += 1 + wide) {
         unsigned sets = attrs[at] & AFLG;
         unsigned attr = sets ? attrs[at] : latch;
         unsigned code = sets && bare ? 0 : chars[at];
@@ -157,7 +159,11 @@ feldrime_answer plain_line_draw(
         if (attr & hides)
             symbol = surround;
 
-        put_dots(out + c * dots, dots, bits, symbol, surround);
+        /* A cell of double width has two columns, but at the end of an odd row one. */
+        if (wide)
+            put_dots(out + c * dots, c + 1 < hact ? 2 * dots : dots, doubled(bits), symbol, surround);
+        else
+            put_dots(out + c * dots, dots, bits, symbol, surround);
         at = at == last ? first : (at + 1) % MEMORY;
     }
     return answer(0);

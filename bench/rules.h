@@ -1,4 +1,5 @@
-/* What the C around the library shares: sizes, the bits of switches and attributes, the levels, porches, addresses, a list's search. */
+/* What the C around the library shares: sizes, the bits of switches and attributes, the levels, porches, addresses, rows and their codes, a
+   list's search. */
 #ifndef RULES_H
 #define RULES_H
 
@@ -52,6 +53,50 @@ static inline struct porches porches_of(const uint8_t *ir)
     if (ht >= rest + 2)
         return (struct porches){ 0, 0 };
     return (struct porches){ ht < rest ? 14 : 15, rest + 2 - ht };
+}
+
+/* What is refused by 4. */
+static inline int reserved_set(const uint8_t *ir)
+{
+    return ir[1] & 128 || (ir[0] & 128 && !(ir[2] & 128));
+}
+
+/* The codes of rows: plain, double width, and its top and bottom half. */
+enum { PLAIN_ROW, WIDE_ROW, TOP_ROW, BOTTOM_ROW, CODES };
+
+/* Where a row begins, and its code. */
+struct row_entry {
+    unsigned start, code;
+};
+
+/* A row's entry of the table that stands at an address. */
+static inline struct row_entry row_entry(const uint8_t *ir, const uint8_t *chars, unsigned table, unsigned row)
+{
+    unsigned low = chars[(table + 2 * row) % MEMORY], high = chars[(table + 2 * row + 1) % MEMORY];
+
+    return (struct row_entry){ low + (high & 63) * 256, ir[0] & 128 ? high >> 6 : PLAIN_ROW };
+}
+
+/* How many cells a row of so many columns fetches. */
+static inline unsigned cells_in(unsigned code, unsigned columns)
+{
+    return code == PLAIN_ROW ? columns : (columns + 1) / 2;
+}
+
+/* The scan line that a line of a row shows, where a row has so many. */
+static inline unsigned scan_of(unsigned code, unsigned line, unsigned lines)
+{
+    return code == TOP_ROW ? line / 2 : code == BOTTOM_ROW ? (lines + line) / 2 : line;
+}
+
+/* Each of twelve dots twice: they are moved apart, in groups of eight, four, two and one. */
+static inline unsigned doubled(unsigned bits)
+{
+    bits = (bits | bits << 8) & 0x0F00FF;
+    bits = (bits | bits << 4) & 0x0F0F0F;
+    bits = (bits | bits << 2) & 0x333333;
+    bits = (bits | bits << 1) & 0x555555;
+    return bits * 3;
 }
 
 /* An address in a page's numbers. */

@@ -90,15 +90,18 @@ static int boards_differ(const feldrime_board *a, const feldrime_board *b)
         || differ("the next latch", a->place.beam.latch, b->place.beam.latch)
         || differ("the next row start", a->place.row.address, b->place.row.address)
         || differ("the next row latch", a->place.row.latch, b->place.row.latch)
+        || differ("the next row code", a->place.row.code, b->place.row.code)
         || differ("the next pointer", a->pointer, b->pointer)
         || differ("the next count of resets", a->resets, b->resets);
 }
 
-/* Latch bytes that no step left there: in character mode, without AFLG and at the start of a frame they count as none. */
+/* Latch bytes and a row code that no step left there: in character mode, without AFLG and at the start of a frame the bytes count as none,
+   and without IR0[7] the code. */
 static void disturb(feldrime_board *board, uint32_t n)
 {
     board->place.beam.latch = 255 - n / 7 % 256;
     board->place.row.latch = 255 - n / 5 % 256;
+    board->place.row.code = 255 - n / 3 % 256;
 }
 
 /* One frame, clock by clock, by both steps. */

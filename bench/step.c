@@ -41,7 +41,7 @@ feldrime_step_answer plain_step(
     }
 
     const uint8_t *ir = board->page.irs;
-    if ((ir[0] | ir[1]) & 128) {
+    if (reserved_set(ir)) {
         a.refusal = 4;
         return a;
     }
@@ -83,6 +83,7 @@ feldrime_step_answer plain_step(
     unsigned field_mode = switches & FIELD_MODE;
     unsigned latch = settled(board->place.beam.latch, field_mode);
     unsigned row_latch = settled(board->place.row.latch, field_mode);
+    unsigned code = ir[0] & 128 ? board->place.row.code & 3 : PLAIN_ROW;
 
     /* An inactive board has its display off. Both blink periods are powers of two. */
     unsigned bkgnd = (switches & BKGND) != 0;
@@ -105,15 +106,16 @@ feldrime_step_answer plain_step(
 
     if (active) {
         unsigned row = line / lines;
-        unsigned scan = line % lines;
+        unsigned row_line = line % lines;
 
         if (clock == 0) {
-            if (scan != 0) {
+            if (row_line != 0) {
                 at = row_start;
                 latch = row_latch;
             } else if (ir[2] & 128) {
-                unsigned entry = start2 + 2 * row;
-                at = chars[entry % MEMORY] + (chars[(entry + 1) % MEMORY] & 63u) * 256;
+                struct row_entry entry = row_entry(ir, chars, start2, row);
+                at = entry.start;
+                code = entry.code;
             } else if (row == 0) {
                 at = start1;
             }
@@ -123,9 +125,13 @@ feldrime_step_answer plain_step(
             row_latch = latch;
         }
 
-        /* With the display off it latches all the same. */
+        unsigned scan = scan_of(code, row_line, lines);
+        unsigned wide = code != PLAIN_ROW;
+        unsigned again = wide && clock % 2 == 1; /* the cell of the column before */
+
+        /* With the display off it latches all the same. In field mode a cell's second column shows what is latched. */
         unsigned sets = attrs[at] & AFLG;
-        unsigned attr = sets ? attrs[at] : latch;
+        unsigned attr = sets && !(field_mode && again) ? attrs[at] : latch;
         if (field_mode)
             latch = attr;
 
@@ -133,10 +139,10 @@ feldrime_step_answer plain_step(
             && (!(ir[7] & 32) || (field & (cursor_period - 1)) < cursor_period / 2);
 
         if (shown) {
-            unsigned code = sets && setting_is_bare(switches) ? 0 : chars[at];
+            unsigned shape = sets && setting_is_bare(switches) ? 0 : chars[at];
 
-            if (code & 128) {
-                unsigned character = code & 127;
+            if (shape & 128) {
+                unsigned character = shape & 127;
                 unsigned place = position(flags[character] ? shifted : unshifted, scan);
                 if (place < LIST)
                     bits = words[character * LIST + place] & 1023;
@@ -145,6 +151,8 @@ feldrime_step_answer plain_step(
                 bits <<= 1; /* the zero before D0 */
             if ((attr & UNDERLINE && (ir[7] & 15u) == scan) || (attr & STRIKE && strike == scan))
                 bits = 4095;
+            if (wide)
+                bits = doubled(bits) >> (again ? dots : 0);
 
             unsigned reverse = (attr & REVERSE) ^ a.cursor;
             uint8_t tone = attr & HIGHLIGHT ? WHITE : GRAY;
@@ -154,7 +162,10 @@ feldrime_step_answer plain_step(
                 symbol = surround;
         }
 
-        next = at == last_address(ir) ? first_address(ir) : (at + 1) % MEMORY;
+        if (!wide || again || clock + 1 == hact)
+            next = at == last_address(ir) ? first_address(ir) : (at + 1) % MEMORY;
+        else
+            next = at;
     }
 
     a.address = at;
@@ -167,6 +178,7 @@ feldrime_step_answer plain_step(
     board->place.beam.latch = latch;
     board->place.row.address = row_start;
     board->place.row.latch = row_latch;
+    board->place.row.code = code;
     if (clock + 1 < ht) {
         board->place.clock = clock + 1;
         return a;

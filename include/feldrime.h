@@ -39,7 +39,7 @@ extern "C" {
 /* The version of this header and of the archive that it belongs to. While it stays, all that is said here stays, though
    calls may be added. With another version calls, structs, sizes and refusal numbers may be others, and so may what is
    accepted and drawn: a program is then read through and compiled again. Files have versions of their own. */
-#define FELDRIME_VERSION 3
+#define FELDRIME_VERSION 4
 
 /* The sizes of buffers, in elements. */
 enum {
@@ -89,7 +89,7 @@ static inline const char *feldrime_meaning(uint32_t refusal)
         return "a buffer has the wrong size or no room for the file, "
                "or the page's numbers do not begin with version 1 or 2";
     case FELDRIME_REFUSED_RESERVED:
-        return "doubled rows (IR0[7]) or interlace (IR1[7]) is set";
+        return "interlace (IR1[7]) is set, or row codes (IR0[7]) without the row table (IR2[7])";
     case FELDRIME_REFUSED_WIDTH:
         return "the dots of a cell are not 6 to 12";
     case FELDRIME_REFUSED_RANGE:
@@ -129,7 +129,7 @@ static inline const char *feldrime_meaning(uint32_t refusal)
 
    The fields of the IRs, where n is a field's code:
 
-     IR0[7]; [6:3]               must be 0; scan lines in a row, n + 1
+     IR0[7]; [6:3]               rows have codes, which needs the row table; scan lines in a row, n + 1
      IR1[7]; [6:0]               must be 0; EC, n + 1
      IR2[7]; [6:3]; [2:0]        row table on; HSYNC, 2n + 2; HBP, 4n - 1, n not 0
      IR3[7:5]; [4:0]             VFP, 4n + 4; VBP, 2n + 4
@@ -147,6 +147,12 @@ static inline const char *feldrime_meaning(uint32_t refusal)
    buffer address comes the first, and after 16383 comes 0. Row 0 begins at screen start 1, and each later row where the
    one before it ended. With the row table on, row r begins at the address that the two character bytes at screen start 2
    + 2r hold: low byte, then high byte, of which six bits count.
+
+   While IR0[7] is set, the two upper bits of that high byte are the row's code: 00 plain, 01 double width, 10 double
+   width and top half, 11 double width and bottom half. A row of double width has half as many cells, rounded up: column c
+   shows cell c / 2, its left half in even columns and its right half in odd ones, each dot twice. With L scan lines in a
+   row, line l of a top half shows scan line l / 2, and of a bottom half (L + l) / 2, rounded down: so do its cursor,
+   underline and strike. Two rows, codes 10 and 11, that begin at the same cell make a headline of double height.
 
    A character byte is 80 hex + the character; below 80 hex the cell has no character. An attribute byte: bit 0 reverse,
    1 blank, 2 blink, 3 underline, 4 highlight (white for gray), 5 strike, and 7, AFLG, without which the others do not
@@ -246,14 +252,15 @@ feldrime_answer feldrime_line_draw(
     uint8_t *out, size_t out_count);
 
 /* A row's first run of cells: from where the row begins to the row's end, the last buffer address or 16383, whichever is
-   met first. Only a refusal has a count of 0. Refuses 3, 12, 4, 13, 14, 15, 6, 7. */
+   met first. Cells are counted and not columns. Only a refusal has a count of 0. Refuses 3, 12, 4, 13, 14, 15, 6, 7. */
 feldrime_run feldrime_row_run(
     const uint8_t *numbers, size_t numbers_count,
     const uint8_t *chars, size_t chars_count,
     uint32_t row);
 
-/* All cells that a row shows: column c shows chars[cells[c]] and attrs[cells[c]]. Writes count elements, one for each
-   column; cells has FELDRIME_CELLS or more. Refuses 3, 12, 4, 13, 14, 15, 6, 7. */
+/* All cells that a row shows: column c shows chars[cells[c]] and attrs[cells[c]], or in a row of double width those of
+   cells[c / 2]. Writes count elements: HACT, or in a row of double width half of it, rounded up; cells has FELDRIME_CELLS
+   or more. Refuses 3, 12, 4, 13, 14, 15, 6, 7. */
 feldrime_cells feldrime_row_cells(
     const uint8_t *numbers, size_t numbers_count,
     const uint8_t *chars, size_t chars_count,
@@ -354,14 +361,19 @@ static inline feldrime_cells feldrime_cells_of(
 
    A frame has VT = rows x scan lines + VFP + VSYNC + VBP lines, in this order: the visible ones come first, from line 0
    on, with the numbers that they have in a picture. A line has HT clocks: HACT active ones, from clock 0 on, then front
-   porch, HSYNC and HBP. A cell is fetched on each active clock of a visible line. BLANK is 1 on all other clocks, and
+   porch, HSYNC and HBP. A cell is shown on each active clock of a visible line. BLANK is 1 on all other clocks, and
    while the display is off on these too. At a frame's end the field goes up by one, and from 255 to 0. At clock 0, from
    which clocks are counted, all of the place is 0.
 
    latch is the attribute byte that is valid before the beam's cell, and the one that the row began with; 0 is none. In
    field mode a fetch of a cell with AFLG sets it, with the display off too. Row 0 of a frame begins with none, a later
    row with what the beam has then, and each line of a row with the row's own. A latch handed over without AFLG, or without
-   field mode, counts as 0, and a step leaves 0. */
+   field mode, counts as 0, and a step leaves 0.
+
+   code is that of the beam's row, and is taken over with the row's start. A row of double width fetches on even columns,
+   shows that cell and its cursor again on the odd one after, and moves on then, or after an even column that is the
+   line's last. In field mode a cell with AFLG sets the latch on its even column, and its odd column shows what is latched
+   then. Two bits of code count, and none without IR0[7]; a step leaves what counts. */
 typedef struct {
     struct {
         uint8_t version; /* 1 or 2; any other counts as 1, and is written as 1 */
@@ -381,7 +393,12 @@ typedef struct {
         struct {
             uint16_t address;
             uint8_t latch;
-        } beam, row; /* what the beam carries, and what its row began with */
+        } beam; /* what the beam carries */
+        struct {
+            uint16_t address;
+            uint8_t latch;
+            uint8_t code; /* 0 plain, 1 double width, 2 and 3 its top and bottom half; two bits count */
+        } row; /* what its row began with */
     } place;
     uint8_t pointer; /* the IR that a write at address 0 goes to */
     uint8_t resets;  /* master resets in a row: 0 and 1 are an inactive board, 2 and above an active one */

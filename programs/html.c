@@ -49,16 +49,16 @@ static void put_text(FILE *out, const char *text)
         put_letter(out, *text);
 }
 
-/* The rows, a line each. What is struck stands between open and close. */
-static void put_rows(FILE *out, const struct reading *reading, const char *open, const char *close)
+/* The lines that are read. What is struck stands between open and close. */
+static void put_lines(FILE *out, const struct reading *reading, const char *open, const char *close)
 {
-    for (uint32_t row = 0; row < reading->rows; row++) {
+    for (uint32_t line = 0; line < reading->lines; line++) {
         bool struck = false;
-        for (uint32_t c = 0; c < reading->length[row]; c++) {
-            if (reading->struck[row][c] != struck)
+        for (uint32_t c = 0; c < reading->length[line]; c++) {
+            if (reading->struck[line][c] != struck)
                 fputs(struck ? close : open, out);
-            struck = reading->struck[row][c];
-            put_letter(out, reading->letter[row][c]);
+            struck = reading->struck[line][c];
+            put_letter(out, reading->letter[line][c]);
         }
         fputs(struck ? close : "", out);
         fputc('\n', out);
@@ -117,7 +117,7 @@ static void put_board(FILE *out, const struct entry *entry, const struct page *p
     if (is_empty(reading))
         put_text(out, language->empty);
     else
-        put_rows(out, reading, open, "]");
+        put_lines(out, reading, open, "]");
     fputs("\">\n", out);
     for (int i = 1; i < fields->count; i++)
         fprintf(out, "<img src=\"%s.%d.png\" width=\"%u\" height=\"%u\" alt=\"\" class=\"field%d\">\n",
@@ -138,7 +138,7 @@ void html_page(FILE *out, const struct entry *entry, const struct page *page, co
     fputs("</h1>\n", out);
     put_board(out, entry, page, fields, reading, language);
     fprintf(out, "<details>\n<summary>%s</summary>\n<pre%s>\n", language->text, unknown);
-    put_rows(out, reading, "<s>", "</s>");
+    put_lines(out, reading, "<s>", "</s>");
     fprintf(out, "</pre>\n</details>\n<p><small>%s%s%s</small></p>\n", language->aspect, fields->count > 1 ? " " : "",
             fields->count > 1 ? language->rate : "");
     fprintf(out, "</main>\n<nav><a href=\"index.html\" hreflang=\"en\">%s</a></nav>\n</body>\n</html>\n",

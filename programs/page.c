@@ -23,7 +23,7 @@ static bool judge(feldrime_answer answer, const char *hint, char why[WHY])
     return answer.refusal == FELDRIME_DONE;
 }
 
-/* The library counts: rows are there until one is refused. */
+/* The library counts: rows are there until one is refused. Columns are HACT, since a row may have fewer cells. */
 static void measure(struct page *page)
 {
     uint16_t cells[FELDRIME_CELLS];
@@ -31,12 +31,10 @@ static void measure(struct page *page)
 
     page->lines = size.lines;
     page->dots = size.dots;
-    for (page->rows = 0;; page->rows++) {
-        feldrime_cells found = feldrime_cells_of(&page->parts, page->rows, cells, FELDRIME_CELLS);
-        if (found.refusal != FELDRIME_DONE)
-            return;
-        page->columns = found.count;
-    }
+    page->columns = page->parts.numbers[1 + 5] + 1U;
+    page->rows = 0;
+    while (feldrime_cells_of(&page->parts, page->rows, cells, FELDRIME_CELLS).refusal == FELDRIME_DONE)
+        page->rows++;
 }
 
 bool read_page(const char *name, struct page *page, char why[WHY])
@@ -66,9 +64,32 @@ bool read_font(const char *name, feldrime_font *font, char why[WHY])
     return judge(answer, count == FELDRIME_PAGE_FILE ? " (it is as long as a page)" : "", why);
 }
 
-void cells_of(const struct page *page, uint32_t row, uint16_t cells[FELDRIME_CELLS])
+uint32_t cells_of(const struct page *page, uint32_t row, uint16_t cells[FELDRIME_CELLS])
 {
-    feldrime_cells_of(&page->parts, row, cells, FELDRIME_CELLS);
+    return feldrime_cells_of(&page->parts, row, cells, FELDRIME_CELLS).count;
+}
+
+bool has_table(const struct page *page)
+{
+    return page->parts.numbers[1 + 2] >> 7;
+}
+
+/* A page with IR0[7] was accepted only with the row table. */
+bool has_codes(const struct page *page)
+{
+    return page->parts.numbers[1 + 0] >> 7;
+}
+
+uint32_t entry_cell(const struct page *page, uint32_t row, uint32_t byte)
+{
+    uint32_t start2 = page->parts.numbers[20] * 256U + page->parts.numbers[21];
+
+    return (start2 + 2 * row + byte) % FELDRIME_MEMORY;
+}
+
+enum code code_of(const struct page *page, uint32_t row)
+{
+    return has_codes(page) ? (enum code)(page->parts.chars[entry_cell(page, row, 1)] >> 6) : PLAIN;
 }
 
 uint8_t *picture_of(const struct page *page, const feldrime_font *font, uint8_t field)

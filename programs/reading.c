@@ -12,7 +12,10 @@ enum { UNDERLINE = 1 << 3, STRIKE = 1 << 5 }; /* of an attribute byte */
 
 static const feldrime_font no_shapes; /* its words are zeros, so that no character has a dot */
 
-/* A cell's stretch of one scan line. */
+/* Whether something is so in the cells of each row. */
+typedef bool marks[ROWS][FELDRIME_CELLS];
+
+/* A column's stretch of one scan line. */
 static const uint8_t *stretch(const struct page *page, const uint8_t *picture, uint32_t row, uint32_t column,
                               uint32_t line)
 {
@@ -30,6 +33,17 @@ static bool differs(const struct page *page, const uint8_t *one, const uint8_t *
     return false;
 }
 
+/* Marks the cells that look otherwise in another picture. In a row of double width two columns show a cell. */
+static void mark_differing(const struct page *page, const uint8_t *one, const uint8_t *other, marks cells)
+{
+    for (uint32_t row = 0; row < page->rows; row++) {
+        uint32_t columns_each = code_of(page, row) == PLAIN ? 1 : 2;
+        for (uint32_t c = 0; c < page->columns; c++)
+            if (differs(page, one, other, row, c))
+                cells[row][c / columns_each] = true;
+    }
+}
+
 /* The picture as it were if no cell had these attributes. */
 static uint8_t *picture_without(int attributes, const struct page *page, const feldrime_font *font, int field)
 {
@@ -43,80 +57,110 @@ static uint8_t *picture_without(int attributes, const struct page *page, const f
 
 /* Adds the cells that show their character in a field: without the font's shapes they look otherwise. Underline and
    strike are left away in both pictures, since they could cover a character. */
-static bool add_shown(const struct page *page, const feldrime_font *font, int field, bool shown[ROWS][FELDRIME_CELLS])
+static bool add_shown(const struct page *page, const feldrime_font *font, int field, marks shown)
 {
     uint8_t *with = picture_without(UNDERLINE | STRIKE, page, font, field);
     uint8_t *without = picture_without(UNDERLINE | STRIKE, page, &no_shapes, field);
     bool good = with != NULL && without != NULL;
 
-    for (uint32_t row = 0; good && row < page->rows; row++)
-        for (uint32_t c = 0; c < page->columns; c++)
-            shown[row][c] = shown[row][c] || differs(page, with, without, row, c);
+    if (good)
+        mark_differing(page, with, without, shown);
     free(with);
     free(without);
     return good;
 }
 
 /* Shown in one field is shown: what blinks is read. */
-static bool read_letters(const struct page *page, const feldrime_font *font, const struct fields *fields,
-                         struct reading *reading)
+static bool find_shown(const struct page *page, const feldrime_font *font, const struct fields *fields, marks shown)
 {
-    static bool shown[ROWS][FELDRIME_CELLS];
-    uint16_t cells[FELDRIME_CELLS];
-
-    memset(shown, 0, sizeof shown);
+    memset(shown, 0, sizeof(marks));
     for (int i = 0; i < fields->count; i++)
         if (!add_shown(page, font, fields->first[i], shown))
             return false;
-    for (uint32_t row = 0; row < page->rows; row++) {
-        reading->length[row] = 0;
-        cells_of(page, row, cells);
-        for (uint32_t c = 0; c < page->columns; c++) {
-            char letter = shown[row][c] ? letter_of(page->parts.chars[cells[c]]) : ' ';
-            reading->letter[row][c] = letter;
-            if (letter != ' ')
-                reading->length[row] = c + 1;
-        }
-    }
     return true;
 }
 
-/* A line through blanks says something only between letters that it goes through too. */
-static void trim(const char *letter, bool *struck, uint32_t columns)
-{
-    for (uint32_t c = 0; c < columns; c++)
-        struck[c] = struck[c] && (letter[c] != ' ' || (c > 0 && struck[c - 1]));
-    for (uint32_t c = columns; c-- > 0;)
-        struck[c] = struck[c] && (letter[c] != ' ' || (c + 1 < columns && struck[c + 1]));
-}
-
-static bool read_strikes(const struct page *page, const feldrime_font *font, const struct fields *fields,
-                         struct reading *reading)
+static bool find_struck(const struct page *page, const feldrime_font *font, const struct fields *fields, marks struck)
 {
     uint8_t *unstruck = picture_without(STRIKE, page, font, 0);
 
     if (unstruck == NULL)
         return false;
-    for (uint32_t row = 0; row < page->rows; row++) {
-        for (uint32_t c = 0; c < page->columns; c++)
-            reading->struck[row][c] = differs(page, fields->pictures[0], unstruck, row, c);
-        trim(reading->letter[row], reading->struck[row], page->columns);
-    }
+    memset(struck, 0, sizeof(marks));
+    mark_differing(page, fields->pictures[0], unstruck, struck);
     free(unstruck);
     return true;
+}
+
+/* A row and the one below it are a headline of double height where they are the two halves of the same cells. */
+static bool is_headline(const struct page *page, uint32_t row)
+{
+    uint16_t upper[FELDRIME_CELLS], lower[FELDRIME_CELLS];
+
+    if (row + 1 == page->rows || code_of(page, row) != TOP || code_of(page, row + 1) != BOTTOM)
+        return false;
+    uint32_t count = cells_of(page, row, upper);
+    cells_of(page, row + 1, lower);
+    return memcmp(upper, lower, count * sizeof *upper) == 0;
+}
+
+/* One half may be all that shows a cell's character, as a comma's, or the line through it. */
+static void join(bool upper[FELDRIME_CELLS], const bool lower[FELDRIME_CELLS])
+{
+    for (int c = 0; c < FELDRIME_CELLS; c++)
+        upper[c] = upper[c] || lower[c];
+}
+
+/* A line through blanks says something only between letters that it goes through too. */
+static void trim(const char *letter, bool *struck, uint32_t count)
+{
+    for (uint32_t c = 0; c < count; c++)
+        struck[c] = struck[c] && (letter[c] != ' ' || (c > 0 && struck[c - 1]));
+    for (uint32_t c = count; c-- > 0;)
+        struck[c] = struck[c] && (letter[c] != ' ' || (c + 1 < count && struck[c + 1]));
+}
+
+/* Adds a row's cells as a line of the reading. */
+static void add_line(const struct page *page, uint32_t row, const bool *shown, const bool *struck,
+                     struct reading *reading)
+{
+    uint16_t cells[FELDRIME_CELLS];
+    uint32_t count = cells_of(page, row, cells), line = reading->lines++;
+
+    reading->length[line] = 0;
+    for (uint32_t c = 0; c < count; c++) {
+        char letter = shown[c] ? letter_of(page->parts.chars[cells[c]]) : ' ';
+        reading->letter[line][c] = letter;
+        reading->struck[line][c] = struck[c];
+        if (letter != ' ')
+            reading->length[line] = c + 1;
+    }
+    trim(reading->letter[line], reading->struck[line], count);
 }
 
 bool read_picture(const struct page *page, const feldrime_font *font, const struct fields *fields,
                   struct reading *reading)
 {
-    reading->rows = page->rows;
-    return read_letters(page, font, fields, reading) && read_strikes(page, font, fields, reading);
+    static marks shown, struck;
+
+    if (!find_shown(page, font, fields, shown) || !find_struck(page, font, fields, struck))
+        return false;
+    reading->lines = 0;
+    for (uint32_t row = 0, rows; row < page->rows; row += rows) {
+        rows = is_headline(page, row) ? 2 : 1;
+        if (rows == 2) {
+            join(shown[row], shown[row + 1]);
+            join(struck[row], struck[row + 1]);
+        }
+        add_line(page, row, shown[row], struck[row], reading);
+    }
+    return true;
 }
 
 bool is_empty(const struct reading *reading)
 {
-    for (uint32_t row = 0; row < reading->rows; row++)
-        if (reading->length[row] > 0)
+    for (uint32_t line = 0; line < reading->lines; line++)
+        if (reading->length[line] > 0)
             return false;
     return true;
 }
@@ -125,11 +169,11 @@ void title_of(const struct reading *reading, char title[FELDRIME_CELLS + 1])
 {
     uint32_t count = 0;
 
-    for (uint32_t row = 0; row < reading->rows && count == 0; row++) {
-        for (uint32_t c = 0; c < reading->length[row]; c++) {
-            char letter = reading->letter[row][c];
+    for (uint32_t line = 0; line < reading->lines && count == 0; line++) {
+        for (uint32_t c = 0; c < reading->length[line]; c++) {
+            char letter = reading->letter[line][c];
             bool blank_again = letter == ' ' && (count == 0 || title[count - 1] == ' ');
-            if (!blank_again && !reading->struck[row][c])
+            if (!blank_again && !reading->struck[line][c])
                 title[count++] = letter;
         }
     }

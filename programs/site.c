@@ -27,6 +27,7 @@ const char site_help[] =
     "A page that blinks has a picture NAME.FIELD.png for each look it takes, and they are shown in turn.\n"
     "A page that is refused is an entry of the index, and a web page, that says why; the others are still made.\n"
     "The text is what the picture shows: what is hidden is left out, and what is struck is told as struck.\n"
+    "A headline of double height, which is two rows of the page, is one line of the text.\n"
     "\n"
     "The language of a page is known from its file's name: de, en, fr, it or sl as NAME, or as the first or last\n"
     "part of a NAME with - _ or dots between its parts. A page of another name has labels in English, and its text\n"

@@ -13,10 +13,9 @@ char letter_of(uint8_t byte)
 void text_of(const struct page *page, uint32_t row, char text[FELDRIME_CELLS + 1])
 {
     uint16_t cells[FELDRIME_CELLS];
-    uint32_t count = 0;
+    uint32_t all = cells_of(page, row, cells), count = 0;
 
-    cells_of(page, row, cells);
-    for (uint32_t c = 0; c < page->columns; c++) {
+    for (uint32_t c = 0; c < all; c++) {
         text[c] = letter_of(page->parts.chars[cells[c]]);
         if (text[c] != ' ')
             count = c + 1;

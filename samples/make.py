@@ -11,6 +11,7 @@ MEMORY = 16384
 LANGUAGES = "en", "de", "fr", "it", "sl"
 LOOKS = {"r": 1, "x": 2, "b": 4, "u": 8, "h": 16, "s": 32, "n": 0}
 AFLG = 128
+CODES = {"|": [0], "=": [1], "^": [2, 3]}  # by the first letter of a typed line: the codes of the rows that show its cells
 SWITCHES = {"display": 1, "cursor": 2, "bkgnd": 4, "rblank": 8, "field": 16, "acd": 32}
 VSYNCS = [3, 1, 5, 7]
 
@@ -62,19 +63,19 @@ class Memory:
             at = self.first if at == self.last else (at + 1) % MEMORY
         return at
 
-    def table(self, at, starts):
-        for i, byte in enumerate(b"".join(start.to_bytes(2, "little") for start in starts)):
+    def table(self, at, entries):
+        for i, byte in enumerate(b"".join(entry.to_bytes(2, "little") for entry in entries)):
             self.take((at + i) % MEMORY, byte)
 
 
 def numbers(page, rows, cursor):
-    """What a page file holds between its length and character memory, by document 01's register table."""
+    """What a page file holds between its length and character memory, by document 01's register table and R-4's IR0[7]."""
     n = {key: int(page[key]) for key in page if page[key].isdigit()}
     cursor_first, cursor_last = map(int, page["cursor lines"].split())
     irs = [
-        n["lines"] - 1 << 3,
+        ("row codes" in page) << 7 | n["lines"] - 1 << 3,
         n["ec"] - 1,
-        ("sheet" not in page) << 7 | (n["hsync"] - 2) // 2 << 3 | (n["hbp"] + 1) // 4,
+        ("sheet" not in page or "row codes" in page) << 7 | (n["hsync"] - 2) // 2 << 3 | (n["hbp"] + 1) // 4,
         (n["vfp"] - 4) // 4 << 5 | (n["vbp"] - 4) // 2,
         rows - 1,
         n["columns"] - 1,
@@ -90,22 +91,30 @@ def numbers(page, rows, cursor):
 
 def typed(page, memory):
     """Types a sheet: a line with | is a row, and lines with : below it give its cells attributes, by letter (n is AFLG
-    alone), or the cursor, by c. Gives the number of rows and the cursor's address."""
-    columns = page.getint("columns")
-    rows = []
+    alone), or the cursor, by c. With row codes a line with = is a row of double width, which has half the cells, and one with
+    ^ two rows, the top and the bottom half of a headline; a row table then names where each row begins. Gives the number of
+    rows and the cursor's address."""
+    lines = []
     for line in text(page["sheet"]).splitlines():
-        if line[0] == "|":
-            rows.append((padded(line[1:], columns), []))
+        if line[0] == ":":
+            lines[-1][2].append(padded(line[1:], len(lines[-1][1])))
         else:
-            rows[-1][1].append(padded(line[1:], columns))
+            codes, columns = CODES[line[0]], page.getint("columns")
+            lines.append((codes, padded(line[1:], columns if codes == [0] else (columns + 1) // 2), []))
     at = page.getint("start 1")
     cursor = 0
-    for row, marks in rows:
+    entries = []
+    for codes, row, marks in lines:
+        entries += [code << 14 | at for code in codes]
         for letter, *letters in zip(row, *marks):
             if "c" in letters:
                 cursor = at
             at = memory.put(at, letter, look(set(letters) - {" ", "c"}))
-    return len(rows), cursor
+    if "row codes" in page:
+        memory.table(page.getint("start 2"), entries)
+    elif any(codes != [0] for codes, _, _ in lines):
+        sys.exit(f"make: {page['sheet']} needs row codes")
+    return len(entries), cursor
 
 
 def phrases(page, memory, catalogue):

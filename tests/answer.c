@@ -12,7 +12,7 @@
 
 #include "feldrime.h"
 
-enum { LONGEST_FRAME = 826752, WORDS_IN_A_LINE = 8, BOARD_BYTES = 45 };
+enum { LONGEST_FRAME = 826752, WORDS_IN_A_LINE = 8, BOARD_BYTES = 46, MOST_ROWS = 128, CODES = 4 };
 
 static unsigned long script_line;
 
@@ -320,6 +320,7 @@ static feldrime_board unpacked(const uint8_t *from)
     b.place.beam.latch = (uint8_t)next_bytes(&from, 1);
     b.place.row.address = (uint16_t)next_bytes(&from, 2);
     b.place.row.latch = (uint8_t)next_bytes(&from, 1);
+    b.place.row.code = (uint8_t)next_bytes(&from, 1);
     b.pointer = (uint8_t)next_bytes(&from, 1);
     b.resets = (uint8_t)next_bytes(&from, 1);
     return b;
@@ -338,8 +339,8 @@ static const char *board_text(void)
     at += sprintf(at, "%08" PRIx32 "%02x%02x", board->page.video.dots, (unsigned)board->page.video.strike,
                   (unsigned)board->place.field);
     at += sprintf(at, "%08" PRIx32 "%08" PRIx32, board->place.line, board->place.clock);
-    at += sprintf(at, "%04x%02x%04x%02x", (unsigned)board->place.beam.address, (unsigned)board->place.beam.latch,
-                  (unsigned)board->place.row.address, (unsigned)board->place.row.latch);
+    at += sprintf(at, "%04x%02x%04x%02x%02x", (unsigned)board->place.beam.address, (unsigned)board->place.beam.latch,
+                  (unsigned)board->place.row.address, (unsigned)board->place.row.latch, (unsigned)board->place.row.code);
     sprintf(at, "%02x%02x", (unsigned)board->pointer, (unsigned)board->resets);
     return text;
 }
@@ -349,7 +350,7 @@ static void do_board(char **word)
     uint8_t packed[BOARD_BYTES];
 
     if (strlen(word[1]) != 2 * BOARD_BYTES)
-        fail("a board has 90 hex digits");
+        fail("a board has 92 hex digits");
     for (size_t i = 0; i < BOARD_BYTES; i++)
         packed[i] = (uint8_t)hex_digits(word[1] + 2 * i, 2);
     given = unpacked(packed);
@@ -371,35 +372,41 @@ struct handed {
 
 static const struct handed no_page = { "-", "-" };
 
-static const char *mode_of(uint8_t version, uint8_t switches)
+static const char *mode_of(uint8_t version, const uint8_t *irs, uint8_t switches)
 {
-    return version == 2 && (switches & 16) != 0 ? "field" : "character";
+    bool field = version == 2 && (switches & 16) != 0, codes = (irs[0] & 128) != 0, table = (irs[2] & 128) != 0;
+
+    if (codes && !table)
+        return "no-table";
+    if (codes)
+        return field ? "field+codes" : "character+codes";
+    return field ? "field" : "character";
 }
 
 static struct handed by_board(void)
 {
     const char *power = board->resets == 0 ? "inactive-0" : board->resets == 1 ? "inactive-1" : "active";
 
-    return (struct handed){ power, mode_of(board->page.version, board->page.switches) };
+    return (struct handed){ power, mode_of(board->page.version, board->page.irs, board->page.switches) };
 }
 
-/* By bytes that begin with a version and have the switches at this place. */
-static struct handed by_bytes(const uint8_t *bytes, size_t switches)
+/* By bytes that begin with a version and have the IRs at this place, and the switches 21 bytes after it. */
+static struct handed by_bytes(const uint8_t *bytes, size_t irs)
 {
     if (bytes[0] != 1 && bytes[0] != 2)
         return no_page;
-    return (struct handed){ "-", mode_of(bytes[0], bytes[switches]) };
+    return (struct handed){ "-", mode_of(bytes[0], bytes + irs, bytes[irs + 21]) };
 }
 
 static struct handed by_numbers(void)
 {
-    return lent[NUMBERS].bytes == FELDRIME_NUMBERS ? by_bytes(lent[NUMBERS].start, 22) : no_page;
+    return lent[NUMBERS].bytes == FELDRIME_NUMBERS ? by_bytes(lent[NUMBERS].start, 1) : no_page;
 }
 
 /* A file need not be whole, but hold all of a page's numbers. */
 static struct handed by_file(void)
 {
-    return lent[FILE_BYTES].bytes >= 29 ? by_bytes(lent[FILE_BYTES].start, 26) : no_page;
+    return lent[FILE_BYTES].bytes >= 29 ? by_bytes(lent[FILE_BYTES].start, 5) : no_page;
 }
 
 /* ---- reports ---- */
@@ -595,14 +602,49 @@ static void call_state_at(char **word)
 static uint32_t every;
 
 static struct {
+    const char *from; /* where the run began, */
+    uint8_t code;     /* and with which byte as the row's code */
     uint32_t done;
     uint64_t sum;
     feldrime_step_answer last;
 } steps;
 
+/* Scan lines in a row, rows, and cells in a row, by the IRs. */
+static uint32_t lines_in_row(void)
+{
+    return (board->page.irs[0] >> 3 & 15u) + 1;
+}
+
+static uint32_t rows_of_page(void)
+{
+    return (board->page.irs[4] & 127u) + 1;
+}
+
+static uint32_t columns_of_page(void)
+{
+    return board->page.irs[5] + 1u;
+}
+
+/* WHERE a run of steps begins. */
+static const char *begins(void)
+{
+    uint32_t clock = board->place.clock;
+    bool wide = (board->page.irs[0] & 128) != 0 && board->place.row.code % CODES != 0;
+
+    if (board->place.line >= rows_of_page() * lines_in_row() || clock >= columns_of_page())
+        return "off";
+    if (clock == 0)
+        return "load";
+    if (!wide)
+        return "plain";
+    return clock % 2 == 1 ? "right" : clock + 1 == columns_of_page() ? "last" : "left";
+}
+
 static void begin_steps(void)
 {
     memset(&steps, 0, sizeof steps);
+    steps.from = begins();
+    steps.code = board->place.row.code;
     steps.sum = sum_start;
 }
 
@@ -626,7 +668,7 @@ static void add_step(void)
     const uint32_t before[] = { a->refusal, a->beside, a->hsync, a->vsync, a->blank, a->cursor, a->blink, a->address };
     const uint32_t after[] = { board->place.field, board->place.line, board->place.clock,
                                board->place.beam.address, board->place.beam.latch,
-                               board->place.row.address, board->place.row.latch };
+                               board->place.row.address, board->place.row.latch, board->place.row.code };
 
     for (size_t i = 0; i < sizeof before / sizeof *before; i++)
         steps.sum = add(steps.sum, before[i]);
@@ -651,7 +693,8 @@ static bool step_once(void)
 
 static void report_steps(void)
 {
-    RESULTS(" sum %016" PRIx64 " %s board %s", steps.sum, shown_text(), board_text());
+    RESULTS(" from %s %u sum %016" PRIx64 " %s board %s", steps.from, (unsigned)steps.code, steps.sum, shown_text(),
+            board_text());
     report("step", by_board(), steps.last.refusal == 0 ? steps.done : 1, steps.last.refusal, steps.last.beside, of_step);
 }
 
@@ -667,25 +710,42 @@ static void call_step(char **word)
 
 /* ---- a whole frame ---- */
 
-/* What the steps showed on the active clocks, line by line. */
+/* What the steps showed on the active clocks, line by line; and what they met, counted by the code of the row. */
 static struct {
     feldrime_size size;
     uint32_t columns;
     uint8_t *dots;
     uint16_t *addresses;
+    uint8_t codes[MOST_ROWS];
+    uint32_t rows[CODES], wrapped[CODES], cursor[CODES], latched[CODES];
 } frame;
+
+/* A step that began on an active clock of this line, with this byte latched. */
+static void count_step(uint64_t line, uint64_t clock, uint8_t latch)
+{
+    uint8_t code = board->place.row.code % CODES;
+
+    if (clock == 0 && line % lines_in_row() == 0) {
+        frame.codes[line / lines_in_row() % MOST_ROWS] = code;
+        frame.rows[code]++;
+    }
+    frame.cursor[code] += steps.last.cursor;
+    frame.latched[code] += clock != 0 && latch != board->place.beam.latch;
+}
 
 static void frame_by_steps(void)
 {
     begin_steps();
     do {
         uint64_t line = board->place.line, clock = board->place.clock, dots = board->page.video.dots;
+        uint8_t latch = board->place.beam.latch;
         if (!step_once())
             break;
         if (line < frame.size.lines && clock < frame.columns && (clock + 1) * dots <= frame.size.dots
             && dots <= sizeof steps.last.dots) {
             memcpy(frame.dots + line * frame.size.dots + clock * dots, steps.last.dots, dots);
             frame.addresses[line * frame.columns + clock] = (uint16_t)steps.last.address;
+            count_step(line, clock, latch);
         }
     } while ((board->place.line != 0 || board->place.clock != 0) && steps.done != LONGEST_FRAME);
     report_steps();
@@ -721,14 +781,26 @@ static bool frame_as_picture(uint8_t field)
     return memcmp(lent[OUT].start, frame.dots, size) == 0;
 }
 
-/* True where the steps fetched these cells on each line of the row. */
+/* True where the steps showed these cells on each line of the row: each on one column, or on two where they are half as many. */
 static bool row_was_fetched(uint32_t row, uint32_t lines, uint32_t count)
 {
-    bool same = count == frame.columns;
+    uint32_t each = count == frame.columns ? 1 : 2;
+    bool same = count == (frame.columns + each - 1) / each;
 
     for (uint32_t line = row * lines; same && line < (row + 1) * lines; line++)
-        same = memcmp(lent[CELLS].start, frame.addresses + (size_t)line * count, count * sizeof *frame.addresses) == 0;
+        for (uint32_t column = 0; same && column < frame.columns; column++)
+            same = element(CELLS, column / each) == frame.addresses[(size_t)line * frame.columns + column];
     return same;
+}
+
+/* A row's cells, some of which may not follow one another. */
+static void count_row(uint32_t row, uint32_t count)
+{
+    bool wraps = false;
+
+    for (uint32_t i = 1; i < count && i < FELDRIME_CELLS; i++)
+        wraps = wraps || element(CELLS, i) != element(CELLS, i - 1) + 1;
+    frame.wrapped[frame.codes[row % MOST_ROWS]] += wraps;
 }
 
 static bool frame_by_rows(void)
@@ -743,11 +815,30 @@ static bool frame_by_rows(void)
         for (uint32_t i = 0; i < answer.count && i < FELDRIME_CELLS; i++)
             sum = add(sum, element(CELLS, i));
         same = same && row_was_fetched(done, frame.size.lines / rows, answer.count);
+        count_row(done, answer.count);
         done++;
     }
     RESULTS(" sum %016" PRIx64, sum);
     report("row_cells", by_numbers(), answer.refusal == 0 ? done : 1, answer.refusal, answer.beside, of_cells);
     return same && done == rows;
+}
+
+static void print_counts(const char *name, const uint32_t counts[CODES])
+{
+    printf(" %s", name);
+    for (int code = 0; code < CODES; code++)
+        printf(" %" PRIu32, counts[code]);
+}
+
+static void report_frame(bool agree)
+{
+    printf("frame %" PRIu32 " %s %s dots %" PRIu32 " columns %" PRIu32 " lines %" PRIu32, steps.done,
+           agree ? "agree" : "differ", by_board().mode, board->page.video.dots, columns_of_page(), lines_in_row());
+    print_counts("rows", frame.rows);
+    print_counts("wrapped", frame.wrapped);
+    print_counts("cursor", frame.cursor);
+    print_counts("latched", frame.latched);
+    printf("\n");
 }
 
 static void do_frame(char **word)
@@ -756,6 +847,7 @@ static void do_frame(char **word)
     bool lines, picture, rows;
 
     (void)word;
+    memset(&frame, 0, sizeof frame);
     frame.size = page_size();
     if (frame.size.refusal != 0)
         return;
@@ -768,7 +860,7 @@ static void do_frame(char **word)
     lines = frame_by_lines(field);
     picture = frame_as_picture(field);
     rows = frame_by_rows();
-    printf("frame %" PRIu32 " %s\n", steps.done, lines && picture && rows ? "agree" : "differ");
+    report_frame(lines && picture && rows);
     free(frame.dots);
     free(frame.addresses);
 }

@@ -7,6 +7,26 @@ shows() {  # shows FILE TEXT: a file of the site has this text
     grep -qF -- "$2" "$site/$1" || say "$1 does not say: $2"
 }
 
+told() {  # told COUNT STEM LINE: so many lines of a web page are this one
+    local count
+    count=$(grep -cxF -- "$3" "$site/$2.html") || true
+    [ "$count" -eq "$1" ] || say "$2.html has $count lines, not $1: $3"
+}
+
+# a headline is told once in each text; in the first, the picture's alternative, its line begins with more
+shows headline.html "<title>AVALANCHE WARNING</title>"
+told 1 headline " AVALANCHE WARNING"
+# row 1, whose entry is in cells 8194 and 8195, as a top half again, or as the bottom half of other cells: then each row is told
+mkdir "$work/halves"
+cp samples/headline.page "$work/halves/tops.page"
+printf '\x83' | dd of="$work/halves/tops.page" bs=1 seek=$((29 + 8195)) conv=notrunc status=none
+cp samples/headline.page "$work/halves/beside.page"
+printf '\xf3' | dd of="$work/halves/beside.page" bs=1 seek=$((29 + 8194)) conv=notrunc status=none
+ends 0 "$site/tops.html" "${feldrime[@]}" site "$font" "$site" "$work"/halves/*.page
+told 3 tops " AVALANCHE WARNING"
+told 1 beside " AVALANCHE WARNING"
+told 2 beside "AVALANCHE WARNING"
+
 # pages that are refused, two of one name, and names that a web page could not carry
 mkdir "$work/pages" "$work/more"
 cp "$page" "$work/pages/bulletin-fr.page"

@@ -42,6 +42,22 @@ ends 0 "warning.page: a page of 23 rows and 64 columns, 576 x 322 dots, field mo
 { head -c 26 "$latching"; printf '\1'; tail -c +28 "$latching"; } > "$work/character.page"
 ends 0 "character.page: a page of 23 rows and 64 columns, 576 x 322 dots" "${feldrime[@]}" check "$work/character.page"
 [[ $said != *"field mode"* ]] || say "a page of version 2 in character mode is told as one in field mode"
+ends 0 "headline.page: a page of 12 rows and 48 columns, 432 x 168 dots" "${feldrime[@]}" check samples/headline.page
+# every row of double width: the high bytes of its entries, in every other cell from 8193 on, become 40 hex
+cp samples/headline.page "$work/wide.page"
+for row in {0..11}; do
+    printf '\x40' | dd of="$work/wide.page" bs=1 seek=$((29 + 8193 + 2 * row)) conv=notrunc status=none
+done
+ends 0 "wide.page: a page of 12 rows and 48 columns, 432 x 168 dots" "${feldrime[@]}" check "$work/wide.page"
+# byte 5 is IR0, byte 6 IR1 and byte 7 IR2
+while read -r place bytes; do
+    cp "$page" "$work/reserved.page"
+    printf "$bytes" | dd of="$work/reserved.page" bs=1 seek="$place" conv=notrunc status=none
+    for word in check rows; do
+        ends 1 "refused 4, interlace (IR1[7]) is set, or row codes (IR0[7]) without the row table (IR2[7])" "${feldrime[@]}" "$word" "$work/reserved.page"
+    done
+done <<< '5 \xe8\x11\x1a
+6 \x91'
 ends 0 "deck.font: a font" "${feldrime[@]}" check "$page" "$font"
 head -c 100 "$font" > "$work/short.font"
 ends 1 "short.font: refused 2, " "${feldrime[@]}" check "$page" "$work/short.font"

@@ -180,8 +180,8 @@ static void tick(void)
         answers(&a, &b, sizeof a, b.refusal, "feldrime_tick answers otherwise");
         expect(ours.place.line == theirs.place.line && ours.place.clock == theirs.place.clock
                    && ours.place.beam.address == theirs.place.beam.address
-                   && ours.place.beam.latch == theirs.place.beam.latch,
-               "feldrime_tick: the board stands elsewhere, or has another byte latched");
+                   && ours.place.beam.latch == theirs.place.beam.latch && ours.place.row.code == theirs.place.row.code,
+               "feldrime_tick: the board stands elsewhere, or has another byte latched or another row code");
     }
     memcpy(page.numbers, numbers, sizeof numbers);
 }

@@ -1,8 +1,12 @@
 #!/usr/bin/env python3
-"""rows.py COMMAND..: what the program's word `rows` prints, beside a walk of its own, for the samples and for pages of dice.
+"""rows.py COMMAND..: what the program's word `rows` prints, beside a walk of its own, for the samples and for pages of dice; and the texts
+of the word `site`, beside a reading of its own, for pages of dice with row codes.
 
 The samples' text is also compared with the texts that they are made of."""
+import html
+import pathlib
 import random
+import re
 import subprocess
 import sys
 import tempfile
@@ -13,36 +17,83 @@ import pages
 def printed(command, name):
     done = subprocess.run([*command, "rows", name], capture_output=True, encoding="ascii", check=True)
     head, *lines = done.stdout.splitlines()
-    if head.split() != ["row", "from", "cells", "text"]:
+    sized = pathlib.Path(name).read_bytes()[5] >> 7
+    if head.split() != ["row", "from", *["size"] * sized, "cells", "text"]:
         sys.exit(f"rows: the head is {head}")
     for line in lines:
         place, text = line.split("|", 1)
-        number, rest = place.split(None, 1)
-        origin, cells = rest.rsplit(None, 1)
-        yield int(number), origin.strip(), cells, text
+        cells = head.index("cells")
+        size = head.index("size") if sized else cells
+        yield int(place[:5]), place[5:size].strip(), place[size:cells].strip(), place[cells:].strip(), text
 
 
 def dice_page(dice):
-    """An accepted page, of version 1 or 2. Half have a row table, and small buffers make rows that show cells twice."""
+    """An accepted page, of version 1 or 2. Half have a row table, half of these with row codes, and small buffers make rows that show
+    cells twice."""
     irs = bytearray(dice.randbytes(15))
-    irs[0] &= 127
     irs[1] = 127
     irs[2] = dice.choice((0, 128)) | 1
+    irs[0] &= 127 | irs[2]
     irs[9] = dice.choice((0, 0, 16, 240)) | irs[9] & dice.choice((0, 3, 15))
     starts = b"".join(dice.choice((0, 1000, 16380, dice.randrange(16384))).to_bytes(2, "big") for _ in range(3))
     version, switches = dice.choice(((1, 1), (2, 1), (2, 17), (2, 49)))
     return bytes([version, 0, 0, 128, 24]) + irs + starts + bytes([switches, 8, 5]) + dice.randbytes(2 * pages.MEMORY)
 
 
+def headline_page(dice):
+    """An accepted page with row codes, small, of version 1 or 2. Its rows begin at few cells, so that some are halves of the same ones.
+    Most cells have a character, and many are struck."""
+    irs = bytearray(dice.randbytes(15))
+    irs[0] |= dice.choice((128, 192))
+    irs[1], irs[2], irs[4], irs[5], irs[9] = 127, 129, irs[4] & 128 | 11, dice.randrange(12), 0
+    version, switches = dice.choice(((1, 1), (1, 7), (2, 3), (2, 17), (2, 49)))
+    starts = b"".join(start.to_bytes(2, "big") for start in (0, 501, 8192))
+    chars = bytearray(byte | byte << 1 & 128 for byte in dice.randbytes(pages.MEMORY))
+    for row in range(12):
+        entry = dice.choice((500, 500, 1020)) | dice.choice((0, 1, 2, 2, 3, 3)) << 14
+        chars[8192 + 2 * row:8194 + 2 * row] = entry.to_bytes(2, "little")
+    attrs = bytes(dice.choice((0, 0, 160, 128 | dice.randrange(64) & dice.randrange(64))) for _ in range(1024))
+    numbers = bytes([switches, dice.randrange(6, 13), dice.randrange(16)])
+    return bytes([version, 0, 0, 128, 24]) + irs + starts + numbers + chars + attrs.ljust(pages.MEMORY, b"\0")
+
+
+def headlines(page):
+    """For each row that is a top half whether the next one is its bottom half."""
+    rows = [(code, cells) for _, code, cells in pages.walk(page)]
+    return {rows[i + 1:i + 2] == [(3, cells)] for i, (code, cells) in enumerate(rows) if code == 2}
+
+
+def wrong_readings(command, count=40):
+    """How many texts of a site are not what is read in its pages. Both headlines and halves alone have to be met."""
+    dice, font, wrong, met = random.Random(2), pages.SAMPLES / "deck.font", 0, set()
+    with tempfile.TemporaryDirectory() as folder:
+        files = [pathlib.Path(folder, f"dice{number}.page") for number in range(count)]
+        for file in files:
+            file.write_bytes(headline_page(dice))
+        subprocess.run([*command, "site", font, folder, *files], stdout=subprocess.DEVNULL, check=True)
+        for file in files:
+            page, web_page = file.read_bytes(), file.with_suffix(".html").read_text("utf-8")
+            wanted = pages.text_of(pages.picture_lines(page, font.read_bytes()), "[struck out: ", "]")
+            got = html.unescape(re.search(r'<img [^>]*alt="([^"]*)"', web_page)[1])
+            if got != (wanted if wanted.strip() else "The picture shows no text."):
+                print(f"rows: the text of {file.name} is {got!r}, not {wanted!r}")
+                wrong += 1
+            met |= headlines(page)
+    if met != {False, True}:
+        print("rows: the pages of dice have only headlines or only halves alone")
+        wrong += 1
+    return wrong
+
+
 def main(command):
-    wrong = 0
+    wrong = wrong_readings(command)
     for path in sorted(pages.SAMPLES.glob("*.page")):
         got, wanted = list(printed(command, path)), pages.rows_listing(path.read_bytes())
-        if got != wanted or [row[3] for row in got] != pages.typed_rows(path.stem):
+        if got != wanted or [row[4] for row in got] != pages.typed_rows(path.stem):
             print(f"rows: {path.name} differs")
             wrong += 1
     dice = random.Random(1)
-    marked = 0
+    marked = coded = 0
     with tempfile.NamedTemporaryFile() as file:
         for number in range(60):
             page = dice_page(dice)
@@ -50,12 +101,16 @@ def main(command):
             file.write(page)
             file.flush()
             got = list(printed(command, file.name))
-            marked += any("*" in row[2] for row in got)
+            marked += any("*" in row[3] for row in got)
+            coded += page[5] >> 7
             if got != pages.rows_listing(page):
                 print(f"rows: page {number} of dice differs")
                 wrong += 1
     if not 0 < marked < 60:
         print(f"rows: {marked} of 60 pages have marked cells, which tries only one of the two")
+        wrong += 1
+    if not 0 < coded < 60:
+        print(f"rows: {coded} of 60 pages have rows with codes, which tries only one of the two")
         wrong += 1
     return 1 if wrong else 0
 

@@ -122,7 +122,7 @@ def main(folder, *command):
     folder = pathlib.Path(folder)
     names = sorted(path.stem for path in pages.SAMPLES.glob("*.page"))
     counts = {name: web_page(folder, name, command) for name in names}
-    same("looks", counts, dict.fromkeys(names, 1) | {"sheet": 3, "warning": 2, "brackets": 2, "fr": 2})
+    same("looks", counts, dict.fromkeys(names, 1) | {"sheet": 3, "warning": 2, "brackets": 2, "headline": 2, "fr": 2})
     index = Reader(folder / "index.html")
     local(folder, index)
     same("index", [a["href"] for a in index.all("a")], [f"{name}.html" for name in names])

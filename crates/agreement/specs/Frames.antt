@@ -12,7 +12,7 @@ use Rattle.raster.specs.Tick.{by-frame}
 use Rattle.raster.specs.Raster.{Good, scanAt}
 use Rattle.raster.specs.Frame.{frame→, frame←}
 use Rattle.raster.specs.Cells.{cells-inside}
-use Rattle.raster.specs.Beams.{beam}
+use Rattle.raster.specs.Beams.{row}
 use Rattle.board.specs.declared.Board.{Board}
 use Rattle.timing.specs.Fields.{htOf, vtOf, hactOf, linesOf, visibleOf, tableOf, bufferOf, countsOf}
 use Rattle.timing.specs.Laws.{accepted-good, buffer-bounded, frame-bound}
@@ -50,8 +50,8 @@ module _ (b : Board) (chars attrs : List ℕ) (f : Font) (ok : stepCheck b chars
       let counts = countsIn (b .page) in
       let rows = rowsIn (b .page) chars attrs in
       record {
-        ends = λ e. rw at-n (frame→ counts rows good (beam 0 0) n (rw frame-product at e));
-        nowhere-else = λ p q. rw frame-product (frame← counts rows good (beam 0 0) n (rw at-n at p) (rw at-n at q));
+        ends = λ e. rw at-n (frame→ counts rows good (row 0 0 0) n (rw frame-product at e));
+        nowhere-else = λ p q. rw frame-product (frame← counts rows good (row 0 0 0) n (rw at-n at p) (rw at-n at q));
         counted = rw (at-n, frame-product) (ap (λ (x : ℕ). x % 256) (sym (by-frame n (htOf (b .page .irs)) (vtOf (b .page .irs)))));
       }
 
@@ -61,7 +61,7 @@ module _ (b : Board) (chars attrs : List ℕ) (f : Font) (ok : stepCheck b chars
   cells-stay : tableOf (b .page .irs) ≡ false → Inside (bufferOf (b .page .irs)) (b .page .starts .start1)
       → (r c : ℕ) → Inside (bufferOf (b .page .irs)) (cellAt (b .page) chars r c)
   unfolding cellAt
-  cells-stay t i r c = cells-inside (feedIn (b .page) chars) (tallyIn (b .page)) t (buffer-bounded (b .page .irs) .last-lt) i r c
+  cells-stay t i r c = cells-inside (feedIn (b .page) chars) (tallyIn (b .page) chars) t (buffer-bounded (b .page .irs) .last-lt) i r c
 
   -- table off, first ≤ screen start 1 ≤ last: line l of frame k fetches nothing outside that range
   pub record Stays (k l : ℕ) : Type 0 where

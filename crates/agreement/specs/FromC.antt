@@ -1,7 +1,7 @@
 -- The sentence for which the project exists, as its users call it. A generator draws whole lines with `feldrime_line_draw` from a page's 32 numbers; an editor
 -- makes a board of the same numbers with `feldrime_board_of` and takes it from clock to clock with `feldrime_step`. Both show the same cells and the same dots.
 -- All of it speaks of the definitions that the contracts of these calls cite, over the same numbers, memories and font parts. Assumes nothing.
-use Prim.Native.Nat.{ℕ, zero, suc, _+_, _*_, _/_, _%_, _≤_, _<_}
+use Prim.Native.Nat.{ℕ, zero, suc, _+_, _*_, _%_, _≤_, _<_}
 use mathlib.Core.Path.{_≡_, refl, sym, ap, _∙_}
 use mathlib.Core.Bool.{Bool, true, false}
 use mathlib.Core.List.{List, _++_}
@@ -19,15 +19,15 @@ use Rattle.board.specs.declared.Board.{Board}
 use Rattle.timing.specs.Fields.{hactOf, linesOf, rowsOf, visibleOf, tableOf}
 use Rattle.timing.specs.Check.{pageCheck, sizeOf}
 use Rattle.timing.specs.Laws.{call-passed}
-use Rattle.fetch.specs.Rows.{entryOf}
+use Rattle.fetch.specs.Rows.{entryOf, fetchedOf}
 use Rattle.fetch.specs.Run.{spanOf}
 use Rattle.fetch.specs.RowCells.{cellsPut}
 use Rattle.fetch.specs.Laws.{span-number}
 use Rattle.latch.specs.Held.{heldAt}
 use Rattle.shape.specs.Font.{Font, fontOf}
-use Rattle.line.specs.Line.{lineLength, drawCheck, drawnOf}
+use Rattle.line.specs.Line.{rowFor, lineLength, drawCheck, drawnOf}
 use Rattle.picture.specs.Picture.{picturedOf}
-use Rattle.video.specs.At.{scanOf, dotsAt, lentRefused}
+use Rattle.video.specs.At.{lentRefused}
 use Rattle.step.specs.Step.{steppedOf, stepCheck, stepOf}
 use Rattle.place.specs.State.{stateOf}
 use Rattle.files.specs.Page.{pageAt}
@@ -44,9 +44,9 @@ use Rattle.feldrime.specs.RowCells.{cellsFor, cellsPutFor}
 use Rattle.feldrime.specs.Step.{numbered, stepNumbers}
 use Rattle.agreement.specs.Steps.{call-ok, call-page, after, step-answers, at-once-anywhere}
 use Rattle.agreement.specs.Files.{zero-ok}
-use Rattle.agreement.specs.Lines.{clockOf, DrawnFrom, draw-answers, same-line}
+use Rattle.agreement.specs.Lines.{clockOf, shownAt, DrawnFrom, draw-answers, same-line}
 use Rattle.agreement.specs.Pictures.{picture-answers, picture-by-lines, picture-by-steps, picture-from-cells}
-use Rattle.agreement.specs.Rows.{lineOf, follows, Shown, row-from-table, row-from-start, run-answers, run-shown, cells-shown}
+use Rattle.agreement.specs.Rows.{lineOf, follows, nthCell, nthColumn, Shown, row-from-table, row-from-start, run-answers, run-shown, cells-shown}
 
 -- a refusal whose number is 0 is none
 pub zero-done : (r : Refusal) → numberOf r ≡ 0 → r ≡ Done
@@ -233,7 +233,7 @@ module _ (numbers chars attrs words flags unshifted shifted : List ℕ) where
     abbrev pub DrawnFromC : (line : ℕ) → (address : ℕ → ℕ) → Type 0
     DrawnFromC line address = (field : ℕ) (out : List ℕ) → sizeFor numbers .dots ≤ length out
         → drawnC line field out
-        ≡ joined 0 (hactOf (b .page .irs)) (λ c. dotsAt b chars attrs f (scanOf (line % linesOf (b .page .irs))) field (heldAt (b .page) chars attrs (line / linesOf (b .page .irs)) c) (address c))
+        ≡ joined 0 (hactOf (b .page .irs)) (λ c. shownAt b chars attrs f line field c (heldAt (b .page) chars attrs (rowFor b line) c) (address c))
         ++ drop (sizeFor numbers .dots) out
 
     drawn-from-c : (line : ℕ) (address : ℕ → ℕ) → DrawnFrom b chars attrs f line address → DrawnFromC line address
@@ -242,9 +242,9 @@ module _ (numbers chars attrs words flags unshifted shifted : List ℕ) where
     -- line l of row r, where the row's cells follow from an address: the addresses that feldrime_step answers in every frame, and the cells whose dots
     -- feldrime_line_draw puts
     pub record ShownC (r l start : ℕ) : Type 0 where
-      pub stepped : (k c : ℕ) → c < hactOf (b .page .irs) → stepC (clockOf b k (lineOf b r l) c) .address ≡ follows b start c
+      pub stepped : (k c : ℕ) → c < hactOf (b .page .irs) → stepC (clockOf b k (lineOf b r l) c) .address ≡ follows b start (nthCell b chars r c)
       pub draw-done : (room : ℕ) → sizeFor numbers .dots ≤ room → drawC (lineOf b r l) room ≡ answerOf Done
-      pub drawn : DrawnFromC (lineOf b r l) (follows b start)
+      pub drawn : DrawnFromC (lineOf b r l) (λ c. follows b start (nthCell b chars r c))
 
     module _ (r l : ℕ) (hr : r < rowsOf (b .page .irs)) (hl : l < linesOf (b .page .irs)) where
       shown-from-c : (start : ℕ) → Shown b chars attrs f step-ok r l hr hl start → ShownC r l start
@@ -252,7 +252,7 @@ module _ (numbers chars attrs words flags unshifted shifted : List ℕ) where
       shown-from-c start s = record {
         stepped = λ k c h. rw (steps-from-c (clockOf b k (lineOf b r l) c)) (s .stepped k c h);
         draw-done = draw-answers-from-c (lineOf b r l) (rw size-from-c (digits-lt hr hl));
-        drawn = drawn-from-c (lineOf b r l) (follows b start) (s .drawn);
+        drawn = drawn-from-c (lineOf b r l) _ (s .drawn);
       }
 
       -- with the row table on they follow from the row's own entry, whatever the rest of memory holds
@@ -270,21 +270,21 @@ module _ (numbers chars attrs words flags unshifted shifted : List ℕ) where
           let done : s .refusal ≡ Done = span-number b chars r s refl ∙ run-answers b chars attrs f step-ok r l hr hl in
           rw (numbers-passed numbers check-ok) (ap (λ (x : Refusal). runAnswer x (s .start) (s .count)) done)
 
-      -- the run that feldrime_row_run answers is what the row's first columns fetch, cell after cell
+      -- the run that feldrime_row_run answers is what the row fetches first, cell after cell
       pub run-from-c : (runFor numbers chars r .refusal ≡ 0)
-          × ((k c : ℕ) → c < runFor numbers chars r .count → stepC (clockOf b k (lineOf b r l) c) .address ≡ runFor numbers chars r .first + c)
+          × ((k i : ℕ) → i < runFor numbers chars r .count → stepC (clockOf b k (lineOf b r l) (nthColumn b chars r i)) .address ≡ runFor numbers chars r .first + i)
       unfolding numbered
-      run-from-c = rw run-is (refl, λ k c h. rw (steps-from-c (clockOf b k (lineOf b r l) c)) (run-shown b chars attrs f step-ok r l hr hl k c h))
+      run-from-c = rw run-is (refl, λ k i h. rw (steps-from-c (clockOf b k (lineOf b r l) (nthColumn b chars r i))) (run-shown b chars attrs f step-ok r l hr hl k i h))
 
-      -- a buffer with room for any row: what feldrime_row_cells leaves there are, column by column, the addresses that feldrime_step answers on the line's active
-      -- clocks in every frame, and elements beyond stay; at these addresses are the cells whose dots feldrime_line_draw puts; the first of them are the run that
+      -- a buffer with room for any row: what feldrime_row_cells leaves there are, cell by cell, the addresses that feldrime_step answers on the columns that fetch
+      -- them, on the line's active clocks in every frame, and elements beyond stay; at these addresses are the cells whose dots feldrime_line_draw puts; the first of them are the run that
       -- feldrime_row_run answers
       pub record CellsShownC (cells : List ℕ) : Type 0 where
-        pub answered : cellsFor numbers chars r (length cells) ≡ cellsAnswer Done (hactOf (b .page .irs))
+        pub answered : cellsFor numbers chars r (length cells) ≡ cellsAnswer Done (fetchedOf (b .page) chars r)
         pub stepped : (k : ℕ) → cellsPutFor numbers chars r cells
-            ≡ tab (hactOf (b .page .irs)) (λ c. stepC (clockOf b k (lineOf b r l) c) .address) ++ drop (hactOf (b .page .irs)) cells
-        pub drawn : DrawnFromC (lineOf b r l) (λ c. getD (cellsPutFor numbers chars r cells) c 0)
-        pub begun : (c : ℕ) → c < runFor numbers chars r .count → getD (cellsPutFor numbers chars r cells) c 0 ≡ runFor numbers chars r .first + c
+            ≡ tab (fetchedOf (b .page) chars r) (λ i. stepC (clockOf b k (lineOf b r l) (nthColumn b chars r i)) .address) ++ drop (fetchedOf (b .page) chars r) cells
+        pub drawn : DrawnFromC (lineOf b r l) (λ c. getD (cellsPutFor numbers chars r cells) (nthCell b chars r c) 0)
+        pub begun : (i : ℕ) → i < runFor numbers chars r .count → getD (cellsPutFor numbers chars r cells) i 0 ≡ runFor numbers chars r .first + i
 
       cells-are : (cells : List ℕ) → cellsPutFor numbers chars r cells ≡ cellsPut b chars r cells
       unfolding cellsPutFor
@@ -297,8 +297,8 @@ module _ (numbers chars attrs words flags unshifted shifted : List ℕ) where
           record {
             answered = rw (numbers-passed numbers check-ok, s .answered);
             stepped = λ k. cells-are cells ∙ s .stepped k
-                ∙ ap (λ (x : List ℕ). x ++ drop (hactOf (b .page .irs)) cells)
-                (same-tab (hactOf (b .page .irs)) _ _ (λ c h. ap (λ (x : Board). stepOf x chars attrs f .address) (sym (steps-from-c (clockOf b k (lineOf b r l) c)))));
+                ∙ ap (λ (x : List ℕ). x ++ drop (fetchedOf (b .page) chars r) cells)
+                (same-tab (fetchedOf (b .page) chars r) _ _ (λ i h. ap (λ (x : Board). stepOf x chars attrs f .address) (sym (steps-from-c (clockOf b k (lineOf b r l) (nthColumn b chars r i))))));
             drawn = rw (cells-are cells) (drawn-from-c (lineOf b r l) _ (s .drawn));
             begun = rw (cells-are cells, run-is) (s .begun);
           }
@@ -307,7 +307,7 @@ module _ (numbers chars attrs words flags unshifted shifted : List ℕ) where
     pub picture-from-cells-from-c : (field : ℕ) (cells : List ℕ) → 256 ≤ length cells → (out : List ℕ) → sizeFor numbers .lines * sizeFor numbers .dots ≤ length out
         → picturedC field out
         ≡ joined 0 (rowsOf (b .page .irs)) (λ r. joined 0 (linesOf (b .page .irs)) (λ l.
-        joined 0 (hactOf (b .page .irs)) (λ c. dotsAt b chars attrs f (scanOf l) field (heldAt (b .page) chars attrs r c) (getD (cellsPutFor numbers chars r cells) c 0))))
+        joined 0 (hactOf (b .page .irs)) (λ c. shownAt b chars attrs f (lineOf b r l) field c (heldAt (b .page) chars attrs r c) (getD (cellsPutFor numbers chars r cells) (nthCell b chars r c) 0))))
         ++ drop (sizeFor numbers .lines * sizeFor numbers .dots) out
     unfolding cellsPutFor
     picture-from-cells-from-c field cells wide out room =

@@ -9,9 +9,11 @@ pub mod Steps
 pub mod Lines
 pub mod Frames
 pub mod Rows
+pub mod Plain
 pub mod Before
 pub mod Porches
 pub mod Pictures
+pub mod Tall
 pub mod FromC
 pub mod FilesFromC
 pub mod Numbers

@@ -6,34 +6,37 @@ use mathlib.Core.List.{List, _++_}
 use native.Mathlib.Omega.{arith}
 use borrow.Author.Tests.{lt-ltb, lt-leb, le-ltb}
 use lib.Arith.{digits-div, digits-mod}
+use lib.Dec.{eqb}
 use lib.ListN.{length, take, drop}
 use lib.Seq.{take-at}
 use Rattle.lists.specs.Join.{joined, same-joined}
 use Rattle.refusal.specs.declared.Refusal.the-variants.{Done}
-use Rattle.raster.specs.declared.Beam.{Beam}
-use Rattle.raster.specs.Raster.{Pair, pair, loaded, scanAt}
+use Rattle.raster.specs.declared.Row.{Row}
+use Rattle.raster.specs.Raster.{Pair, Scan, loaded, scanAt}
 use Rattle.raster.specs.Agree.{loaded-meets}
 use Rattle.raster.specs.Latch.{setsOf}
-use Rattle.raster.specs.Beams.{beam, validAt}
+use Rattle.raster.specs.Wide.{isWide, againAt}
+use Rattle.raster.specs.Beams.{row, validAt}
 use Rattle.board.specs.declared.Page.{Page}
 use Rattle.board.specs.declared.Place.{Place}
 use Rattle.board.specs.declared.Board.{Board}
 use Rattle.board.specs.Modes.{fieldMode}
 use Rattle.timing.specs.Fields.{htOf, vtOf, hactOf, linesOf, visibleOf, countsOf}
 use Rattle.timing.specs.Laws.{accepted-good}
-use Rattle.fetch.specs.Rows.{cellAt}
+use Rattle.fetch.specs.Rows.{codeAt, cellAt}
 use Rattle.latch.specs.Held.{heldAt}
 use Rattle.shape.specs.Font.{Font}
 use Rattle.video.specs.Scene.{sceneOf}
 use Rattle.line.specs.Length.{length-dots}
-use Rattle.line.specs.Line.{columnDots, lineDots, lineLength, drawCheck, drawnOf}
-use Rattle.video.specs.At.{scanOf, scanDots, dotsAt, lentRefused}
+use Rattle.line.specs.Line.{rowFor, codeFor, scanFor, columnDots, lineDots, lineLength, drawCheck, drawnOf}
+use Rattle.video.specs.Cell.{columnOf}
+use Rattle.video.specs.At.{scanDots, dotsAt, lentRefused}
 use Rattle.place.specs.declared.Carried.{Carried}
-use Rattle.place.specs.Place.{countsIn, carrierIn, rowsIn, carriedOf, settledIn, activeAt, loadedIn, placeAt}
+use Rattle.place.specs.Place.{rasterOf, countsIn, carrierIn, rowsIn, carriedOf, settledIn, activeAt, loadedIn, placeAt}
 use Rattle.place.specs.Settled.{at-settled}
 use Rattle.step.specs.Signals.{padded, clockDots}
 use Rattle.step.specs.Step.{steppedOf, stepCheck, stepOf}
-use Rattle.agreement.specs.Steps.{after, fits, lawful, atClock, step-is, steps-are}
+use Rattle.agreement.specs.Steps.{after, fits, lawful, raster-at, atClock, step-is, steps-are}
 
 -- line l of frame k, and clock c of it, counted from clock 0
 unfoldable pub lineCount : Board → (k l : ℕ) → ℕ
@@ -46,36 +49,43 @@ clockOf b k l c = lineCount b k l * htOf (b .page .irs) + c
 abbrev pub addressAt : Board → (chars attrs : List ℕ) → Font → (k l c : ℕ) → ℕ
 addressAt b chars attrs f k l c = stepOf (after b chars attrs f (clockOf b k l c)) chars attrs f .address
 
+-- the dots of a column of a line, where held is valid before it and it shows the cell at an address
+abbrev pub shownAt : Board → (chars attrs : List ℕ) → Font → (line field c held address : ℕ) → List ℕ
+shownAt b chars attrs f line field c held a =
+    columnOf (isWide (codeFor b chars line)) (eqb (c % 2) 1) (dotsAt b chars attrs f (scanFor b chars line) field (againAt (codeFor b chars line) c) held a)
+
 -- what is drawn of a line, in any field and into any buffer that has room, is the dots of the cells at these addresses, end to end; bytes beyond stay.
 -- Beside its own bytes a cell's dots depend on what is valid before it: in field mode on the cells that were fetched before it in the frame, those of the rows
 -- above too (`latch` Held); in character mode on nothing (`plain-row` in Rows)
 abbrev pub DrawnFrom : Board → (chars attrs : List ℕ) → Font → (line : ℕ) → (address : ℕ → ℕ) → Type 0
 DrawnFrom b chars attrs f line address = (field : ℕ) (out : List ℕ) → lineLength b ≤ length out
     → drawnOf b chars attrs f line field out
-    ≡ joined 0 (hactOf (b .page .irs)) (λ c. dotsAt b chars attrs f (scanOf (line % linesOf (b .page .irs))) field (heldAt (b .page) chars attrs (line / linesOf (b .page .irs)) c) (address c))
+    ≡ joined 0 (hactOf (b .page .irs)) (λ c. shownAt b chars attrs f line field c (heldAt (b .page) chars attrs (rowFor b line) c) (address c))
     ++ drop (lineLength b) out
 
 loaded-visible : (p : Page) (chars attrs : List ℕ) (q : Place) → settledIn p q ≡ q → q .line .0 < visibleOf (p .irs) .0
-    → loadedIn p chars q ≡ carriedOf (loaded (countsIn p) (carrierIn p chars (setsOf (fieldMode p) attrs)) (q .line .0) (q .clock .0) (pair (q .beam) (q .row)))
+    → loadedIn p chars q ≡ carriedOf (loaded (countsIn p) (carrierIn p chars (setsOf (fieldMode p) attrs)) (q .line .0) (q .clock .0) (rasterOf q .carried))
 unfolding loadedIn loaded countsOf
 loaded-visible p chars attrs q s h =
     rw (lt-ltb (q .line .0) (visibleOf (p .irs) .0) h)
-    (ap (λ (x : Place). carriedOf (loaded (countsIn p) (carrierIn p chars (setsOf (fieldMode p) attrs)) (q .line .0) (q .clock .0) (pair (x .beam) (x .row)))) s)
+    (ap (λ (x : Place). carriedOf (loaded (countsIn p) (carrierIn p chars (setsOf (fieldMode p) attrs)) (q .line .0) (q .clock .0) (rasterOf x .carried))) s)
 
 module _ (b : Board) (chars attrs : List ℕ) (f : Font) (ok : stepCheck b chars attrs f ≡ Done) where
   -- what the step at clock n works on in a visible line
   beam-at : (n : ℕ) → n / htOf (b .page .irs) % vtOf (b .page .irs) < visibleOf (b .page .irs) .0
       → loadedIn (b .page) chars (placeAt (b .page) chars attrs n) .beam
-      ≡ beam (cellAt (b .page) chars (n / htOf (b .page .irs) % vtOf (b .page .irs) / linesOf (b .page .irs)) (n % htOf (b .page .irs)))
+      ≡ row (cellAt (b .page) chars (n / htOf (b .page .irs) % vtOf (b .page .irs) / linesOf (b .page .irs)) (n % htOf (b .page .irs)))
       (heldAt (b .page) chars attrs (n / htOf (b .page .irs) % vtOf (b .page .irs) / linesOf (b .page .irs)) (n % htOf (b .page .irs)))
+      (codeAt (b .page) chars (n / htOf (b .page .irs) % vtOf (b .page .irs) / linesOf (b .page .irs)))
   unfolding placeAt scanAt cellAt heldAt validAt countsOf
   beam-at n h =
       let p = b .page in
       let page = fits b chars attrs f ok .page in
       ap (λ (x : Carried). x .beam) (loaded-visible p chars attrs (placeAt p chars attrs n) (at-settled p chars attrs n) h)
-      ∙ ap (λ (x : Pair Beam). x .beam)
+      ∙ ap (λ (s : Scan Row). loaded (countsIn p) (carrierIn p chars (setsOf (fieldMode p) attrs)) (n / htOf (p .irs) % vtOf (p .irs)) (n % htOf (p .irs)) (s .carried) .beam) (raster-at p chars attrs page n)
+      ∙ ap (λ (x : Pair Row). x .beam)
       (loaded-meets (countsIn p) (carrierIn p chars (setsOf (fieldMode p) attrs)) (rowsIn p chars attrs) (accepted-good p page) (lawful p chars attrs page)
-      (beam 0 0) (n % htOf (p .irs)) (n / htOf (p .irs) % vtOf (p .irs)) (n / htOf (p .irs) / vtOf (p .irs)) h)
+      (row 0 0 0) (n % htOf (p .irs)) (n / htOf (p .irs) % vtOf (p .irs)) (n / htOf (p .irs) / vtOf (p .irs)) h)
 
   module _ (k l c : ℕ) (hl : l < visibleOf (b .page .irs) .0) (hc : c < hactOf (b .page .irs)) where
     c-lt : c < htOf (b .page .irs)
@@ -101,14 +111,14 @@ module _ (b : Board) (chars attrs : List ℕ) (f : Font) (ok : stepCheck b chars
     frame-is = rw count-is (digits-div k l-lt)
 
     worked-on : loadedIn (b .page) chars (placeAt (b .page) chars attrs (clockOf b k l c)) .beam
-        ≡ beam (cellAt (b .page) chars (l / linesOf (b .page .irs)) c) (heldAt (b .page) chars attrs (l / linesOf (b .page .irs)) c)
+        ≡ row (cellAt (b .page) chars (rowFor b l) c) (heldAt (b .page) chars attrs (rowFor b l) c) (codeAt (b .page) chars (rowFor b l))
     worked-on = beam-at (clockOf b k l c) (rw line-is hl) ∙ rw (line-is, clock-is)
 
     -- the address that the step puts out, and the board's place
     pub address-is : stepOf (after b chars attrs f (clockOf b k l c)) chars attrs f .address ≡ cellAt (b .page) chars (l / linesOf (b .page .irs)) c
     unfolding steppedOf
     address-is =
-        rw (steps-are b chars attrs f ok (clockOf b k l c), step-is b chars attrs f ok (clockOf b k l c)) (ap (λ (x : Beam). x .address) worked-on)
+        rw (steps-are b chars attrs f ok (clockOf b k l c), step-is b chars attrs f ok (clockOf b k l c)) (ap (λ (x : Row). x .address) worked-on)
 
     active : activeAt (b .page) (atClock b chars attrs f ok (clockOf b k l c) .place) ≡ true
     unfolding placeAt scanAt countsOf
@@ -120,7 +130,7 @@ module _ (b : Board) (chars attrs : List ℕ) (f : Font) (ok : stepCheck b chars
     dots-are =
         let n = clockOf b k l c in
         rw (steps-are b chars attrs f ok n, step-is b chars attrs f ok n)
-        (ap (λ (x : Beam). clockDots (atClock b chars attrs f ok n) chars attrs f (x .latch) (x .address)) worked-on ∙ rw (active, line-is, clock-is, frame-is))
+        (ap (λ (x : Row). clockDots (atClock b chars attrs f ok n) chars attrs f (x .code) (x .latch) (x .address)) worked-on ∙ rw (active, line-is, clock-is, frame-is))
 
   -- ---- the line
 
@@ -142,7 +152,7 @@ module _ (b : Board) (chars attrs : List ℕ) (f : Font) (ok : stepCheck b chars
       draw-is l hl field out room
       ∙ ap (λ (d : List ℕ). d ++ drop (lineLength b) out)
       (same-joined 0 (hactOf (b .page .irs)) _ _
-      (λ c _ h. ap (dotsAt b chars attrs f (scanOf (l % linesOf (b .page .irs))) field (heldAt (b .page) chars attrs (l / linesOf (b .page .irs)) c)) (sym (same c (omega arith)))))
+      (λ c _ h. ap (shownAt b chars attrs f l field c (heldAt (b .page) chars attrs (rowFor b l) c)) (sym (same c (omega arith)))))
 
   module _ (k l : ℕ) (hl : l < visibleOf (b .page .irs) .0) where
     -- the dots that the step at column c puts out, without the places past them

@@ -14,7 +14,9 @@ use Rattle.refusal.specs.declared.Refusal.{Refusal}
 use Rattle.refusal.specs.Number.{numberOf, besideOf, doneOf}
 use Rattle.raster.specs.declared.Buffer.{Buffer}
 use Rattle.raster.specs.declared.Cell.{Cell}
+use Rattle.raster.specs.declared.Code.{Code}
 use Rattle.raster.specs.Moves.{cell, advance, advanceBy}
+use Rattle.raster.specs.Wide.{codeOf, isWide, isTop, isBottom, againAt}
 use Rattle.raster.specs.Latch.{latched}
 use Rattle.board.specs.declared.Starts.{Starts}
 use Rattle.board.specs.declared.Page.{Page}
@@ -23,7 +25,7 @@ use Rattle.board.specs.declared.Board.{Board}
 use Rattle.board.specs.State.{clockZero, powerOf}
 use Rattle.board.specs.Modes.{versionOf, fieldMode, settersHidden}
 use Rattle.board.specs.Range.{memoriesRefused, startsRefused, switchesRefused, addressRefused, cellsRefused, pointerRefused}
-use Rattle.timing.specs.Fields.{linesOf, timingOf, visibleOf, bufferOf, tableOf, cursorOf, underlineOf, blinkOf}
+use Rattle.timing.specs.Fields.{linesOf, timingOf, visibleOf, bufferOf, codedOf, tableOf, cursorOf, underlineOf, blinkOf}
 use Rattle.timing.specs.Check.{widthRefused, pageCheck, sizeOf, callCheck}
 use Rattle.registers.specs.Write.{writeOf}
 use Rattle.registers.specs.Read.{readOf}
@@ -119,6 +121,21 @@ advance-by-one b k c = only (cell (advanceBy b (k .0) (c .address)))
 pub latched-one : (byte held : ℕ) → OneAnswer (λ r. r ≡ latched byte held)
 latched-one byte held = only (latched byte held)
 
+pub code-of-one : (byte : ℕ) → OneAnswer (λ r. r ≡ codeOf byte)
+code-of-one byte = only (codeOf byte)
+
+pub is-wide-one : (k : Code) → OneAnswer (λ r. r ≡ isWide k)
+is-wide-one k = only (isWide k)
+
+pub is-top-one : (k : Code) → OneAnswer (λ r. r ≡ isTop k)
+is-top-one k = only (isTop k)
+
+pub is-bottom-one : (k : Code) → OneAnswer (λ r. r ≡ isBottom k)
+is-bottom-one k = only (isBottom k)
+
+pub again-at-one : (k : Code) (column : ℕ) → OneAnswer (λ r. r ≡ againAt k column)
+again-at-one k column = only (againAt k column)
+
 -- ---- `board`
 
 pub power-one : OneAnswer (λ r. r ≡ powerOf)
@@ -176,6 +193,9 @@ buffer-of-one irs = only (bufferOf irs)
 
 pub table-of-one : (irs : List ℕ) → OneAnswer (λ r. r ≡ tableOf irs)
 table-of-one irs = only (tableOf irs)
+
+pub coded-of-one : (irs : List ℕ) → OneAnswer (λ r. r ≡ codedOf irs)
+coded-of-one irs = only (codedOf irs)
 
 pub cursor-of-one : (irs : List ℕ) → OneAnswer (λ r. r ≡ cursorOf irs)
 cursor-of-one irs = only (cursorOf irs)

@@ -11,9 +11,11 @@ use Rattle.lists.specs.Answer.{OneAnswer, only, only-both, only-four}
 use Rattle.lists.specs.Join.{joined}
 use Rattle.lists.specs.Tab.{tab}
 use Rattle.units.specs.declared.Dots.{Dots}
+use Rattle.units.specs.Units.{clocks, lines}
 use Rattle.refusal.specs.declared.Refusal.{Refusal}
 use Rattle.refusal.specs.Number.{numberOf}
 use Rattle.raster.specs.declared.Buffer.{Buffer}
+use Rattle.raster.specs.declared.Code.{Code}
 use Rattle.raster.specs.Moves.{cell}
 use Rattle.board.specs.declared.Page.{Page}
 use Rattle.board.specs.declared.Place.{Place}
@@ -22,7 +24,7 @@ use Rattle.fetch.specs.declared.RowCells.{RowCells}
 use Rattle.fetch.specs.Run.{runCheck, spanOf, runOf}
 use Rattle.fetch.specs.RowCells.{cellsGiven, cellsPut}
 use Rattle.fetch.specs.Laws.{span-fits}
-use Rattle.fetch.specs.Rows.{entryOf, rowStart, cellAt}
+use Rattle.fetch.specs.Rows.{entryOf, codeAt, rowStart, cellAt, fetchedOf, begunOf}
 use Rattle.latch.specs.Held.{heldAt}
 use Rattle.shape.specs.Font.{Font, fontRefused, positionOf, wordBy, wordOf}
 use Rattle.video.specs.declared.Scene.{Scene}
@@ -36,7 +38,8 @@ use Rattle.dots.specs.Width.{shades}
 use Rattle.tables.specs.Tables.{heldBy, cellBy, levelsOf, levelsAt, spreadsAt, lastSpreads}
 use Rattle.line.specs.Line.{lineDots, lineLength, drawCheck, drawnOf}
 use Rattle.picture.specs.Picture.{pictureCheck, picturedOf}
-use Rattle.video.specs.At.{lentRefused, readingOf, shownCode}
+use Rattle.dots.specs.Half.{halfBy}
+use Rattle.video.specs.At.{lentRefused, scanOf, scanAt, readingOf, countedByte, shownCode}
 use Rattle.step.specs.Step.{stepOf}
 use Rattle.place.specs.declared.Carried.{Carried}
 use Rattle.place.specs.Place.{activeAt, loadedIn, movedIn, turnedIn}
@@ -63,11 +66,20 @@ span-of-one b chars row = only (spanOf b chars row)
 
 -- the refusal and the count, and the buffer
 pub row-cells-one : (b : Board) (chars : List ℕ) (row : ℕ) (cells : List ℕ)
-    → OneAnswer (λ (r : RowCells × List ℕ). (r .0 ≡ cellsGiven b (length chars) row (length cells)) × (r .1 ≡ cellsPut b chars row cells))
-row-cells-one b chars row cells = only-both (cellsGiven b (length chars) row (length cells)) (cellsPut b chars row cells)
+    → OneAnswer (λ (r : RowCells × List ℕ). (r .0 ≡ cellsGiven b chars row (length cells)) × (r .1 ≡ cellsPut b chars row cells))
+row-cells-one b chars row cells = only-both (cellsGiven b chars row (length cells)) (cellsPut b chars row cells)
 
 pub entry-one : (p : Page) (chars : List ℕ) (row : ℕ) → OneAnswer (λ r. r ≡ cell (entryOf p chars row))
 entry-one p chars row = only (cell (entryOf p chars row))
+
+pub code-at-one : (p : Page) (chars : List ℕ) (row : ℕ) → OneAnswer (λ r. r ≡ codeAt p chars row)
+code-at-one p chars row = only (codeAt p chars row)
+
+pub fetched-of-one : (p : Page) (chars : List ℕ) (row : ℕ) → OneAnswer (λ r. r ≡ clocks (fetchedOf p chars row))
+fetched-of-one p chars row = only (clocks (fetchedOf p chars row))
+
+pub begun-of-one : (p : Page) (chars : List ℕ) (row column : ℕ) → OneAnswer (λ r. r ≡ clocks (begunOf p chars row column))
+begun-of-one p chars row column = only (clocks (begunOf p chars row column))
 
 pub row-start-one : (p : Page) (chars : List ℕ) (row : ℕ) → OneAnswer (λ r. r ≡ cell (rowStart p chars row))
 row-start-one p chars row = only (cell (rowStart p chars row))
@@ -105,6 +117,15 @@ cursor-at-one s at = only (cursorAt s at)
 pub reading-of-one : (p : Page) → OneAnswer (λ r. r ≡ readingOf p)
 reading-of-one p = only (readingOf p)
 
+pub scan-of-one : (k : Code) (of line : ℕ) → OneAnswer (λ r. r ≡ lines (scanOf k of line))
+scan-of-one k of line = only (lines (scanOf k of line))
+
+pub scan-at-one : (irs : List ℕ) (k : Code) (line : ℕ) → OneAnswer (λ r. r ≡ lines (scanAt irs k line))
+scan-at-one irs k line = only (lines (scanAt irs k line))
+
+pub counted-byte-one : (k : Reading) (again : Bool) (byte : ℕ) → OneAnswer (λ r. r ≡ countedByte k again byte)
+counted-byte-one k again byte = only (countedByte k again byte)
+
 pub shown-code-one : (hidden : Bool) (code byte : ℕ) → OneAnswer (λ r. r ≡ shownCode hidden code byte)
 shown-code-one hidden code byte = only (shownCode hidden code byte)
 
@@ -133,6 +154,12 @@ write-cell-one symbol surround word d out = only (shades symbol surround d (wide
 
 pub draw-cell-one : (look : Look) (word : ℕ) (width : Dots) (out : List ℕ) → OneAnswer (λ r. r ≡ cellDots look word (width .0) ++ drop (width .0) out)
 draw-cell-one look word width out = only (cellDots look word (width .0) ++ drop (width .0) out)
+
+pub halve-one : (cell : List ℕ) (from d : ℕ) (out : List ℕ) → OneAnswer (λ r. r ≡ tab d (halfBy cell from) ++ drop d out)
+halve-one cell from d out = only (tab d (halfBy cell from) ++ drop d out)
+
+pub double-one : (dots : List ℕ) (n : ℕ) (out : List ℕ) → OneAnswer (λ r. r ≡ tab n (halfBy dots 0) ++ drop n out)
+double-one dots n out = only (tab n (halfBy dots 0) ++ drop n out)
 
 -- ---- `tables`: the lent table, and for `gather` what is valid after the row
 

@@ -1,10 +1,10 @@
 -- A picture is its visible lines as the line drawer writes them, the dots of all active clocks of a frame, in order, and the dots of its rows' cells. Assumes nothing.
-use Prim.Native.Nat.{ℕ, _+_, _*_, _/_, _%_, _≤_, _<_}
+use Prim.Native.Nat.{ℕ, _+_, _/_, _%_, _≤_, _<_}
 use mathlib.Core.Path.{_≡_, sym, ap, _∙_}
 use mathlib.Core.List.{List, _++_}
 use native.Mathlib.Omega.{arith}
 use borrow.Author.Tests.{le-ltb}
-use lib.Arith.{digits-div, digits-mod}
+use lib.Arith.{digits-div}
 use lib.ListN.{length, getD, take, drop}
 use lib.Seq.{take-at}
 use Rattle.lists.specs.Join.{joined, same-joined, join-all}
@@ -12,17 +12,17 @@ use Rattle.refusal.specs.declared.Refusal.the-variants.{Done}
 use Rattle.board.specs.declared.Board.{Board}
 use Rattle.timing.specs.Fields.{hactOf, linesOf, rowsOf, visibleOf}
 use Rattle.fetch.specs.RowCells.{cellsPut}
-use Rattle.fetch.specs.RowLaws.{cells-at}
+use Rattle.fetch.specs.Rows.{cellAt}
 use Rattle.latch.specs.Held.{heldAt}
 use Rattle.shape.specs.Font.{Font}
-use Rattle.video.specs.At.{scanOf, dotsAt, lentRefused}
+use Rattle.video.specs.At.{lentRefused}
 use Rattle.line.specs.Line.{columnDots, lineDots, lineLength, drawnOf}
 use Rattle.line.specs.Length.{length-line}
 use Rattle.picture.specs.Picture.{pictureDots, pictureLength, pictureCheck, picturedOf}
 use Rattle.step.specs.Step.{stepCheck, stepOf}
 use Rattle.agreement.specs.Steps.{after, fits}
-use Rattle.agreement.specs.Lines.{clockOf, draw-is, stepped-line}
-use Rattle.agreement.specs.Rows.{cells-shown}
+use Rattle.agreement.specs.Lines.{clockOf, shownAt, draw-is, stepped-line}
+use Rattle.agreement.specs.Rows.{lineOf, nthCell, at-column}
 
 module _ (b : Board) (chars attrs : List ℕ) (f : Font) (ok : stepCheck b chars attrs f ≡ Done) where
   -- a buffer with room: nothing is refused, and the picture stands at its front
@@ -72,16 +72,15 @@ module _ (b : Board) (chars attrs : List ℕ) (f : Font) (ok : stepCheck b chars
     -- line l of row r from what `row_cells` leaves of the row in a buffer, and what is valid before each of its cells
     abbrev pub cellLine : (r l : ℕ) → List ℕ
     cellLine r l =
-        joined 0 (hactOf (b .page .irs)) (λ c. dotsAt b chars attrs f (scanOf l) field (heldAt (b .page) chars attrs r c) (getD (cellsPut b chars r cells) c 0))
+        joined 0 (hactOf (b .page .irs)) (λ c. shownAt b chars attrs f (lineOf b r l) field c (heldAt (b .page) chars attrs r c) (getD (cellsPut b chars r cells) (nthCell b chars r c) 0))
 
-    line-from-cells : (r l : ℕ) → r < rowsOf (b .page .irs) → l < linesOf (b .page .irs) → lineDots b chars attrs f (r * linesOf (b .page .irs) + l) field ≡ cellLine r l
+    line-from-cells : (r l : ℕ) → r < rowsOf (b .page .irs) → l < linesOf (b .page .irs) → lineDots b chars attrs f (lineOf b r l) field ≡ cellLine r l
     unfolding lineDots columnDots
     line-from-cells r l hr hl =
-        let q : (r * linesOf (b .page .irs) + l) / linesOf (b .page .irs) ≡ r = digits-div r hl in
-        let m : (r * linesOf (b .page .irs) + l) % linesOf (b .page .irs) ≡ l = digits-mod r hl in
-        let s = cells-shown b chars attrs f ok r l hr hl cells wide in
+        let q : lineOf b r l / linesOf (b .page .irs) ≡ r = digits-div r hl in
         same-joined 0 (hactOf (b .page .irs)) _ _ (λ c _ h.
-        rw (q, m) (ap (dotsAt b chars attrs f (scanOf l) field (heldAt (b .page) chars attrs r c)) (sym (cells-at b chars r cells c (rw (s .answered) (omega arith))))))
+        ap (λ (x : ℕ). shownAt b chars attrs f (lineOf b r l) field c (heldAt (b .page) chars attrs x c) (cellAt (b .page) chars x c)) q
+        ∙ ap (shownAt b chars attrs f (lineOf b r l) field c (heldAt (b .page) chars attrs r c)) (sym (at-column b chars attrs f ok r l hr hl cells wide c (omega arith))))
 
     -- the picture is the dots of the cells that `row_cells` gives, row by row, line by line, column by column; bytes beyond stay
     pub picture-from-cells : (out : List ℕ) → pictureLength (b .page) ≤ length out

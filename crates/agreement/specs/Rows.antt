@@ -1,42 +1,68 @@
 -- The sentence for which the project exists. With the row table on, on every line of row r the addresses that `step` puts out, and the cells whose dots
 -- `draw_line` writes, are those that follow from the row's own table entry, whatever the rest of memory holds; with it off, those that follow from screen
--- start 1. They are the cells that `row_cells` gives, and the run that `row_run` gives is the first of them. In character mode the row's dots depend on these
+-- start 1. Whether each has one column or two is the row's code, in the same entry. They are the cells that `row_cells` gives, and the run that `row_run` gives is the first of them. In character mode the row's dots depend on these
 -- cells alone; in field mode also on what the rows above it latched. Assumes nothing.
-use Prim.Native.Nat.{ℕ, _+_, _*_, _/_, _%_, _≤_, _<_}
-use mathlib.Core.Path.{_≡_, sym, ap, ap₂, _∙_}
-use mathlib.Core.Bool.{true, false}
+use Prim.Native.Nat.{ℕ, _+_, _*_, _/_, _≤_, _<_}
+use mathlib.Core.Path.{_≡_, refl, sym, ap, _∙_}
+use mathlib.Core.Bool.{Bool, true, false}
 use mathlib.Core.List.{List, _++_}
+use native.Mathlib.Omega.{arith}
 use borrow.Author.Tests.{lt-leb, eq-eqb}
-use lib.Arith.{digits-div, digits-mod, digits-lt}
+use lib.Arith.{digits-div, digits-lt}
 use lib.ListN.{length, getD, drop}
+use Rattle.lists.specs.Choice.{pick}
 use Rattle.lists.specs.Join.{joined, same-joined}
 use Rattle.lists.specs.Tab.{tab, same-tab}
 use Rattle.refusal.specs.declared.Refusal.the-variants.{Done}
 use Rattle.raster.specs.Moves.{advanceBy}
+use Rattle.raster.specs.Wide.{codeOf, isWide}
 use Rattle.board.specs.declared.Board.{Board}
 use Rattle.board.specs.Modes.{fieldMode}
 use Rattle.board.specs.Range.{memoryRefused}
-use Rattle.timing.specs.Fields.{hactOf, linesOf, rowsOf, visibleOf, tableOf, bufferOf}
-use Rattle.fetch.specs.Rows.{entryOf, rowStart, cellAt}
+use Rattle.timing.specs.Fields.{hactOf, linesOf, rowsOf, visibleOf, tableOf, bufferOf, countsOf}
+use Rattle.fetch.specs.Rows.{entryOf, codeAt, rowStart, cellAt, fetchedOf, fetchAt}
 use Rattle.fetch.specs.Run.{runCheck, spanOf}
 use Rattle.fetch.specs.RowCells.{cellsOf, cellsCheck, rowOf, cellsGiven, cellsPut}
-use Rattle.fetch.specs.Laws.{cell-along, start-table, start-sheet}
+use Rattle.fetch.specs.Laws.{cell-shown, start-table, start-sheet}
 use Rattle.fetch.specs.RowLaws.{cells-as-run, cells-at, run-at}
 use Rattle.latch.specs.Laws.{held-plain}
 use Rattle.shape.specs.Font.{Font}
-use Rattle.video.specs.At.{scanOf, dotsAt}
 use Rattle.line.specs.Line.{lineLength, drawnOf}
 use Rattle.step.specs.Step.{stepCheck}
 use Rattle.agreement.specs.Steps.{range-ok, call-ok, fits, page-ok}
-use Rattle.agreement.specs.Lines.{addressAt, DrawnFrom, address-is, drawn-from}
+use Rattle.agreement.specs.Lines.{addressAt, shownAt, DrawnFrom, address-is, drawn-from}
 
 -- line l of row r
 abbrev pub lineOf : Board → (r l : ℕ) → ℕ
 lineOf b r l = r * linesOf (b .page .irs) + l
 
--- what follows from an address: column c shows the cell c moves on
-abbrev pub follows : Board → (from c : ℕ) → ℕ
-follows b from c = advanceBy (bufferOf (b .page .irs)) c from
+-- what follows from an address: the cell i moves on
+abbrev pub follows : Board → (from i : ℕ) → ℕ
+follows b from i = advanceBy (bufferOf (b .page .irs)) i from
+
+-- how many of its cells row r fetches before the one that column c shows: each has a column, or where the row is of double width two
+abbrev pub nthCell : Board → (chars : List ℕ) → (r c : ℕ) → ℕ
+nthCell b chars r c = pick (isWide (codeOf (codeAt (b .page) chars r))) (c / 2) c
+
+-- and the column that fetches a cell
+abbrev pub nthColumn : Board → (chars : List ℕ) → (r i : ℕ) → ℕ
+nthColumn b chars r i = pick (isWide (codeOf (codeAt (b .page) chars r))) (2 * i) i
+
+column-in : (b : Board) (chars : List ℕ) (r i : ℕ) → i < fetchedOf (b .page) chars r → (nthColumn b chars r i < hactOf (b .page .irs)) × (nthCell b chars r (nthColumn b chars r i) ≡ i)
+unfolding fetchedOf countsOf
+column-in b chars r i = go (isWide (codeOf (codeAt (b .page) chars r)))
+  where
+    go : (t : Bool) → i < pick t ((hactOf (b .page .irs) + 1) / 2) (hactOf (b .page .irs)) → (pick t (2 * i) i < hactOf (b .page .irs)) × (pick t (pick t (2 * i) i / 2) (pick t (2 * i) i) ≡ i)
+    go true h = (omega (arith, h), omega arith)
+    go false h = (h, refl)
+
+cell-in : (b : Board) (chars : List ℕ) (r c : ℕ) → c < hactOf (b .page .irs) → nthCell b chars r c < fetchedOf (b .page) chars r
+unfolding fetchedOf countsOf
+cell-in b chars r c h = go (isWide (codeOf (codeAt (b .page) chars r)))
+  where
+    go : (t : Bool) → pick t (c / 2) c < pick t ((hactOf (b .page .irs) + 1) / 2) (hactOf (b .page .irs))
+    go true = omega (arith, h)
+    go false = h
 
 module _ (b : Board) (chars attrs : List ℕ) (f : Font) (ok : stepCheck b chars attrs f ≡ Done) (r l : ℕ)
     (hr : r < rowsOf (b .page .irs)) (hl : l < linesOf (b .page .irs)) where
@@ -52,13 +78,18 @@ module _ (b : Board) (chars attrs : List ℕ) (f : Font) (ok : stepCheck b chars
 
   -- what `step` puts out and what `draw_line` writes on line l of row r, where the row's cells follow from an address
   pub record Shown (start : ℕ) : Type 0 where
-    pub stepped : (k c : ℕ) → c < hactOf (b .page .irs) → addressAt b chars attrs f k (lineOf b r l) c ≡ follows b start c
-    pub drawn : DrawnFrom b chars attrs f (lineOf b r l) (follows b start)
+    pub stepped : (k c : ℕ) → c < hactOf (b .page .irs) → addressAt b chars attrs f k (lineOf b r l) c ≡ follows b start (nthCell b chars r c)
+    pub drawn : DrawnFrom b chars attrs f (lineOf b r l) (λ c. follows b start (nthCell b chars r c))
+
+  -- what column c shows, from the row's start
+  from-start : (start : ℕ) → start ≡ rowStart (b .page) chars r → (c : ℕ) → c < hactOf (b .page .irs) → follows b start (nthCell b chars r c) ≡ cellAt (b .page) chars r c
+  unfolding fetchAt
+  from-start start begins c h = rw begins (cell-shown (b .page) chars r c h)
 
   shown : (start : ℕ) → start ≡ rowStart (b .page) chars r → Shown start
   shown start begins = record {
-    stepped = λ k c h. fetched k c h ∙ rw begins (sym (cell-along (b .page) chars r c h));
-    drawn = drawn-from b chars attrs f ok (lineOf b r l) line-visible (follows b start) (λ c h. rw (row-is, begins) (cell-along (b .page) chars r c h));
+    stepped = λ k c h. fetched k c h ∙ sym (from-start start begins c h);
+    drawn = drawn-from b chars attrs f ok (lineOf b r l) line-visible _ (λ c h. rw row-is (from-start start begins c h));
   }
 
   -- with the table on: they follow from the row's entry
@@ -72,13 +103,12 @@ module _ (b : Board) (chars attrs : List ℕ) (f : Font) (ok : stepCheck b chars
   -- in character mode nothing that stands before a cell plays a part in its dots
   pub plain-row : fieldMode (b .page) ≡ false → (start : ℕ) → Shown start → (field : ℕ) (out : List ℕ) → lineLength b ≤ length out
       → drawnOf b chars attrs f (lineOf b r l) field out
-      ≡ joined 0 (hactOf (b .page .irs)) (λ c. dotsAt b chars attrs f (scanOf l) field 0 (follows b start c)) ++ drop (lineLength b) out
+      ≡ joined 0 (hactOf (b .page .irs)) (λ c. shownAt b chars attrs f (lineOf b r l) field c 0 (follows b start (nthCell b chars r c))) ++ drop (lineLength b) out
   plain-row m start s field out room =
-      let q : lineOf b r l % linesOf (b .page .irs) ≡ l = digits-mod r hl in
       s .drawn field out room
       ∙ ap (λ (d : List ℕ). d ++ drop (lineLength b) out)
       (same-joined 0 (hactOf (b .page .irs)) _ _ (λ c _ h.
-      ap₂ (λ (scan held : ℕ). dotsAt b chars attrs f (scanOf scan) field held (follows b start c)) q (held-plain (b .page) chars attrs m _ c)))
+      ap (λ (held : ℕ). shownAt b chars attrs f (lineOf b r l) field c held (follows b start (nthCell b chars r c))) (held-plain (b .page) chars attrs m _ c)))
 
   -- ---- the row's run
 
@@ -89,39 +119,50 @@ module _ (b : Board) (chars attrs : List ℕ) (f : Font) (ok : stepCheck b chars
       (call-ok b (memoryRefused (length chars)) (rw (eq-eqb _ _ (fits b chars attrs f ok .chars-all))) (page-ok b chars attrs f ok)
       (range-ok b (fits b chars attrs f ok .state)))
 
-  -- the run that `row_run` gives is what the row's first columns fetch, on every line of the row, cell after cell
-  pub run-shown : (k c : ℕ) → c < spanOf b chars r .count → addressAt b chars attrs f k (lineOf b r l) c ≡ spanOf b chars r .start + c
-  run-shown k c h = let s = run-at b chars r c h in fetched k c (s .0) ∙ s .1
+  -- what the row fetches after i others, on the column that fetches it
+  fetched-by : (k i : ℕ) → i < fetchedOf (b .page) chars r → addressAt b chars attrs f k (lineOf b r l) (nthColumn b chars r i) ≡ fetchAt (b .page) chars r i
+  fetched-by k i h =
+      let q = column-in b chars r i h in
+      fetched k (nthColumn b chars r i) (q .0) ∙ sym (cell-shown (b .page) chars r (nthColumn b chars r i) (q .0)) ∙ ap (fetchAt (b .page) chars r) (q .1)
+
+  -- the run that `row_run` gives is what the row fetches first, on every line of the row, cell after cell
+  pub run-shown : (k i : ℕ) → i < spanOf b chars r .count → addressAt b chars attrs f k (lineOf b r l) (nthColumn b chars r i) ≡ spanOf b chars r .start + i
+  run-shown k i h = let s = run-at b chars r i h in fetched-by k i (s .0) ∙ s .1
 
   -- ---- the row's cells
 
-  -- a buffer with room for any row: `row_cells` leaves there, column by column, the addresses that `step` puts out on the line's active clocks in every frame, and
-  -- elements beyond stay; at these addresses are the cells whose dots `draw_line` writes; the first of them are the run that `row_run` gives
+  -- a buffer with room for any row: `row_cells` leaves there, cell by cell, the addresses that `step` puts out on the columns that fetch them, on the line's
+  -- active clocks in every frame, and elements beyond stay; at these addresses are the cells whose dots `draw_line` writes; the first of them are the run that
+  -- `row_run` gives
   pub record CellsShown (cells : List ℕ) : Type 0 where
-    pub answered : cellsGiven b (length chars) r (length cells) ≡ rowOf Done (hactOf (b .page .irs))
-    pub stepped : (k : ℕ) → cellsPut b chars r cells ≡ tab (hactOf (b .page .irs)) (addressAt b chars attrs f k (lineOf b r l)) ++ drop (hactOf (b .page .irs)) cells
-    pub drawn : DrawnFrom b chars attrs f (lineOf b r l) (λ c. getD (cellsPut b chars r cells) c 0)
-    pub begun : (c : ℕ) → c < spanOf b chars r .count → getD (cellsPut b chars r cells) c 0 ≡ spanOf b chars r .start + c
+    pub answered : cellsGiven b chars r (length cells) ≡ rowOf Done (fetchedOf (b .page) chars r)
+    pub stepped : (k : ℕ) → cellsPut b chars r cells
+        ≡ tab (fetchedOf (b .page) chars r) (λ i. addressAt b chars attrs f k (lineOf b r l) (nthColumn b chars r i)) ++ drop (fetchedOf (b .page) chars r) cells
+    pub drawn : DrawnFrom b chars attrs f (lineOf b r l) (λ c. getD (cellsPut b chars r cells) (nthCell b chars r c) 0)
+    pub begun : (i : ℕ) → i < spanOf b chars r .count → getD (cellsPut b chars r cells) i 0 ≡ spanOf b chars r .start + i
 
   module _ (cells : List ℕ) (room : 256 ≤ length cells) where
     cells-answer : cellsCheck b (length chars) r (length cells) ≡ Done
     cells-answer = cells-as-run b (length chars) r (length cells) room ∙ run-answers
 
-    given : cellsGiven b (length chars) r (length cells) ≡ rowOf Done (hactOf (b .page .irs))
+    given : cellsGiven b chars r (length cells) ≡ rowOf Done (fetchedOf (b .page) chars r)
     unfolding cellsGiven
     given = rw cells-answer
 
-    put : cellsPut b chars r cells ≡ tab (hactOf (b .page .irs)) (cellAt (b .page) chars r) ++ drop (hactOf (b .page .irs)) cells
+    put : cellsPut b chars r cells ≡ tab (fetchedOf (b .page) chars r) (fetchAt (b .page) chars r) ++ drop (fetchedOf (b .page) chars r) cells
     unfolding cellsPut cellsOf
     put = rw cells-answer
 
-    at-column : (c : ℕ) → c < hactOf (b .page .irs) → getD (cellsPut b chars r cells) c 0 ≡ cellAt (b .page) chars r c
-    at-column c h = cells-at b chars r cells c (rw given h)
+    pub at-cell : (i : ℕ) → i < fetchedOf (b .page) chars r → getD (cellsPut b chars r cells) i 0 ≡ fetchAt (b .page) chars r i
+    at-cell i h = cells-at b chars r cells i (rw given h)
+
+    pub at-column : (c : ℕ) → c < hactOf (b .page .irs) → getD (cellsPut b chars r cells) (nthCell b chars r c) 0 ≡ cellAt (b .page) chars r c
+    at-column c h = at-cell (nthCell b chars r c) (cell-in b chars r c h) ∙ cell-shown (b .page) chars r c h
 
     pub cells-shown : CellsShown cells
     cells-shown = record {
       answered = given;
-      stepped = λ k. put ∙ ap (λ (l : List ℕ). l ++ drop (hactOf (b .page .irs)) cells) (same-tab (hactOf (b .page .irs)) _ _ (λ c h. sym (fetched k c h)));
+      stepped = λ k. put ∙ ap (λ (l : List ℕ). l ++ drop (fetchedOf (b .page) chars r) cells) (same-tab (fetchedOf (b .page) chars r) _ _ (λ i h. sym (fetched-by k i h)));
       drawn = drawn-from b chars attrs f ok (lineOf b r l) line-visible _ (λ c h. rw row-is (at-column c h));
-      begun = λ c h. let s = run-at b chars r c h in at-column c (s .0) ∙ s .1;
+      begun = λ i h. let s = run-at b chars r i h in at-cell i (s .0) ∙ s .1;
     }

@@ -9,10 +9,11 @@ use borrow.Author.Tests.{lt-leb, le-ltb, eq-eqb}
 use lib.ListN.{length}
 use Rattle.refusal.specs.declared.Refusal.the-variants.{Done, Size}
 use Rattle.refusal.specs.Laws.{not-refused, passed}
-use Rattle.raster.specs.Raster.{step, carriedAt, scanAt}
+use Rattle.raster.specs.Raster.{Scan, pair, scan, step, carriedAt, scanAt}
 use Rattle.raster.specs.Agree.{Laws, step-meets}
 use Rattle.raster.specs.Latch.{setsOf}
-use Rattle.raster.specs.Beams.{beam, beams-lawful}
+use Rattle.raster.specs.declared.Row.{Row}
+use Rattle.raster.specs.Beams.{row, beams-lawful}
 use Rattle.board.specs.declared.Page.{Page}
 use Rattle.board.specs.declared.Place.{Place}
 use Rattle.board.specs.declared.Board.{Board}
@@ -22,7 +23,7 @@ use Rattle.board.specs.Range.{memoriesRefused}
 use Rattle.timing.specs.Fields.{htOf, vtOf, countsOf}
 use Rattle.timing.specs.Check.{pageCheck, stateRefused, callCheck}
 use Rattle.timing.specs.Laws.{Accepted, InRange, accepted-good, call-passed}
-use Rattle.fetch.specs.Rows.{feedIn, tallyIn}
+use Rattle.fetch.specs.Rows.{codeAt, feedIn, tallyIn}
 use Rattle.fetch.specs.Laws.{fed, tallied, cell-at-lt, row-start-lt}
 use Rattle.shape.specs.Font.{Font}
 use Rattle.video.specs.At.{lentRefused}
@@ -69,13 +70,28 @@ module _ (p : Page) (chars attrs : List ℕ) (a : Accepted p) where
 
   -- the laws by which the beam's rows, at once, fit its steps
   pub lawful : Laws (countsIn p) (carrierIn p chars (setsOf (fieldMode p) attrs)) (rowsIn p chars attrs)
-  lawful = beams-lawful (countsIn p) (feedIn p chars) (setsOf (fieldMode p) attrs) (tallyIn p) (fed p chars a) (tallied p chars a) (accepted-good p a)
+  lawful = beams-lawful (countsIn p) (feedIn p chars) (codeAt p chars) (setsOf (fieldMode p) attrs) (tallyIn p chars) refl (fed p chars a) (tallied p chars a) (accepted-good p a)
+
+  -- at every clock the beam goes by its row's code
+  one-code : (c line frame : ℕ) → carriedBefore p chars attrs c line frame .beam .code ≡ carriedBefore p chars attrs c line frame .row .code
+  unfolding rowAt
+  one-code = carried-all p chars attrs (λ (x : Carried). x .beam .code ≡ x .row .code) (λ r c. refl) refl
+
+  -- so that nothing of the raster is lost in a place
+  pub raster-at : (n : ℕ) → rasterOf (placeAt p chars attrs n) ≡ scanAt (countsIn p) (rowsIn p chars attrs) (row 0 0 0) n
+  unfolding placeAt scanAt carriedBefore countsOf
+  raster-at n =
+      let y = n / htOf (p .irs) in
+      let s = scanAt (countsIn p) (rowsIn p chars attrs) (row 0 0 0) n in
+      ap (λ (k : ℕ). scan (s .field) (s .line) (s .clock) (pair (row (s .carried .beam .address) (s .carried .beam .latch) k) (s .carried .row)))
+      (sym (one-code (n % htOf (p .irs)) (y % vtOf (p .irs)) (y / vtOf (p .irs))))
 
   pub next-place : (n : ℕ) → nextPlace p chars attrs (placeAt p chars attrs n) ≡ placeAt p chars attrs (suc n)
   unfolding nextPlace placeAt
   next-place n =
       ap (λ (q : Place). placeOf (step (countsIn p) (carrierIn p chars (setsOf (fieldMode p) attrs)) (rasterOf q))) (at-settled p chars attrs n)
-      ∙ ap placeOf (step-meets (countsIn p) (carrierIn p chars (setsOf (fieldMode p) attrs)) (rowsIn p chars attrs) (accepted-good p a) lawful (beam 0 0) n)
+      ∙ ap (λ (s : Scan Row). placeOf (step (countsIn p) (carrierIn p chars (setsOf (fieldMode p) attrs)) s)) (raster-at n)
+      ∙ ap placeOf (step-meets (countsIn p) (carrierIn p chars (setsOf (fieldMode p) attrs)) (rowsIn p chars attrs) (accepted-good p a) lawful (row 0 0 0) n)
 
 -- ---- the steps
 

@@ -9,6 +9,7 @@ use Rattle.raster.specs.Moves.{Inside, advanceBy, toLast}
 use Rattle.board.specs.declared.Board.{Board}
 use Rattle.board.specs.State.{boardOf}
 use Rattle.board.specs.Range.{addressRefused}
+use Rattle.fetch.specs.Rows.{codeAt}
 use Rattle.timing.specs.Fields.{bufferOf, countsOf}
 use Rattle.timing.specs.Check.{pageCheck, stateRefused, callCheck}
 use Rattle.shape.specs.Font.{Font, fontOf, fontRefused}
@@ -68,7 +69,7 @@ unfolding low memory font page callCheck pageCheck addressRefused stateRefused
 low-taken = refl
 
 pub outside : Inside (bufferOf (low .page .irs)) (addressAt low memory memory font 0 0 0) → ⊥
-unfolding low page bufferOf advanceBy toLast
+unfolding low page codeAt bufferOf advanceBy toLast
 outside i =
     let shown = row-from-start low memory memory font low-taken 0 0 (omega arith) (omega arith) refl in
     let a : addressAt low memory memory font 0 0 0 ≡ 0 = shown .stepped 0 0 (omega arith) in

@@ -17,7 +17,7 @@ memoriesRefused chars attrs = memoryRefused chars || memoryRefused attrs
 abbrev pub startsRefused : Starts → Bool
 startsRefused s = ltb 16383 (s .start1) || ltb 16383 (s .cursor) || ltb 16383 (s .start2)
 
--- switches 6 and 7, and but in version 2 also 4 and 5; a version that is not known counts as 1
+-- switches 6 and 7, and in every version but 2 also 4 and 5; a version that is not known counts as 1
 abbrev pub switchesRefused : (version switches : ℕ) → Bool
 switchesRefused version switches = ltb 63 switches || (not (eqb version 2) && ltb 15 switches)
 

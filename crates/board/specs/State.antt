@@ -1,14 +1,14 @@
 -- The board at power, and at clock 0 (01, "The board that is built").
 use lib.ListN.{replicate}
 use Rattle.units.specs.Units.{clocks, lines, dots}
-use Rattle.raster.specs.Beams.{beam}
+use Rattle.raster.specs.Beams.{beam, row}
 use Rattle.board.specs.declared.Page.{Page}
 use Rattle.board.specs.declared.Place.{Place}
 use Rattle.board.specs.declared.Board.{Board}
 
--- the field counter is 0, as are line, clock, address and row start; nothing is latched
+-- the field counter is 0, as are line, clock, address, row start and row code; nothing is latched
 abbrev pub clockZero : Place
-clockZero = record { field = 0; line = lines 0; clock = clocks 0; beam = beam 0 0; row = beam 0 0 }
+clockZero = record { field = 0; line = lines 0; clock = clocks 0; beam = beam 0 0; row = row 0 0 0 }
 
 -- power gives zeros throughout, and version 1
 abbrev pub powerOf : Board

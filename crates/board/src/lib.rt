@@ -35,7 +35,7 @@ pub struct Place {
     pub line: units::Lines,
     pub clock: units::Clocks,
     pub beam: raster::Beam,
-    pub row: raster::Beam,
+    pub row: raster::Row,
 }
 
 // The pointer names an IR. The count of master resets in a row is the power state: 0 or 1 is inactive, 2 and above active.
@@ -58,9 +58,10 @@ pub fn clock_zero() -> Place
             address: 0,
             latch: 0,
         },
-        row: raster::Beam {
+        row: raster::Row {
             address: 0,
             latch: 0,
+            code: 0,
         },
     }
 }
@@ -102,7 +103,7 @@ pub fn starts_refused(s: Starts) -> bool
     (16383 < s.start1) | (16383 < s.cursor) | (16383 < s.start2)
 }
 
-// Switches 6 and 7, and but in version 2 also 4 and 5.
+// Switches 6 and 7, and in every version but 2 also 4 and 5.
 pub fn switches_refused(version: u8, switches: u8) -> bool
     ensures { λ r. ⌜ r ≡ switchesRefused version switches ⌝ }
 {

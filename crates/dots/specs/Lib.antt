@@ -5,3 +5,4 @@ pub mod Bytes
 pub mod Overlap
 pub mod Spread
 pub mod Last
+pub mod Half

@@ -1,11 +1,13 @@
 // The dots of a cell into a buffer, a byte each and several to a store.
 ghost use mathlib.Core.Path.{_≡_};
 ghost use mathlib.Core.List.{_++_};
-ghost use Prim.Native.Nat.{_-_, _/_, _^_, _≤_, _<_};
+ghost use Prim.Native.Nat.{_-_, _*_, _/_, _^_, _≤_, _<_};
 ghost use lib.ListN.{length, take, drop};
 ghost use Rattle.video.specs.Cell.{cellDots};
 ghost use Rattle.dots.specs.Stores.{wideOf, underOf, spreadOf, mixOf, bytesOf, overlapOf, dotsBy};
+ghost use Rattle.lists.specs.Tab.{tab};
 ghost use Rattle.dots.specs.Width.{shades};
+ghost use Rattle.dots.specs.Half.{halfBy};
 
 // Four bits, each in a byte of its own: the product has each at the lowest place of a byte, which the mask keeps.
 fn nibble(w: u16) -> u64
@@ -139,4 +141,42 @@ pub fn draw_cell(out: &mut [u8], look: video::Look, word: u16, width: units::Dot
     ensures { λ _. ⌜ now (out .exit) ≡ cellDots look word (width .0) ++ drop (width .0) (now (out .entry)) ⌝ }
 {
     write_cell(out, look.symbol, under(look), word, width.0 as usize);
+}
+
+// The dots of a column of double width: its cell's, each twice, from a place on.
+pub fn halve(out: &mut [u8], cell: &[u8], from: usize, d: usize)
+    requires { ⌜ (d ≤ length (now out)) × (d ≤ length (now cell)) × (from ≤ d) × (d ≤ 12) ⌝ }
+    ensures { λ _. ⌜ now (out .exit) ≡ tab d (halfBy (now (cell .entry)) from) ++ drop d (now (out .entry)) ⌝ }
+{
+    let mut i = 0;
+    while i < d {
+        out[i] = cell[(from + i) / 2];
+        i += 1;
+    }
+}
+
+// So many dots, each twice. The compiler makes vectors of it.
+fn pairs(out: &mut [u8], dots: &[u8], n: usize)
+    requires { ⌜ (2 * n ≤ length (now out)) × (n ≤ length (now dots)) × (n ≤ 4096) ⌝ }
+    ensures { λ _. ⌜ now (out .exit) ≡ tab (2 * n) (halfBy (now (dots .entry)) 0) ++ drop (2 * n) (now (out .entry)) ⌝ }
+{
+    let mut i = 0;
+    while i < n {
+        let dot = dots[i];
+        out[2 * i] = dot;
+        out[2 * i + 1] = dot;
+        i += 1;
+    }
+}
+
+// The first n of a row's dots, each twice: with an odd number of columns of an odd width the last comes once.
+pub fn double(out: &mut [u8], dots: &[u8], n: usize)
+    requires { ⌜ (n ≤ length (now out)) × (n ≤ 2 * length (now dots)) × (n ≤ 4096) ⌝ }
+    ensures { λ _. ⌜ now (out .exit) ≡ tab n (halfBy (now (dots .entry)) 0) ++ drop n (now (out .entry)) ⌝ }
+{
+    let half = n / 2;
+    pairs(out, dots, half);
+    if n % 2 == 1 {
+        out[2 * half] = dots[half];
+    }
 }

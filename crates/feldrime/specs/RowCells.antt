@@ -1,7 +1,6 @@
 -- All cells of a row, from a page's numbers.
 use Prim.Native.Nat.{ℕ}
 use mathlib.Core.List.{List}
-use lib.ListN.{length}
 use Rattle.lists.specs.Choice.{pick}
 use Rattle.refusal.specs.declared.Refusal.the-variants.{Size}
 use Rattle.fetch.specs.RowCells.{cellsGiven, cellsPut}
@@ -13,7 +12,7 @@ use Rattle.feldrime.specs.Answers.{cellsAnswer}
 unfoldable pub cellsFor : (numbers chars : List ℕ) → (row room : ℕ) → CellsAnswer
 cellsFor numbers chars row room =
     pick (numbersRefused numbers) (cellsAnswer Size 0)
-    (cellsAnswer (cellsGiven (numbersBoard numbers) (length chars) row room .refusal) (cellsGiven (numbersBoard numbers) (length chars) row room .count))
+    (cellsAnswer (cellsGiven (numbersBoard numbers) chars row room .refusal) (cellsGiven (numbersBoard numbers) chars row room .count))
 
 -- the buffer afterwards, which stays where the numbers are refused
 unfoldable pub cellsPutFor : (numbers chars : List ℕ) → ℕ → List ℕ → List ℕ

@@ -1,12 +1,12 @@
 -- What callers use of the fetch: an accepted page's cells are the beam's, and a run is empty on a refusal and only there. Assumes nothing.
-use Prim.Native.Nat.{ℕ, min, _+_, _-_, _*_, _^_, _≤_, _<_}
-use mathlib.Core.Path.{_≡_, refl}
+use Prim.Native.Nat.{ℕ, min, _+_, _-_, _*_, _/_, _^_, _≤_, _<_}
+use mathlib.Core.Path.{_≡_, refl, sym, ap, _∙_}
 use mathlib.Core.Bool.{Bool, true, false}
 use mathlib.Core.List.{List}
 use native.Mathlib.Nat.{mul-le-mul}
 use native.Mathlib.Omega.{arith}
-use borrow.Author.Tests.{leb-false, eq-eqb, ne-eqb}
-use lib.Dec.{leb}
+use borrow.Author.Tests.{lt-ltb, leb-false, eq-eqb, ne-eqb}
+use lib.Dec.{ltb, leb}
 use lib.ListN.{length, take, drop, length-drop}
 use lib.Seq.{length-take-le}
 use Rattle.lists.specs.Choice.{pick}
@@ -15,36 +15,44 @@ use Rattle.refusal.specs.declared.Refusal.the-variants.{Done}
 use Rattle.refusal.specs.Number.{doneOf}
 use Rattle.refusal.specs.Laws.{done-is}
 use Rattle.raster.specs.Moves.{advanceBy, advanceBy-lt}
+use Rattle.raster.specs.declared.Code.{Code}
+use Rattle.raster.specs.Wide.{codeOf, isWide}
+use Rattle.raster.specs.Latch.{fetchedBy}
 use Rattle.raster.specs.Cells.{Fed, Tallied, begins, startOf, cellOf, start-lt}
 use Rattle.board.specs.declared.Page.{Page}
 use Rattle.board.specs.declared.Board.{Board}
 use Rattle.board.specs.Range.{memoryRefused}
 use Rattle.board.specs.Laws.{memory-all}
-use Rattle.timing.specs.Fields.{rowsOf, hactOf, tableOf, bufferOf, countsOf}
+use Rattle.timing.specs.Fields.{codedOf, rowsOf, hactOf, tableOf, bufferOf, countsOf}
 use Rattle.timing.specs.Laws.{Accepted, call-passed}
 use Rattle.fetch.specs.Feed.{accepted-fed, accepted-tallied}
 use Rattle.fetch.specs.declared.Span.{Span}
-use Rattle.fetch.specs.Rows.{entryOf, feedIn, tallyIn, rowStart, cellAt}
+use Rattle.fetch.specs.Rows.{entryOf, codeAt, feedIn, tallyIn, rowStart, cellAt, fetchedOf, movedOf, begunOf, fetchAt}
 use Rattle.fetch.specs.Run.{runCheck, runCount, span, spanOf, runOf}
 
 pub entry-lt : (p : Page) (chars : List ℕ) (r : ℕ) → entryOf p chars r < 16384
 unfolding entryOf
 entry-lt p chars r = omega arith
 
+-- without IR0[7] every row is plain
+pub no-codes : (p : Page) (chars : List ℕ) → codedOf (p .irs) ≡ false → (r : ℕ) → codeAt p chars r ≡ 0
+unfolding codeAt
+no-codes p chars e r = rw e
+
 module _ (p : Page) (chars : List ℕ) (a : Accepted p) where
   pub fed : Fed (feedIn p chars)
-  fed = accepted-fed p (entryOf p chars) a (entry-lt p chars)
+  fed = accepted-fed p (entryOf p chars) (codeAt p chars) a (entry-lt p chars)
 
-  pub tallied : Tallied (countsOf (p .irs)) (feedIn p chars) (tallyIn p)
-  tallied = accepted-tallied p (entryOf p chars) a
+  pub tallied : Tallied (countsOf (p .irs)) (feedIn p chars) (tallyIn p chars)
+  tallied = accepted-tallied p (entryOf p chars) (codeAt p chars) a (no-codes p chars)
 
   pub row-start-lt : (r : ℕ) → rowStart p chars r < 16384
   unfolding rowStart
-  row-start-lt r = start-lt (countsOf (p .irs)) (feedIn p chars) (tallyIn p) fed tallied r
+  row-start-lt r = start-lt (countsOf (p .irs)) (feedIn p chars) (tallyIn p chars) fed tallied r
 
 pub cell-at-lt : (p : Page) (chars : List ℕ) (r c : ℕ) → cellAt p chars r c < 16384
 unfolding cellAt cellOf
-cell-at-lt p chars r c = advanceBy-lt (bufferOf (p .irs)) (tallyIn p .moved r c) (startOf (feedIn p chars) (tallyIn p) r)
+cell-at-lt p chars r c = advanceBy-lt (bufferOf (p .irs)) (tallyIn p chars .moved r c) (startOf (feedIn p chars) (tallyIn p chars) r)
 
 -- ---- the definitions as the code has them
 
@@ -63,13 +71,61 @@ module _ (p : Page) (chars : List ℕ) (r : ℕ) where
   unfolding rowStart startOf countsOf
   start-sheet e = rw e
 
-  pub cell-moved : (c : ℕ) → advanceBy (bufferOf (p .irs)) (min c (hactOf (p .irs))) (rowStart p chars r) ≡ cellAt p chars r c
-  unfolding cellAt cellOf rowStart countsOf
+  pub cell-moved : (c : ℕ) → fetchAt p chars r (movedOf p chars r c) ≡ cellAt p chars r c
+  unfolding cellAt cellOf rowStart fetchAt movedOf countsOf
   cell-moved c = refl
 
-  -- the same within the row
-  pub cell-along : (c : ℕ) → c < hactOf (p .irs) → advanceBy (bufferOf (p .irs)) c (rowStart p chars r) ≡ cellAt p chars r c
-  cell-along c h = let k : min c (hactOf (p .irs)) ≡ c = omega arith in rw k at (cell-moved c)
+  moved-in : (c : ℕ) → c < hactOf (p .irs) → movedOf p chars r c ≡ pick (isWide (codeOf (codeAt p chars r))) (c / 2) c
+  unfolding movedOf countsOf
+  moved-in c h = rw (lt-ltb c (hactOf (p .irs)) h)
+
+  -- within the row a column shows the cell of its own place, or of half of it where the row is of double width
+  pub cell-shown : (c : ℕ) → c < hactOf (p .irs) → fetchAt p chars r (pick (isWide (codeOf (codeAt p chars r))) (c / 2) c) ≡ cellAt p chars r c
+  cell-shown c h = ap (fetchAt p chars r) (sym (moved-in c h)) ∙ cell-moved c
+
+-- ---- a row's code, as the code has it
+
+module _ (p : Page) (chars : List ℕ) (r : ℕ) where
+  -- whether the row is of double width
+  pub wide-is : {t : Bool} {k : Code} {byte : ℕ} → t ≡ isWide k → k ≡ codeOf byte → byte ≡ codeAt p chars r → t ≡ isWide (codeOf (codeAt p chars r))
+  wide-is e f g = rw (e, f, g)
+
+  pub fetched-by : {t : Bool} → t ≡ isWide (codeOf (codeAt p chars r)) → pick t ((hactOf (p .irs) + 1) / 2) (hactOf (p .irs)) ≡ fetchedOf p chars r
+  unfolding fetchedOf countsOf
+  fetched-by e = rw e
+
+  pub moved-by : {t : Bool} (c : ℕ) → t ≡ isWide (codeOf (codeAt p chars r)) → ltb c (hactOf (p .irs)) ≡ true → pick t (c / 2) c ≡ movedOf p chars r c
+  unfolding movedOf countsOf
+  moved-by c e h = rw (h, e)
+
+  pub moved-past : (c : ℕ) → ltb c (hactOf (p .irs)) ≡ false → fetchedOf p chars r ≡ movedOf p chars r c
+  unfolding movedOf fetchedOf countsOf
+  moved-past c h = rw h
+
+  pub begun-by : {t : Bool} (c : ℕ) → t ≡ isWide (codeOf (codeAt p chars r)) → pick t ((min c (hactOf (p .irs)) + 1) / 2) (min c (hactOf (p .irs))) ≡ begunOf p chars r c
+  unfolding begunOf fetchedBy
+  begun-by c e = rw e
+
+  pub begun-least : (c : ℕ) → begunOf p chars r (min c (hactOf (p .irs))) ≡ begunOf p chars r c
+  unfolding begunOf
+  begun-least c =
+      let m : min (min c (hactOf (p .irs))) (hactOf (p .irs)) ≡ min c (hactOf (p .irs)) = omega arith in
+      rw m
+
+  -- at the row's end all of them
+  pub begun-all : begunOf p chars r (hactOf (p .irs)) ≡ fetchedOf p chars r
+  unfolding begunOf fetchedBy fetchedOf countsOf
+  begun-all =
+      let m : min (hactOf (p .irs)) (hactOf (p .irs)) ≡ hactOf (p .irs) = omega arith in
+      rw m
+
+pub fetched-small : (p : Page) (chars : List ℕ) (r : ℕ) → (0 < fetchedOf p chars r) × (fetchedOf p chars r ≤ 256)
+unfolding fetchedOf countsOf
+fetched-small p chars r = go (isWide (codeOf (codeAt p chars r)))
+  where
+    go : (t : Bool) → (0 < pick t ((hactOf (p .irs) + 1) / 2) (hactOf (p .irs))) × (pick t ((hactOf (p .irs) + 1) / 2) (hactOf (p .irs)) ≤ 256)
+    go true = (omega arith, omega arith)
+    go false = (omega arith, omega arith)
 
 -- ---- what a row begins with, as the code has it
 
@@ -99,13 +155,13 @@ run-passed b n row e =
     let k = call-passed b (memoryRefused n) (leb (rowsOf (b .page .irs)) row) false e in
     record { page = k .page; whole = memory-all n (k .sized); row-lt = leb-false _ _ (k .in-reach) }
 
-count-some : (p : Page) (s : ℕ) → s < 16384 → 0 < runCount p s
+count-some : (p : Page) (n s : ℕ) → 0 < n → s < 16384 → 0 < runCount p n s
 unfolding runCount
-count-some p s h = omega arith
+count-some p n s k h = omega arith
 
-count-fits : (p : Page) (s : ℕ) → s < 16384 → s + runCount p s ≤ 16384
+count-fits : (p : Page) (n s : ℕ) → s < 16384 → s + runCount p n s ≤ 16384
 unfolding runCount
-count-fits p s h = omega arith
+count-fits p n s h = omega arith
 
 module _ (b : Board) (chars : List ℕ) (row : ℕ) where
   -- the run lies in 16,384 cells, and in character memory whatever its size
@@ -118,7 +174,7 @@ module _ (b : Board) (chars : List ℕ) (row : ℕ) where
       go true q =
           let k : Run b (length chars) row = run-passed b (length chars) row (done-is _ q) in
           let l : rowStart (b .page) chars row < 16384 = row-start-lt (b .page) chars (k .page) row in
-          let f = count-fits (b .page) (rowStart (b .page) chars row) l in
+          let f = count-fits (b .page) (fetchedOf (b .page) chars row) (rowStart (b .page) chars row) l in
           rw q (f, omega (arith, f, k .whole))
       go false q = rw q (omega arith, omega arith)
 
@@ -142,13 +198,13 @@ module _ (b : Board) (chars : List ℕ) (row : ℕ) where
       a : ℕ
       a = rowStart (b .page) chars row
 
-      go : (t : Bool) → pick t (span x a (runCount (b .page) a)) (span x 0 0) .refusal ≡ x
+      go : (t : Bool) → pick t (span x a (runCount (b .page) (fetchedOf (b .page) chars row) a)) (span x 0 0) .refusal ≡ x
       go true = refl
       go false = refl
 
   counted : doneOf (runCheck b (length chars) row) ≡ true → rowStart (b .page) chars row < 16384 → 0 < spanOf b chars row .count
   unfolding spanOf
-  counted e h = rw e (count-some (b .page) (rowStart (b .page) chars row) h)
+  counted e h = rw e (count-some (b .page) (fetchedOf (b .page) chars row) (rowStart (b .page) chars row) (fetched-small (b .page) chars row .0) h)
 
   -- a refusal shows an empty part, and nothing else does
   pub run-refused : doneOf (runCheck b (length chars) row) ≡ false → length (runOf b chars row) ≡ 0

@@ -1,4 +1,4 @@
--- All cells that a row fetches, column by column, as they are given to a caller.
+-- All cells that a row fetches, one after the other, as they are given to a caller.
 use Prim.Native.Nat.{ℕ}
 use mathlib.Core.Bool.{_||_}
 use mathlib.Core.List.{List, _++_}
@@ -11,14 +11,13 @@ use Rattle.refusal.specs.Number.{doneOf}
 use Rattle.board.specs.declared.Page.{Page}
 use Rattle.board.specs.declared.Board.{Board}
 use Rattle.board.specs.Range.{memoryRefused}
-use Rattle.timing.specs.Fields.{hactOf}
 use Rattle.fetch.specs.declared.RowCells.{RowCells}
-use Rattle.fetch.specs.Rows.{cellAt}
+use Rattle.fetch.specs.Rows.{fetchedOf, fetchAt}
 use Rattle.fetch.specs.Run.{rowCheck}
 
--- the addresses of a row's cells
+-- the addresses of the cells that a row fetches
 unfoldable pub cellsOf : Page → List ℕ → ℕ → List ℕ
-cellsOf p chars row = tab (hactOf (p .irs)) (cellAt p chars row)
+cellsOf p chars row = tab (fetchedOf p chars row) (fetchAt p chars row)
 
 -- 3 for a character memory of n cells, or room for fewer than 256, the most that a row can have; then 12, 4, 13, 14, 15, 6, 7
 unfoldable pub cellsCheck : Board → (n row room : ℕ) → Refusal
@@ -28,12 +27,13 @@ abbrev pub rowOf : Refusal → ℕ → RowCells
 rowOf r n = record { refusal = r; count = n }
 
 -- how many there are, none on a refusal
-unfoldable pub cellsGiven : Board → (n row room : ℕ) → RowCells
-cellsGiven b n row room = rowOf (cellsCheck b n row room) (pick (doneOf (cellsCheck b n row room)) (hactOf (b .page .irs)) 0)
+unfoldable pub cellsGiven : Board → (chars : List ℕ) → (row room : ℕ) → RowCells
+cellsGiven b chars row room =
+    rowOf (cellsCheck b (length chars) row room) (pick (doneOf (cellsCheck b (length chars) row room)) (fetchedOf (b .page) chars row) 0)
 
 -- the buffer afterwards: elements beyond the row's cells stay, and all of it on a refusal
 unfoldable pub cellsPut : Board → (chars : List ℕ) → ℕ → List ℕ → List ℕ
 cellsPut b chars row cells =
     pick (doneOf (cellsCheck b (length chars) row (length cells)))
-    (cellsOf (b .page) chars row ++ drop (hactOf (b .page .irs)) cells)
+    (cellsOf (b .page) chars row ++ drop (fetchedOf (b .page) chars row) cells)
     cells

@@ -1,10 +1,10 @@
 -- What the proofs and callers use of a row's cells. Assumes nothing.
---     columnBy         the cell of a column as the walk along the row comes to it
+--     columnBy         a cell as the walk along the row comes to it
 --     cells-passed     a call that is not refused: the row's run is not refused either, and there is room for any row
 --     cells-as-run     with such room the two are refused alike
 --     cells-walked     the walk from the row's start gives the row's cells
 --     cells-some       where there are cells, nothing was refused
---     cells-at         each element of the buffer that is counted is its column's cell
+--     cells-at         each element of the buffer that is counted is the row's cell of its number
 --     run-at           the first of these are the row's run
 --     run-least        which has no more cells than the row
 use Prim.Native.Nat.{ℕ, _+_, _≤_, _<_}
@@ -16,7 +16,7 @@ use borrow.Author.Tests.{ltb-false, le-ltb}
 use lib.Dec.{ltb, leb}
 use lib.ListN.{length, getD, drop, List·getD-append}
 use Rattle.lists.specs.Choice.{pick, neither, pick-le}
-use Rattle.lists.specs.Tab.{tab, same-tab, length-tab, getD-tab}
+use Rattle.lists.specs.Tab.{tab, length-tab, getD-tab}
 use Rattle.refusal.specs.declared.Refusal.the-variants.{Done}
 use Rattle.refusal.specs.Number.{doneOf}
 use Rattle.refusal.specs.Laws.{done-is}
@@ -25,14 +25,14 @@ use Rattle.raster.specs.Moves.{advanceBy, by-near}
 use Rattle.board.specs.declared.Page.{Page}
 use Rattle.board.specs.declared.Board.{Board}
 use Rattle.board.specs.Range.{memoryRefused}
-use Rattle.timing.specs.Fields.{rowsOf, hactOf, bufferOf}
+use Rattle.timing.specs.Fields.{rowsOf, bufferOf}
 use Rattle.timing.specs.Check.{callCheck}
 use Rattle.timing.specs.Laws.{call-passed}
 use Rattle.fetch.specs.declared.RowCells.{RowCells}
-use Rattle.fetch.specs.Rows.{rowStart, cellAt}
+use Rattle.fetch.specs.Rows.{rowStart, fetchedOf, fetchAt}
 use Rattle.fetch.specs.Run.{runCheck, runCount, spanOf}
 use Rattle.fetch.specs.RowCells.{cellsOf, cellsCheck, rowOf, cellsGiven, cellsPut}
-use Rattle.fetch.specs.Laws.{cell-along}
+use Rattle.fetch.specs.Laws.{fetched-small}
 
 -- the cell c moves from the row's start
 unfoldable pub columnBy : Buffer → (start c : ℕ) → ℕ
@@ -50,30 +50,25 @@ pub cells-as-run : (b : Board) (n row room : ℕ) → 256 ≤ room → cellsChec
 unfolding cellsCheck runCheck
 cells-as-run b n row room h = rw (le-ltb room 256 h, or-false (memoryRefused n))
 
-module _ (p : Page) (chars : List ℕ) (row : ℕ) where
-  same-column : (c : ℕ) → c < hactOf (p .irs) → columnBy (bufferOf (p .irs)) (rowStart p chars row) c ≡ cellAt p chars row c
-  unfolding columnBy
-  same-column = cell-along p chars row
-
-  pub cells-walked : tab (hactOf (p .irs)) (columnBy (bufferOf (p .irs)) (rowStart p chars row)) ≡ cellsOf p chars row
-  unfolding cellsOf
-  cells-walked = same-tab (hactOf (p .irs)) (columnBy (bufferOf (p .irs)) (rowStart p chars row)) (cellAt p chars row) same-column
+pub cells-walked : (p : Page) (chars : List ℕ) (row : ℕ) → tab (fetchedOf p chars row) (columnBy (bufferOf (p .irs)) (rowStart p chars row)) ≡ cellsOf p chars row
+unfolding cellsOf columnBy fetchAt
+cells-walked p chars row = refl
 
 -- ---- what the call answers and leaves
 
 module _ (b : Board) (chars : List ℕ) (row : ℕ) (cells₀ : List ℕ) where
   abbrev Left : RowCells → List ℕ → Type 0
-  Left r cells = (r ≡ cellsGiven b (length chars) row (length cells₀)) × (cells ≡ cellsPut b chars row cells₀)
+  Left r cells = (r ≡ cellsGiven b chars row (length cells₀)) × (cells ≡ cellsPut b chars row cells₀)
 
   abbrev done : Bool
   done = doneOf (cellsCheck b (length chars) row (length cells₀))
 
   pub cells-given : done ≡ true → {r : RowCells} {cells : List ℕ}
-      → r ≡ rowOf (cellsCheck b (length chars) row (length cells₀)) (hactOf (b .page .irs))
-      → cells ≡ tab (hactOf (b .page .irs)) (columnBy (bufferOf (b .page .irs)) (rowStart (b .page) chars row)) ++ drop (hactOf (b .page .irs)) cells₀
+      → r ≡ rowOf (cellsCheck b (length chars) row (length cells₀)) (fetchedOf (b .page) chars row)
+      → cells ≡ tab (fetchedOf (b .page) chars row) (columnBy (bufferOf (b .page .irs)) (rowStart (b .page) chars row)) ++ drop (fetchedOf (b .page) chars row) cells₀
       → Left r cells
   unfolding cellsGiven cellsPut
-  cells-given t e q = (rw t e, rw t (q ∙ ap (λ (l : List ℕ). l ++ drop (hactOf (b .page .irs)) cells₀) (cells-walked (b .page) chars row)))
+  cells-given t e q = (rw t e, rw t (q ∙ ap (λ (l : List ℕ). l ++ drop (fetchedOf (b .page) chars row) cells₀) (cells-walked (b .page) chars row)))
 
   pub cells-refused : done ≡ false → {r : RowCells} → r ≡ rowOf (cellsCheck b (length chars) row (length cells₀)) 0 → Left r cells₀
   unfolding cellsGiven cellsPut
@@ -81,52 +76,50 @@ module _ (b : Board) (chars : List ℕ) (row : ℕ) (cells₀ : List ℕ) where
 
 -- ---- what a caller knows of the count and of each cell
 
-module _ (b : Board) (n row room : ℕ) where
-  pub count-small : cellsGiven b n row room .count ≤ 256
+module _ (b : Board) (chars : List ℕ) (row room : ℕ) where
+  pub count-small : cellsGiven b chars row room .count ≤ 256
   unfolding cellsGiven
-  count-small = pick-le 256 (doneOf (cellsCheck b n row room)) (hactOf (b .page .irs)) 0 (omega arith) (omega arith)
+  count-small = pick-le 256 (doneOf (cellsCheck b (length chars) row room)) (fetchedOf (b .page) chars row) 0 (fetched-small (b .page) chars row .1) (omega arith)
 
-  pub cells-some : (c : ℕ) → c < cellsGiven b n row room .count → cellsCheck b n row room ≡ Done
+  pub cells-some : (c : ℕ) → c < cellsGiven b chars row room .count → cellsCheck b (length chars) row room ≡ Done
   unfolding cellsGiven
-  cells-some c h = go (doneOf (cellsCheck b n row room)) refl
+  cells-some c h = go (doneOf (cellsCheck b (length chars) row room)) refl
     where
-      go : (t : Bool) → doneOf (cellsCheck b n row room) ≡ t → cellsCheck b n row room ≡ Done
+      go : (t : Bool) → doneOf (cellsCheck b (length chars) row room) ≡ t → cellsCheck b (length chars) row room ≡ Done
       go true t = done-is _ t
       go false t = let none : c < 0 = rw t at h in absurd (omega (arith, none))
 
-pub cells-at : (b : Board) (chars : List ℕ) (row : ℕ) (cells₀ : List ℕ) (c : ℕ)
-    → c < cellsGiven b (length chars) row (length cells₀) .count → getD (cellsPut b chars row cells₀) c 0 ≡ cellAt (b .page) chars row c
+pub cells-at : (b : Board) (chars : List ℕ) (row : ℕ) (cells₀ : List ℕ) (i : ℕ)
+    → i < cellsGiven b chars row (length cells₀) .count → getD (cellsPut b chars row cells₀) i 0 ≡ fetchAt (b .page) chars row i
 unfolding cellsGiven cellsPut cellsOf
-cells-at b chars row cells₀ c h =
-    let n = hactOf (b .page .irs) in
-    let f = cellAt (b .page) chars row in
-    let ok = cells-some b (length chars) row (length cells₀) c h in
-    let in-row : c < n = rw ok at h in
-    rw ok (List·getD-append (tab n f) (drop n cells₀) 0 c (rw (length-tab n f) in-row) ∙ getD-tab n f c in-row)
+cells-at b chars row cells₀ i h =
+    let n = fetchedOf (b .page) chars row in
+    let f = fetchAt (b .page) chars row in
+    let ok = cells-some b chars row (length cells₀) i h in
+    let in-row : i < n = rw ok at h in
+    rw ok (List·getD-append (tab n f) (drop n cells₀) 0 i (rw (length-tab n f) in-row) ∙ getD-tab n f i in-row)
 
 -- ---- the run
 
-side-by-side : (p : Page) (start c : ℕ) → c < runCount p start → (c < hactOf (p .irs)) × (columnBy (bufferOf (p .irs)) start c ≡ start + c)
+side-by-side : (p : Page) (n start i : ℕ) → i < runCount p n start → (i < n) × (columnBy (bufferOf (p .irs)) start i ≡ start + i)
 unfolding runCount columnBy
-side-by-side p start c h = (omega arith, by-near (bufferOf (p .irs)) c start (omega arith) ∙ omega arith)
+side-by-side p n start i h = (omega arith, by-near (bufferOf (p .irs)) i start (omega arith) ∙ omega arith)
 
-pub run-at : (b : Board) (chars : List ℕ) (row c : ℕ) → c < spanOf b chars row .count
-    → (c < hactOf (b .page .irs)) × (cellAt (b .page) chars row c ≡ spanOf b chars row .start + c)
-unfolding spanOf
-run-at b chars row c h = go (doneOf (runCheck b (length chars) row)) refl
+pub run-at : (b : Board) (chars : List ℕ) (row i : ℕ) → i < spanOf b chars row .count
+    → (i < fetchedOf (b .page) chars row) × (fetchAt (b .page) chars row i ≡ spanOf b chars row .start + i)
+unfolding spanOf fetchAt columnBy
+run-at b chars row i h = go (doneOf (runCheck b (length chars) row)) refl
   where
     go : (t : Bool) → doneOf (runCheck b (length chars) row) ≡ t
-        → (c < hactOf (b .page .irs)) × (cellAt (b .page) chars row c ≡ spanOf b chars row .start + c)
-    go true t =
-        let near = side-by-side (b .page) (rowStart (b .page) chars row) c (rw t at h) in
-        rw t (near .0, sym (same-column (b .page) chars row c (near .0)) ∙ near .1)
-    go false t = let none : c < 0 = rw t at h in absurd (omega (arith, none))
+        → (i < fetchedOf (b .page) chars row) × (fetchAt (b .page) chars row i ≡ spanOf b chars row .start + i)
+    go true t = rw t (side-by-side (b .page) (fetchedOf (b .page) chars row) (rowStart (b .page) chars row) i (rw t at h))
+    go false t = let none : i < 0 = rw t at h in absurd (omega (arith, none))
 
-pub run-least : (b : Board) (chars : List ℕ) (row room : ℕ) → 256 ≤ room → spanOf b chars row .count ≤ cellsGiven b (length chars) row room .count
+pub run-least : (b : Board) (chars : List ℕ) (row room : ℕ) → 256 ≤ room → spanOf b chars row .count ≤ cellsGiven b chars row room .count
 unfolding spanOf runCount cellsGiven
 run-least b chars row room h = rw (cells-as-run b (length chars) row room h) (go (doneOf (runCheck b (length chars) row)) refl)
   where
     go : (t : Bool) → doneOf (runCheck b (length chars) row) ≡ t
-        → spanOf b chars row .count ≤ pick (doneOf (runCheck b (length chars) row)) (hactOf (b .page .irs)) 0
+        → spanOf b chars row .count ≤ pick (doneOf (runCheck b (length chars) row)) (fetchedOf (b .page) chars row) 0
     go true t = rw t (omega arith)
     go false t = rw t (omega arith)

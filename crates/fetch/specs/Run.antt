@@ -11,10 +11,10 @@ use Rattle.raster.specs.Moves.{toLast}
 use Rattle.board.specs.declared.Page.{Page}
 use Rattle.board.specs.declared.Board.{Board}
 use Rattle.board.specs.Range.{memoryRefused}
-use Rattle.timing.specs.Fields.{hactOf, rowsOf, bufferOf}
+use Rattle.timing.specs.Fields.{rowsOf, bufferOf}
 use Rattle.timing.specs.Check.{callCheck}
 use Rattle.fetch.specs.declared.Span.{Span}
-use Rattle.fetch.specs.Rows.{rowStart}
+use Rattle.fetch.specs.Rows.{rowStart, fetchedOf}
 
 -- a call that asks for a row: 3 where a lent part has a wrong size, 12, 4, 13, 14, 15, 6, 7
 abbrev pub rowCheck : Board → (size : Bool) → (row : ℕ) → Refusal
@@ -24,9 +24,9 @@ rowCheck b size row = callCheck b size (leb (rowsOf (b .page .irs)) row) false
 unfoldable pub runCheck : Board → (n row : ℕ) → Refusal
 runCheck b n row = rowCheck b (memoryRefused n) row
 
--- HACT cells to the row's end, so many to the last buffer address, so many to 16383
-unfoldable pub runCount : Page → ℕ → ℕ
-runCount p start = min (hactOf (p .irs)) (min (toLast (bufferOf (p .irs)) start + 1) (16384 - start))
+-- so many cells to the row's end, so many to the last buffer address, so many to 16383
+unfoldable pub runCount : Page → (cells start : ℕ) → ℕ
+runCount p cells start = min cells (min (toLast (bufferOf (p .irs)) start + 1) (16384 - start))
 
 abbrev pub span : Refusal → ℕ → ℕ → Span
 span r s n = record { refusal = r; start = s; count = n }
@@ -34,7 +34,7 @@ span r s n = record { refusal = r; start = s; count = n }
 unfoldable pub spanOf : Board → List ℕ → ℕ → Span
 spanOf b chars row =
     pick (doneOf (runCheck b (length chars) row))
-    (span (runCheck b (length chars) row) (rowStart (b .page) chars row) (runCount (b .page) (rowStart (b .page) chars row)))
+    (span (runCheck b (length chars) row) (rowStart (b .page) chars row) (runCount (b .page) (fetchedOf (b .page) chars row) (rowStart (b .page) chars row)))
     (span (runCheck b (length chars) row) 0 0)
 
 -- the part; a refusal shows an empty part

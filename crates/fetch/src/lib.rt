@@ -8,7 +8,7 @@ ghost use Rattle.lists.specs.Tab.{tab};
 ghost use Rattle.units.specs.Units.{clocks};
 ghost use Rattle.raster.specs.Moves.{cell, Bounded};
 ghost use Rattle.refusal.specs.Number.{numberOf};
-ghost use Rattle.fetch.specs.Rows.{entryOf, rowStart, cellAt};
+ghost use Rattle.fetch.specs.Rows.{byteAt, entryOf, codeAt, rowStart, cellAt, fetchedOf, movedOf, begunOf};
 ghost use Rattle.fetch.specs.Run.{rowCheck, runCheck, runCount, spanOf, runOf};
 ghost use Rattle.fetch.specs.RowCells.{cellsCheck, cellsGiven, cellsPut};
 ghost use Rattle.fetch.specs.RowLaws.{columnBy};
@@ -32,17 +32,84 @@ fn wide(x: u8) -> u16
     x as u16
 }
 
+// The character byte at an address.
+fn byte_at(chars: &[u8], address: u32) -> u8
+    requires { ⌜ length (now chars) ≡ 16384 ⌝ }
+    ensures { λ r. ⌜ r ≡ byteAt (now (chars .entry)) address ⌝ }
+{
+    chars[(address % 16384) as usize]
+}
+
 // The row table's entry of a row.
 pub fn entry(p: board::Page, chars: &[u8], row: u32) -> raster::Cell
     requires { ⌜ (length (now chars) ≡ 16384) × (row < 8192) ⌝ }
     ensures { λ r. ⌜ r ≡ cell (entryOf p (now (chars .entry)) row) ⌝ }
 {
     let start = p.starts.start2 as u32 + 2 * row;
-    let low = (start % 16384) as usize;
-    let high = ((start + 1) % 16384) as usize;
+    let low = byte_at(chars, start);
+    let high = byte_at(chars, start + 1);
     raster::Cell {
-        address: wide(chars[low]) % 256 + 256 * (wide(chars[high]) % 64),
+        address: wide(low) % 256 + 256 * (wide(high) % 64),
     }
+}
+
+// A row's code, 0 while no row has one.
+pub fn code_at(p: board::Page, chars: &[u8], row: u32) -> u8
+    requires { ⌜ (length (now chars) ≡ 16384) × (row < 8192) ⌝ }
+    ensures { λ r. ⌜ r ≡ codeAt p (now (chars .entry)) row ⌝ }
+{
+    let irs = p.irs;
+    if timing::coded_of(irs) {
+        return byte_at(chars, p.starts.start2 as u32 + 2 * row + 1) / 64 % 4;
+    }
+    0
+}
+
+// How many cells a row fetches.
+pub fn fetched_of(p: board::Page, chars: &[u8], row: u32) -> units::Clocks
+    requires { ⌜ (length (now chars) ≡ 16384) × (row < 8192) ⌝ }
+    ensures { λ r. ⌜ r ≡ clocks (fetchedOf p (now (chars .entry)) row) ⌝ }
+{
+    let irs = p.irs;
+    let t = timing::timing_of(irs);
+    let hact = t.counts.hact;
+    let code = raster::code_of(code_at(p, chars, row));
+    if raster::is_wide(code) {
+        return units::Clocks((hact.0 + 1) / 2);
+    }
+    hact
+}
+
+// How many of them by a column.
+fn moved_of(p: board::Page, chars: &[u8], row: u32, column: units::Clocks) -> units::Clocks
+    requires { ⌜ (length (now chars) ≡ 16384) × (row < 8192) ⌝ }
+    ensures { λ r. ⌜ r ≡ clocks (movedOf p (now (chars .entry)) row (column .0)) ⌝ }
+{
+    let irs = p.irs;
+    let t = timing::timing_of(irs);
+    if column.below(t.counts.hact) {
+        let code = raster::code_of(code_at(p, chars, row));
+        if raster::is_wide(code) {
+            return units::Clocks(column.0 / 2);
+        }
+        return column;
+    }
+    fetched_of(p, chars, row)
+}
+
+// How many it has fetched before a column.
+pub fn begun_of(p: board::Page, chars: &[u8], row: u32, column: units::Clocks) -> units::Clocks
+    requires { ⌜ (length (now chars) ≡ 16384) × (row < 8192) ⌝ }
+    ensures { λ r. ⌜ r ≡ clocks (begunOf p (now (chars .entry)) row (column .0)) ⌝ }
+{
+    let irs = p.irs;
+    let t = timing::timing_of(irs);
+    let n = column.least(t.counts.hact);
+    let code = raster::code_of(code_at(p, chars, row));
+    if raster::is_wide(code) {
+        return units::Clocks((n.0 + 1) / 2);
+    }
+    n
 }
 
 // A row's start.
@@ -68,26 +135,22 @@ pub fn cell_at(p: board::Page, chars: &[u8], row: u32, column: units::Clocks) ->
     ensures { λ r. ⌜ r ≡ cell (cellAt p (now (chars .entry)) row (column .0)) ⌝ }
 {
     let irs = p.irs;
-    let t = timing::timing_of(irs);
-    let moves = column.least(t.counts.hact);
+    let moves = moved_of(p, chars, row, column);
     let start = row_start(p, chars, row);
     raster::advance_by(timing::buffer_of(irs), moves, start)
 }
 
-// How many cells from a row's start on stand side by side: so many clocks fetch them.
-fn run_count(p: board::Page, start: u16) -> units::Clocks
+// How many of a row's cells stand side by side from its start on.
+fn run_count(p: board::Page, cells: units::Clocks, start: u16) -> units::Clocks
     requires { ⌜ start < 16384 ⌝ }
-    ensures { λ r. ⌜ r ≡ clocks (runCount p start) ⌝ }
+    ensures { λ r. ⌜ r ≡ clocks (runCount p (cells .0) start) ⌝ }
 {
     let irs = p.irs;
-    let t = timing::timing_of(irs);
     let b = timing::buffer_of(irs);
     let at = start as u32;
     let to_last = (b.last as u32 + 16384 - at % 16384) % 16384;
     let to_top = units::Clocks(16384 - at);
-    t.counts
-        .hact
-        .least(units::Clocks(to_last + 1).least(to_top))
+    cells.least(units::Clocks(to_last + 1).least(to_top))
 }
 
 // What a call for a row is refused by; whether a lent part has a wrong size is the call's to say.
@@ -113,11 +176,12 @@ pub fn span_of(b: board::Board, chars: &[u8], row: u32) -> Span
     let page = b.page;
     let refused = run_check(b, chars.len(), row);
     if refusal::is_done(refused) {
+        let cells = fetched_of(page, chars, row);
         let start = row_start(page, chars, row);
         return Span {
             refusal: refused,
             start: start.address as usize,
-            count: run_count(page, start.address).0 as usize,
+            count: run_count(page, cells, start.address).0 as usize,
         };
     }
     Span {
@@ -163,17 +227,17 @@ fn put_cells(cells: &mut [u16], buffer: raster::Buffer, start: raster::Cell, n: 
     }
 }
 
-// The addresses of all cells that a row fetches, column by column, at the front of cells.
+// The addresses of all cells that a row fetches, one after the other, at the front of cells.
 pub fn row_cells(b: board::Board, chars: &[u8], row: u32, cells: &mut [u16]) -> RowCells
-    ensures { λ r. ⌜ (r ≡ cellsGiven b (length (now (chars .entry))) row (length (now (cells .entry))))
+    ensures { λ r. ⌜ (r ≡ cellsGiven b (now (chars .entry)) row (length (now (cells .entry))))
         × (now (cells .exit) ≡ cellsPut b (now (chars .entry)) row (now (cells .entry))) ⌝ }
 {
     let page = b.page;
     let irs = page.irs;
     let refused = cells_check(b, chars.len(), row, cells.len());
     if refusal::is_done(refused) {
-        let t = timing::timing_of(irs);
-        let count = t.counts.hact.0 as usize;
+        let n = fetched_of(page, chars, row);
+        let count = n.0 as usize;
         let start = row_start(page, chars, row);
         put_cells(cells, timing::buffer_of(irs), start, count);
         return RowCells {

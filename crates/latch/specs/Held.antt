@@ -1,15 +1,21 @@
 -- 000, field mode (02, R-1): what is valid before the cell at a column of a row.
 use Prim.Native.Nat.{ℕ, min, _+_, _*_, _/_, _%_}
 use mathlib.Core.List.{List}
+use Rattle.lists.specs.Choice.{pick}
+use Rattle.raster.specs.Wide.{codeOf, fetchesAt}
 use Rattle.raster.specs.Latch.{setsOf, lastSet}
 use Rattle.board.specs.declared.Page.{Page}
 use Rattle.board.specs.Modes.{fieldMode}
-use Rattle.timing.specs.Fields.{hactOf}
-use Rattle.fetch.specs.Rows.{cellAt}
+use Rattle.timing.specs.Fields.{hactOf, countsOf}
+use Rattle.fetch.specs.Rows.{codeAt, cellAt}
 
--- the attribute byte of the cell that is fetched after k others, from row 0, column 0 of the frame on
+-- what column c of row r sets: the attribute byte of the cell that it fetches, if it fetches one
+abbrev pub setIn : Page → (chars attrs : List ℕ) → (row column : ℕ) → ℕ
+setIn p chars attrs r c = pick (fetchesAt (countsOf (p .irs)) (codeOf (codeAt p chars r)) c) (setsOf (fieldMode p) attrs (cellAt p chars r c)) 0
+
+-- the column after k others, from row 0, column 0 of the frame on
 abbrev pub byteOf : Page → (chars attrs : List ℕ) → (k : ℕ) → ℕ
-byteOf p chars attrs k = setsOf (fieldMode p) attrs (cellAt p chars (k / hactOf (p .irs)) (k % hactOf (p .irs)))
+byteOf p chars attrs k = setIn p chars attrs (k / hactOf (p .irs)) (k % hactOf (p .irs))
 
 -- of the last cell with AFLG that is fetched in the frame before column c of row r, or 0 for none
 unfoldable pub heldAt : Page → (chars attrs : List ℕ) → (row column : ℕ) → ℕ

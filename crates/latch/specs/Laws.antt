@@ -6,25 +6,28 @@
 --     held-next      a row begins with what is valid at the end of the row before it
 --     held-plain     in character mode nothing is ever latched
 --     held-kept      a latch byte has AFLG or is 0
-use Prim.Native.Nat.{ℕ, suc, min, _+_, _-_, _*_, _≤_, _<_}
+use Prim.Native.Nat.{ℕ, suc, min, _+_, _-_, _*_, _/_, _%_, _≤_, _<_}
 use mathlib.Core.Path.{_≡_, refl, sym, ap, _∙_}
-use mathlib.Core.Bool.{true, false}
+use mathlib.Core.Bool.{Bool, true, false, not}
 use mathlib.Core.List.{List}
 use native.Mathlib.Nat.{zero-mul, suc-mul}
 use native.Mathlib.Omega.{arith}
+use borrow.Author.Tests.{lt-ltb}
 use lib.ListN.{getD}
+use Rattle.lists.specs.Choice.{pick}
 use Rattle.raster.specs.declared.Buffer.{Buffer}
 use Rattle.raster.specs.declared.Cell.{Cell}
 use Rattle.raster.specs.Moves.{cell, advanceBy}
-use Rattle.raster.specs.Latch.{latched, setsOf, lastSet, last-none, same-last, last-over, last-kept}
+use Rattle.raster.specs.Wide.{codeOf, isWide, againAt, fetchesAt}
+use Rattle.raster.specs.Latch.{latched, setsOf, lastSet, last-none, same-last, last-over, last-kept, columns-cells}
 use Rattle.raster.specs.Beams.{validAt, valid-in-row}
 use Rattle.board.specs.declared.Page.{Page}
 use Rattle.board.specs.Modes.{fieldMode}
 use Rattle.timing.specs.declared.Timing.{Timing}
 use Rattle.timing.specs.Fields.{hactOf, bufferOf, timingOf, countsOf}
-use Rattle.fetch.specs.Rows.{feedIn, tallyIn, rowStart, cellAt}
-use Rattle.fetch.specs.Laws.{cell-along}
-use Rattle.latch.specs.Held.{byteOf, heldAt}
+use Rattle.fetch.specs.Rows.{codeAt, feedIn, tallyIn, rowStart, cellAt, fetchedOf, begunOf, fetchAt}
+use Rattle.fetch.specs.Laws.{cell-shown, begun-all}
+use Rattle.latch.specs.Held.{setIn, byteOf, heldAt}
 
 -- the count of columns that a timing has
 pub columns-of : (p : Page) (t : Timing) → t ≡ timingOf (p .irs) → t .counts .hact .0 ≡ hactOf (p .irs)
@@ -39,7 +42,7 @@ module _ (p : Page) (chars attrs : List ℕ) where
   abbrev H : ℕ
   H = hactOf (p .irs)
 
-  pub held-valid : (r c : ℕ) → heldAt p chars attrs r c ≡ validAt (countsOf (p .irs)) (feedIn p chars) (setsOf (fieldMode p) attrs) (tallyIn p) r c
+  pub held-valid : (r c : ℕ) → heldAt p chars attrs r c ≡ validAt (countsOf (p .irs)) (feedIn p chars) (codeAt p chars) (setsOf (fieldMode p) attrs) (tallyIn p chars) r c
   unfolding heldAt validAt cellAt countsOf
   held-valid r c = refl
 
@@ -49,14 +52,30 @@ module _ (p : Page) (chars attrs : List ℕ) where
       let z : 0 * H + min 0 H ≡ 0 = omega (arith, zero-mul H) in
       rw z
 
-  pub held-in-row : (r c : ℕ) → c ≤ H → heldAt p chars attrs r c ≡ lastSet (λ i. setsOf (fieldMode p) attrs (cellAt p chars r i)) (heldAt p chars attrs r 0) c
+  pub held-in-row : (r c : ℕ) → c ≤ H → heldAt p chars attrs r c ≡ lastSet (setIn p chars attrs r) (heldAt p chars attrs r 0) c
   unfolding heldAt validAt cellAt countsOf
-  held-in-row r c h = valid-in-row (countsOf (p .irs)) (feedIn p chars) (setsOf (fieldMode p) attrs) (tallyIn p) r c (omega arith)
+  held-in-row r c h = valid-in-row (countsOf (p .irs)) (feedIn p chars) (codeAt p chars) (setsOf (fieldMode p) attrs) (tallyIn p chars) r c (omega arith)
 
-  -- the same along the row from its start
+  -- a column of the row, by the number of the cell that it shows
+  column-sets : (r i : ℕ) → i < H
+      → setIn p chars attrs r i ≡ pick (againAt (codeOf (codeAt p chars r)) i) 0 (setsOf (fieldMode p) attrs (fetchAt p chars r (pick (isWide (codeOf (codeAt p chars r))) (i / 2) i)))
+  unfolding countsOf
+  column-sets r i h =
+      rw (lt-ltb i H h, cell-shown p chars r i h) (turned (againAt (codeOf (codeAt p chars r)) i) (setsOf (fieldMode p) attrs (cellAt p chars r i)) 0)
+    where
+      turned : (t : Bool) (a b : ℕ) → pick (not t) a b ≡ pick t b a
+      turned true a b = refl
+      turned false a b = refl
+
+  -- the same along the row from its start, cell by cell
   pub held-along : (r c : ℕ) → c ≤ H
-      → heldAt p chars attrs r c ≡ lastSet (λ i. setsOf (fieldMode p) attrs (advanceBy (bufferOf (p .irs)) i (rowStart p chars r))) (heldAt p chars attrs r 0) c
-  held-along r c h = held-in-row r c h ∙ same-last _ _ _ c (λ i l. ap (setsOf (fieldMode p) attrs) (sym (cell-along p chars r i (omega arith))))
+      → heldAt p chars attrs r c ≡ lastSet (λ i. setsOf (fieldMode p) attrs (fetchAt p chars r i)) (heldAt p chars attrs r 0) (begunOf p chars r c)
+  unfolding begunOf
+  held-along r c h =
+      let m : min c H ≡ c = omega arith in
+      held-in-row r c h
+      ∙ same-last _ _ _ c (λ i l. column-sets r i (omega arith))
+      ∙ rw m (columns-cells (codeOf (codeAt p chars r)) (λ i. setsOf (fieldMode p) attrs (fetchAt p chars r i)) (heldAt p chars attrs r 0) c)
 
   -- past the row's last cell nothing is fetched
   pub held-least : (r c : ℕ) → heldAt p chars attrs r (min c H) ≡ heldAt p chars attrs r c
@@ -73,7 +92,11 @@ module _ (p : Page) (chars attrs : List ℕ) where
 
   pub held-plain : fieldMode p ≡ false → (r c : ℕ) → heldAt p chars attrs r c ≡ 0
   unfolding heldAt
-  held-plain m r c = last-none (byteOf p chars attrs) 0 _ (λ i h. rw m (omega arith))
+  held-plain m r c = last-none (byteOf p chars attrs) 0 _ (λ i h. rw m (none (fetchesAt (countsOf (p .irs)) (codeOf (codeAt p chars (i / H))) (i % H))))
+    where
+      none : (t : Bool) → pick t 0 0 < 128
+      none true = omega arith
+      none false = omega arith
 
   pub held-kept : (r c : ℕ) → latched (heldAt p chars attrs r c) 0 ≡ heldAt p chars attrs r c
   unfolding heldAt
@@ -85,7 +108,8 @@ module _ (p : Page) (chars attrs : List ℕ) where
     abbrev bytes : ℕ → ℕ → ℕ
     bytes r = rowByte attrs (bufferOf (p .irs)) (rowStart p chars r)
 
-    from-row : (r c : ℕ) → c ≤ H → heldAt p chars attrs r c ≡ lastSet (bytes r) (heldAt p chars attrs r 0) c
+    from-row : (r c : ℕ) → c ≤ H → heldAt p chars attrs r c ≡ lastSet (bytes r) (heldAt p chars attrs r 0) (begunOf p chars r c)
+    unfolding fetchAt
     from-row r c h = rw runs at (held-along r c h)
 
     -- what the search of a row answers, in the words of the calls before it
@@ -94,22 +118,25 @@ module _ (p : Page) (chars attrs : List ℕ) where
     looked-in r n eu es em e = rw (eu, es, em) at e
 
     -- in the row itself
-    module _ (r c v : ℕ) (h : c ≤ H) (e : v ≡ lastSet (bytes r) 0 c) where
+    module _ (r c v : ℕ) (h : c ≤ H) (e : v ≡ lastSet (bytes r) 0 (begunOf p chars r c)) where
       pub found-here : (v ≡ 0 → ⊥) → v ≡ heldAt p chars attrs r c
-      found-here some = e ∙ sym (from-row r c h ∙ last-over (bytes r) (heldAt p chars attrs r 0) c .1 (λ z. some (e ∙ z)))
+      found-here some = e ∙ sym (from-row r c h ∙ last-over (bytes r) (heldAt p chars attrs r 0) (begunOf p chars r c) .1 (λ z. some (e ∙ z)))
 
       pub none-here : v ≡ 0 → heldAt p chars attrs r 0 ≡ heldAt p chars attrs r c
-      none-here none = sym (from-row r c h ∙ last-over (bytes r) (heldAt p chars attrs r 0) c .0 (sym e ∙ none))
+      none-here none = sym (from-row r c h ∙ last-over (bytes r) (heldAt p chars attrs r 0) (begunOf p chars r c) .0 (sym e ∙ none))
 
     -- in the row above
-    module _ (r v : ℕ) (some : 0 < r) (e : v ≡ lastSet (bytes (r - 1)) 0 H) where
+    module _ (r v : ℕ) (some : 0 < r) (e : v ≡ lastSet (bytes (r - 1)) 0 (fetchedOf p chars (r - 1))) where
       begun : heldAt p chars attrs (r - 1) H ≡ heldAt p chars attrs r 0
       begun =
           let one : suc (r - 1) ≡ r = omega arith in
           held-next (r - 1) ∙ ap (λ (x : ℕ). heldAt p chars attrs x 0) one
 
+      all-of : v ≡ lastSet (bytes (r - 1)) 0 (begunOf p chars (r - 1) H)
+      all-of = e ∙ ap (lastSet (bytes (r - 1)) 0) (sym (begun-all p chars (r - 1)))
+
       pub found-above : (v ≡ 0 → ⊥) → v ≡ heldAt p chars attrs r 0
-      found-above found = found-here (r - 1) H v (omega arith) e found ∙ begun
+      found-above found = found-here (r - 1) H v (omega arith) all-of found ∙ begun
 
       pub none-above : v ≡ 0 → heldAt p chars attrs (r - 1) 0 ≡ heldAt p chars attrs r 0
-      none-above none = none-here (r - 1) H v (omega arith) e none ∙ begun
+      none-above none = none-here (r - 1) H v (omega arith) all-of none ∙ begun

@@ -31,13 +31,13 @@ fn held_before(p: board::Page, chars: &[u8], attrs: &[u8], row: u32) -> u8
     ensures { λ r. ⌜ r ≡ heldAt p (now (chars .entry)) (now (attrs .entry)) row 0 ⌝ }
 {
     let irs = p.irs;
-    let t = timing::timing_of(irs);
     let buffer = timing::buffer_of(irs);
     let mut left = row;
     while 0 < left {
         left -= 1;
+        let n = fetch::fetched_of(p, chars, left);
         let start = fetch::row_start(p, chars, left);
-        let byte = last_in_row(attrs, buffer, start, t.counts.hact.0);
+        let byte = last_in_row(attrs, buffer, start, n.0);
         if byte != 0 {
             return byte;
         }
@@ -54,8 +54,7 @@ pub fn held_at(p: board::Page, chars: &[u8], attrs: &[u8], row: u32, column: uni
         return 0;
     }
     let irs = p.irs;
-    let t = timing::timing_of(irs);
-    let n = column.least(t.counts.hact);
+    let n = fetch::begun_of(p, chars, row, column);
     let start = fetch::row_start(p, chars, row);
     let byte = last_in_row(attrs, timing::buffer_of(irs), start, n.0);
     if byte != 0 {

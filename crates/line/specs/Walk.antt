@@ -1,13 +1,14 @@
 -- The line as the drawer makes it, from the row's cells and the levels of their marks, and that this is the line of `Line.antt`. Assumes nothing.
-use Prim.Native.Nat.{ℕ, _+_, _*_, _/_, _%_, _≤_, _<_}
-use mathlib.Core.Path.{_≡_, refl, sym, ap, ap₂, _∙_}
-use mathlib.Core.Bool.{Bool, true, false, _||_, not, true≢false}
+use Prim.Native.Nat.{ℕ, suc, min, _+_, _*_, _/_, _%_, _≤_, _<_}
+use mathlib.Core.Path.{_≡_, refl, sym, ap, _∙_}
+use mathlib.Core.Bool.{Bool, true, false, _&&_, _||_, not, true≢false}
 use mathlib.Core.List.{List, [], _∷_, _++_}
 use native.Mathlib.Nat.{div-lt-iff-lt-mul}
+use native.Mathlib.Decide.{ℕ-discrete}
 use native.Mathlib.Omega.{arith}
-use borrow.Author.Tests.{leb-false, ltb-false}
+use borrow.Author.Tests.{leb-false, ltb-false, eq-eqb, ne-eqb}
 use lib.ListN.{length, getD, drop}
-use lib.Dec.{ltb, leb}
+use lib.Dec.{eqb, ltb, leb}
 use Rattle.units.specs.declared.Lines.{Lines}
 use Rattle.units.specs.Units.{lines}
 use Rattle.lists.specs.Choice.{pick, firstOf, neither}
@@ -19,7 +20,10 @@ use Rattle.refusal.specs.Number.{doneOf}
 use Rattle.refusal.specs.Laws.{passed, not-refused}
 use Rattle.raster.specs.declared.Buffer.{Buffer}
 use Rattle.raster.specs.declared.Cell.{Cell}
-use Rattle.raster.specs.Moves.{cell, advanceBy}
+use Rattle.raster.specs.declared.Code.{Code}
+use Rattle.raster.specs.Moves.{cell}
+use Rattle.raster.specs.Wide.{codeOf, isWide, againAt}
+use Rattle.raster.specs.Latch.{latched, lastSet, fetchedBy}
 use Rattle.board.specs.declared.Page.{Page}
 use Rattle.board.specs.declared.Board.{Board}
 use Rattle.board.specs.Modes.{fieldMode}
@@ -29,8 +33,8 @@ use Rattle.timing.specs.declared.Timing.{Timing}
 use Rattle.timing.specs.Fields.{hactOf, rowsOf, linesOf, visibleOf, bufferOf, timingOf, countsOf}
 use Rattle.timing.specs.Check.{pageCheck, stateRefused, callCheck}
 use Rattle.timing.specs.Laws.{Accepted, call-passed}
-use Rattle.fetch.specs.Rows.{rowStart}
-use Rattle.fetch.specs.Laws.{cell-along}
+use Rattle.fetch.specs.Rows.{codeAt, rowStart, cellAt, fetchedOf, begunOf, fetchAt}
+use Rattle.fetch.specs.Laws.{cell-shown}
 use Rattle.latch.specs.Held.{heldAt}
 use Rattle.latch.specs.Laws.{held-along}
 use Rattle.shape.specs.Font.{Font, Whole, fontRefused, positionOf, wordBy}
@@ -38,13 +42,15 @@ use Rattle.shape.specs.Laws.{font-whole}
 use Rattle.video.specs.declared.Scene.{Scene}
 use Rattle.video.specs.declared.Reading.{Reading}
 use Rattle.video.specs.Scene.{sceneOf}
-use Rattle.video.specs.At.{Content, lentRefused, readingOf, contentAt, scanDots, dotsAt}
+use Rattle.video.specs.Cell.{columnOf}
+use Rattle.video.specs.At.{Content, lentRefused, scanAt, readingOf, countedByte, contentAt, scanDots, dotsAt}
 use Rattle.dots.specs.Stores.{wideOf}
 use Rattle.dots.specs.Width.{shades, length-shades}
+use Rattle.dots.specs.Half.{shownOf, fetchedFor, cells-few, same-shown}
 use Rattle.tables.specs.Tables.{markOf, numberFor, heldBy, cellBy, levelsOf}
 use Rattle.tables.specs.Laws.{shown-lt, gathered, gathered-lt, looked-up, code-of, mark-of, by-word}
 use Rattle.line.specs.declared.Walk.{Walk}
-use Rattle.line.specs.Line.{columnDots, lineDots, lineLength, drawCheck, drawnOf}
+use Rattle.line.specs.Line.{rowFor, codeFor, scanFor, columnDots, lineDots, lineLength, drawCheck, drawnOf}
 
 unfoldable pub walkOf : Page → (unshifted shifted : List ℕ) → (scan : ℕ) → Walk
 walkOf p unshifted shifted scan = record {
@@ -79,6 +85,14 @@ pub as-column : (w : Walk) (row looks words flags : List ℕ) (c : ℕ) (out res
     → out ≡ dotsFor w looks words flags (getD row c 0) ++ rest → out ≡ columnFor w row looks words flags c ++ rest
 unfolding columnFor
 as-column w row looks words flags c out rest e = e
+
+-- the cells that are asked for, by the two ways to draw them
+module _ (w : Walk) (row looks words flags : List ℕ) (columns : ℕ) {wide : Bool} (k : Ready w row looks words flags (fetchedFor wide columns)) where
+  pub ready-plain : wide ≡ false → Ready w row looks words flags columns
+  ready-plain e = rw e at k
+
+  pub ready-wide : wide ≡ true → Ready w row looks words flags ((columns + 1) / 2)
+  ready-wide e = rw e at k
 
 -- ---- the check in two stages, as the code has it: the call's own, then 7 and 8 for the line
 
@@ -138,89 +152,138 @@ draw-passed b chars attrs f line room e =
       roomy = ltb-false _ _ (k .roomy);
     }
 
--- what is valid so many moves from the row's start
-pub valid-along : (p : Page) (chars attrs : List ℕ) (r c : ℕ) → c ≤ hactOf (p .irs)
-    → heldBy (fieldMode p) attrs (bufferOf (p .irs)) (heldAt p chars attrs r 0) (rowStart p chars r) c ≡ heldAt p chars attrs r c
-unfolding heldBy
+-- what is valid before the cell that the row fetches after i others
+abbrev pub validBy : Page → (chars attrs : List ℕ) → (r i : ℕ) → ℕ
+validBy p chars attrs r i = heldBy (fieldMode p) attrs (bufferOf (p .irs)) (heldAt p chars attrs r 0) (rowStart p chars r) i
+
+pub valid-along : (p : Page) (chars attrs : List ℕ) (r c : ℕ) → c ≤ hactOf (p .irs) → validBy p chars attrs r (begunOf p chars r c) ≡ heldAt p chars attrs r c
+unfolding heldBy fetchAt
 valid-along p chars attrs r c h = sym (held-along p chars attrs r c h)
 
--- the cell so many moves from the row's start
-abbrev pub contentBy : Page → (chars attrs : List ℕ) → (held start c : ℕ) → Content
-contentBy p chars attrs held start c =
-    contentAt (readingOf p) chars attrs (heldBy (fieldMode p) attrs (bufferOf (p .irs)) held start c) (advanceBy (bufferOf (p .irs)) c start)
+valid-next : (p : Page) (chars attrs : List ℕ) (r i : ℕ) → validBy p chars attrs r (suc i) ≡ latched (pick (fieldMode p) (getD attrs (fetchAt p chars r i) 0) 0) (validBy p chars attrs r i)
+unfolding heldBy lastSet fetchAt
+valid-next p chars attrs r i = refl
+
+-- that cell
+abbrev pub contentBy : Page → (chars attrs : List ℕ) → (r i : ℕ) → Content
+contentBy p chars attrs r i = contentAt (readingOf p) chars attrs false (validBy p chars attrs r i) (fetchAt p chars r i)
+
+-- on a column that shows a cell again what is valid before it has the cell's own byte, if that has AFLG
+again-valid : (k : Reading) (byte held : ℕ) → latched (countedByte k true byte) (latched (pick (k .runs) byte 0) held) ≡ latched byte held
+again-valid k byte held = go (k .runs)
+  where
+    go : (t : Bool) → latched (pick t 0 byte) (latched (pick t byte 0) held) ≡ latched byte held
+    go true = refl
+    go false = refl
+
+module _ (p : Page) (chars attrs : List ℕ) (r c : ℕ) (h : c < hactOf (p .irs)) where
+  abbrev k : Code
+  k = codeOf (codeAt p chars r)
+
+  -- the cell that the column shows
+  abbrev i : ℕ
+  i = pick (isWide k) (c / 2) c
+
+  attributes-are : latched (countedByte (readingOf p) (againAt k c) (getD attrs (fetchAt p chars r i) 0)) (validBy p chars attrs r (begunOf p chars r c))
+      ≡ latched (getD attrs (fetchAt p chars r i) 0) (validBy p chars attrs r i)
+  unfolding begunOf fetchedBy
+  attributes-are = go (isWide k) (ℕ-discrete (c % 2) 1)
+    where
+      m : min c (hactOf (p .irs)) ≡ c
+      m = omega arith
+
+      byte : ℕ → ℕ
+      byte i = getD attrs (fetchAt p chars r i) 0
+
+      go : (t : Bool) → Dec (c % 2 ≡ 1) → latched (countedByte (readingOf p) (t && eqb (c % 2) 1) (byte (pick t (c / 2) c))) (validBy p chars attrs r (pick t ((min c (hactOf (p .irs)) + 1) / 2) (min c (hactOf (p .irs)))))
+          ≡ latched (byte (pick t (c / 2) c)) (validBy p chars attrs r (pick t (c / 2) c))
+      go false d = rw m
+      go true (yes o) =
+          let n : (c + 1) / 2 ≡ suc (c / 2) = omega (arith, o) in
+          rw (m, n, eq-eqb (c % 2) 1 o) (ap (latched (countedByte (readingOf p) true (byte (c / 2)))) (valid-next p chars attrs r (c / 2)) ∙ again-valid (readingOf p) (byte (c / 2)) (validBy p chars attrs r (c / 2)))
+      go true (no f) =
+          let n : (c + 1) / 2 ≡ c / 2 = omega (arith, f) in
+          rw (m, n, ne-eqb (c % 2) 1 f)
+
+  pub content-shown : contentAt (readingOf p) chars attrs (againAt k c) (heldAt p chars attrs r c) (cellAt p chars r c) ≡ contentBy p chars attrs r i
+  content-shown =
+      let v = valid-along p chars attrs r c (omega (arith, h)) in
+      rw (← cell-shown p chars r c h, ← v) (ap (λ (x : ℕ). record { code = contentBy p chars attrs r i .code; attributes = x; here = contentBy p chars attrs r i .here }) attributes-are)
 
 -- a column shows it
 pub column-content : (b : Board) (chars attrs : List ℕ) (f : Font) (line field c : ℕ) → c < hactOf (b .page .irs)
-    → scanDots b f (line % linesOf (b .page .irs)) field
-    (contentBy (b .page) chars attrs (heldAt (b .page) chars attrs (line / linesOf (b .page .irs)) 0) (rowStart (b .page) chars (line / linesOf (b .page .irs))) c)
-    ≡ columnDots b chars attrs f line field c
-unfolding columnDots dotsAt
+    → shownOf (isWide (codeFor b chars line)) (λ (i : ℕ). scanDots b f (scanFor b chars line) field (contentBy (b .page) chars attrs (rowFor b line) i)) c ≡ columnDots b chars attrs f line field c
+unfolding columnDots dotsAt shownOf
 column-content b chars attrs f line field c h =
-    let r = line / linesOf (b .page .irs) in
-    ap₂ (λ (v x : ℕ). scanDots b f (line % linesOf (b .page .irs)) field (contentAt (readingOf (b .page)) chars attrs v x))
-    (valid-along (b .page) chars attrs r c (omega (arith, h))) (cell-along (b .page) chars r c h)
+    ap (λ (x : Content). columnOf (isWide (codeFor b chars line)) (eqb (c % 2) 1) (scanDots b f (scanFor b chars line) field x)) (sym (content-shown (b .page) chars attrs (rowFor b line) c h))
 
--- what the drawer has before it goes along the line: how many cells, the line's constants, the row's cells, and the levels of the scan line's marks
-pub record Prepared (b : Board) (chars attrs : List ℕ) (f : Font) (line field n : ℕ) (w : Walk) (row looks : List ℕ) : Type 0 where
+-- what the drawer has before it goes along the line: how many columns, the line's constants, the row's cells, and the levels of the scan line's marks
+pub record Prepared (b : Board) (chars attrs : List ℕ) (f : Font) (line field n : ℕ) (w : Walk) (wide : Bool) (row looks : List ℕ) : Type 0 where
   pub counted : n ≡ hactOf (b .page .irs)
-  pub walked : w ≡ walkOf (b .page) (f .unshifted) (f .shifted) (line % linesOf (b .page .irs))
+  pub walked : w ≡ walkOf (b .page) (f .unshifted) (f .shifted) (scanFor b chars line)
+  pub widened : wide ≡ isWide (codeFor b chars line)
   pub beyond : List ℕ
   pub row-is : row
-      ≡ tab n (cellBy (readingOf (b .page)) chars attrs (bufferOf (b .page .irs)) (heldAt (b .page) chars attrs (line / linesOf (b .page .irs)) 0)
-      (rowStart (b .page) chars (line / linesOf (b .page .irs)))) ++ beyond
+      ≡ tab (fetchedFor wide n) (cellBy (readingOf (b .page)) chars attrs (bufferOf (b .page .irs)) (heldAt (b .page) chars attrs (rowFor b line) 0)
+      (rowStart (b .page) chars (rowFor b line))) ++ beyond
   pub above : List ℕ
-  pub looks-is : looks ≡ tab 128 (levelsOf (sceneOf b (line % linesOf (b .page .irs)) field)) ++ above
+  pub looks-is : looks ≡ tab 128 (levelsOf (sceneOf b (scanFor b chars line) field)) ++ above
 
 -- the same in the words of the calls that made it
-pub prepared-of : (b : Board) (chars attrs : List ℕ) (f : Font) (line field : ℕ) {row looks : List ℕ} (beyond above : List ℕ) {t : Timing} {r : ℕ} {s : Lines} {w : Walk} {start : Cell} {v : ℕ} {k : Reading} {u : Buffer} {scene : Scene}
-    → t ≡ timingOf (b .page .irs) → r ≡ line / linesOf (b .page .irs) → s ≡ lines (line % linesOf (b .page .irs)) → w ≡ walkOf (b .page) (f .unshifted) (f .shifted) (s .0)
-    → start ≡ cell (rowStart (b .page) chars r) → v ≡ heldAt (b .page) chars attrs r 0 → k ≡ readingOf (b .page) → u ≡ bufferOf (b .page .irs)
-    → row ≡ tab (t .counts .hact .0) (cellBy k chars attrs u v (start .address)) ++ beyond → scene ≡ sceneOf b (s .0) field → looks ≡ tab 128 (levelsOf scene) ++ above
-    → Prepared b chars attrs f line field (t .counts .hact .0) w row looks
-unfolding timingOf countsOf
-prepared-of b chars attrs f line field beyond above te re se we starts helds ke ue row-e scene-e looks-e = record {
+pub prepared-of : (b : Board) (chars attrs : List ℕ) (f : Font) (line field : ℕ) {row looks : List ℕ} (beyond above : List ℕ) {t : Timing} {r byte n : ℕ} {k : Code} {wide : Bool} {s : Lines} {w : Walk} {start : Cell} {v : ℕ} {g : Reading} {u : Buffer} {scene : Scene}
+    → t ≡ timingOf (b .page .irs) → r ≡ rowFor b line → byte ≡ codeAt (b .page) chars r → k ≡ codeOf byte → s ≡ lines (scanAt (b .page .irs) k line)
+    → w ≡ walkOf (b .page) (f .unshifted) (f .shifted) (s .0)
+    → start ≡ cell (rowStart (b .page) chars r) → v ≡ heldAt (b .page) chars attrs r 0 → n ≡ fetchedOf (b .page) chars r → g ≡ readingOf (b .page) → u ≡ bufferOf (b .page .irs)
+    → row ≡ tab n (cellBy g chars attrs u v (start .address)) ++ beyond → scene ≡ sceneOf b (s .0) field → looks ≡ tab 128 (levelsOf scene) ++ above → wide ≡ isWide k
+    → Prepared b chars attrs f line field (t .counts .hact .0) w wide row looks
+unfolding timingOf countsOf fetchedOf
+prepared-of b chars attrs f line field beyond above te re be ke se we starts helds ne ge ue row-e scene-e looks-e wide-e = record {
   counted = rw te;
-  walked = rw se at we;
+  walked = rw (se, ke, be, re) at we;
+  widened = rw (wide-e, ke, be, re);
   beyond = beyond;
-  row-is = rw (starts, helds, ke, re, ue) at row-e;
+  row-is = rw (te, wide-e, ke, be, re) (rw (starts, helds, ge, ue, ne, re) at row-e);
   above = above;
-  looks-is = rw (scene-e, se) at looks-e;
+  looks-is = rw (scene-e, se, ke, be, re) at looks-e;
 }
 
-module _ (b : Board) (chars attrs : List ℕ) (f : Font) (line field n : ℕ) (w : Walk) (row looks : List ℕ) (q : Prepared b chars attrs f line field n w row looks)
+module _ (b : Board) (chars attrs : List ℕ) (f : Font) (line field n : ℕ) (w : Walk) (wide : Bool) (row looks : List ℕ) (q : Prepared b chars attrs f line field n w wide row looks)
     (bytes : (i : ℕ) → getD chars i 0 < 256) where
   abbrev scan : ℕ
-  scan = line % linesOf (b .page .irs)
-
-  abbrev r : ℕ
-  r = line / linesOf (b .page .irs)
+  scan = scanFor b chars line
 
   abbrev content : ℕ → Content
-  content c = contentBy (b .page) chars attrs (heldAt (b .page) chars attrs r 0) (rowStart (b .page) chars r) c
+  content i = contentBy (b .page) chars attrs (rowFor b line) i
 
-  numbered : (c : ℕ) → c < n → getD row c 0 ≡ numberFor (content c)
-  numbered c h = gathered (readingOf (b .page)) chars attrs _ _ _ n row (q .beyond) (q .row-is) c h
+  numbered : (i : ℕ) → i < fetchedFor wide n → getD row i 0 ≡ numberFor (content i)
+  unfolding fetchAt
+  numbered i h = gathered (readingOf (b .page)) chars attrs _ _ _ (fetchedFor wide n) row (q .beyond) (q .row-is) i h
 
-  byte-code : (c : ℕ) → content c .code < 256
-  byte-code c =
-      let held = heldBy (fieldMode (b .page)) attrs (bufferOf (b .page .irs)) (heldAt (b .page) chars attrs r 0) (rowStart (b .page) chars r) c in
-      shown-lt (readingOf (b .page)) chars attrs held (advanceBy (bufferOf (b .page .irs)) c (rowStart (b .page) chars r)) bytes
+  byte-code : (i : ℕ) → content i .code < 256
+  byte-code i = shown-lt (readingOf (b .page)) chars attrs (validBy (b .page) chars attrs (rowFor b line) i) (fetchAt (b .page) chars (rowFor b line) i) bytes
 
-  same-column : Accepted (b .page) → (c : ℕ) → c < n → columnFor w row looks (f .words) (f .flags) c ≡ columnDots b chars attrs f line field c
+  same-cell : Accepted (b .page) → (i : ℕ) → i < fetchedFor wide n → columnFor w row looks (f .words) (f .flags) i ≡ scanDots b f scan field (content i)
   unfolding columnFor dotsFor walkOf
-  same-column a c h =
-      rw (q .walked, numbered c h, code-of (content c) (byte-code c), mark-of (content c) (byte-code c))
-      (by-word b f scan field a (content c) (getD looks (markOf (content c .attributes) (content c .here)) 0)
-      (looked-up (sceneOf b scan field) (content c .attributes) (content c .here) looks (q .above) (q .looks-is)) ∙ column-content b chars attrs f line field c (omega (arith, q .counted)))
+  same-cell a i h =
+      rw (q .walked, numbered i h, code-of (content i) (byte-code i), mark-of (content i) (byte-code i))
+      (by-word b f scan field a (content i) (getD looks (markOf (content i .attributes) (content i .here)) 0)
+      (looked-up (sceneOf b scan field) (content i .attributes) (content i .here) looks (q .above) (q .looks-is)))
 
-  pub ready : {room : ℕ} → Drawn b chars attrs f line room → n ≤ length row → length looks ≡ 128 → Ready w row looks (f .words) (f .flags) n × (n * w .width .0 ≤ room)
+  same-column : Accepted (b .page) → (c : ℕ) → c < n → shownOf wide (columnFor w row looks (f .words) (f .flags)) c ≡ columnDots b chars attrs f line field c
+  same-column a c h =
+      same-shown wide _ _ n (same-cell a) c h
+      ∙ ap (λ (t : Bool). shownOf t (λ (i : ℕ). scanDots b f scan field (content i)) c) (q .widened)
+      ∙ column-content b chars attrs f line field c (omega (arith, q .counted))
+
+  pub ready : {room : ℕ} → Drawn b chars attrs f line room → n ≤ length row → length looks ≡ 128
+      → Ready w row looks (f .words) (f .flags) (fetchedFor wide n) × (n * w .width .0 ≤ room)
   unfolding walkOf
   ready k l all = (
     record {
       least = rw (q .walked) (k .page .least);
       most = rw (q .walked) (k .page .most);
-      few = l;
-      marked = gathered-lt (readingOf (b .page)) chars attrs _ _ _ n row (q .beyond) (q .row-is) bytes;
+      few = omega (arith, l, cells-few wide n);
+      marked = gathered-lt (readingOf (b .page)) chars attrs _ _ _ (fetchedFor wide n) row (q .beyond) (q .row-is) bytes;
       looks-all = all;
       words-all = k .font .words-all;
       flags-all = k .font .flags-all;
@@ -228,7 +291,7 @@ module _ (b : Board) (chars attrs : List ℕ) (f : Font) (line field n : ℕ) (w
     rw (q .walked, q .counted) (k .roomy),
   )
 
-  pub drawn : Accepted (b .page) → (out out₀ : List ℕ) → out ≡ joined 0 n (columnFor w row looks (f .words) (f .flags)) ++ drop (n * w .width .0) out₀
+  pub drawn : Accepted (b .page) → (out out₀ : List ℕ) → out ≡ joined 0 n (shownOf wide (columnFor w row looks (f .words) (f .flags))) ++ drop (n * w .width .0) out₀
       → out ≡ lineDots b chars attrs f line field ++ drop (lineLength b) out₀
   unfolding walkOf lineDots
   drawn a out out₀ e =

@@ -9,6 +9,7 @@ ghost use lib.Dec.{ltb, leb};
 ghost use Rattle.timing.specs.Fields.{hactOf, visibleOf};
 ghost use Rattle.timing.specs.Laws.{Accepted};
 ghost use Rattle.video.specs.At.{lentRefused};
+ghost use Rattle.dots.specs.Half.{shownOf, fetchedFor};
 ghost use Rattle.line.specs.Line.{drawCheck, drawnOf, lineDots, lineLength};
 ghost use Rattle.line.specs.Walk.{lastOf, walkOf, dotsFor, columnFor, Ready, Drawn};
 
@@ -55,6 +56,33 @@ fn cells(
         let a = c * d;
         put(&mut out[a..], w, looks, words, flags, row[c], d);
         c += 1;
+    }
+}
+
+// Writes the dots of n columns: of a row of double width its cells first, and then each dot twice.
+fn columns(
+    out: &mut [u8],
+    w: Walk,
+    wide: bool,
+    row: &[u16],
+    looks: &[u16],
+    words: &[u16],
+    flags: &[u8],
+    n: units::Clocks,
+)
+    requires { ⌜ Ready w (now row) (now looks) (now words) (now flags) (fetchedFor wide (n .0)) × (n .0 ≤ 256) ⌝ }
+    requires { ⌜ n .0 * w .width .0 ≤ length (now out) ⌝ }
+    ensures { λ _. ⌜ now (out .exit)
+        ≡ joined 0 (n .0) (shownOf wide (columnFor w (now (row .entry)) (now (looks .entry)) (now (words .entry)) (now (flags .entry))))
+        ++ drop (n .0 * w .width .0) (now (out .entry)) ⌝ }
+{
+    if wide {
+        let mut halves = [0u8; 1536];
+        let count = units::Clocks((n.0 + 1) / 2);
+        cells(&mut halves, w, row, looks, words, flags, count);
+        dots::double(out, &halves, n.0 as usize * w.width.0 as usize);
+    } else {
+        cells(out, w, row, looks, words, flags, n);
     }
 }
 
@@ -117,11 +145,12 @@ pub fn whole_line(
     let irs = page.irs;
     let t = timing::timing_of(irs);
     let row = timing::row_of(irs, line);
-    let scan = timing::line_of_row(irs, line);
+    let code = raster::code_of(fetch::code_at(page, chars, row));
+    let scan = video::scan_at(irs, code, line);
     let w = walk_of(page, unshifted, shifted, scan);
     let start = fetch::row_start(page, chars, row);
     let held = latch::held_at(page, chars, attrs, row, units::Clocks(0));
-    let n = t.counts.hact;
+    let n = fetch::fetched_of(page, chars, row);
     let mut row_cells = [0u16; 256];
     let mut looks = [0u16; 128];
     tables::gather(
@@ -135,7 +164,17 @@ pub fn whole_line(
         n.0 as usize,
     );
     tables::looks(&mut looks, video::scene_of(b, scan, field));
-    cells(out, w, &row_cells, &looks, words, flags, n);
+    let wide = raster::is_wide(code);
+    columns(
+        out,
+        w,
+        wide,
+        &row_cells,
+        &looks,
+        words,
+        flags,
+        t.counts.hact,
+    );
 }
 
 // Draws a visible line as it looks in a field, HACT x dots bytes at the front of out.

@@ -13,27 +13,27 @@ use Rattle.lists.specs.Choice.{neither}
 use Rattle.lists.specs.Join.{joined, same-joined, join-all}
 use Rattle.refusal.specs.declared.Refusal.the-variants.{Done}
 use Rattle.refusal.specs.Number.{doneOf}
-use Rattle.raster.specs.Moves.{advanceBy}
+use Rattle.raster.specs.Wide.{codeOf, isWide}
 use Rattle.board.specs.declared.Board.{Board}
 use Rattle.board.specs.declared.Page.{Page}
-use Rattle.board.specs.Modes.{fieldMode}
 use Rattle.board.specs.Range.{memoriesRefused}
 use Rattle.board.specs.Laws.{memories-all}
-use Rattle.timing.specs.Fields.{hactOf, linesOf, rowsOf, bufferOf}
+use Rattle.timing.specs.Fields.{hactOf, linesOf, rowsOf}
 use Rattle.timing.specs.Laws.{Accepted, call-passed, buffer-bounded, dots-bound, visible-bound}
-use Rattle.fetch.specs.Rows.{rowStart}
+use Rattle.fetch.specs.Rows.{codeAt, rowStart, fetchAt}
 use Rattle.latch.specs.Held.{heldAt}
 use Rattle.shape.specs.Font.{Font, Whole, fontRefused}
 use Rattle.shape.specs.Laws.{font-whole}
-use Rattle.video.specs.At.{Content, lentRefused, readingOf, scanDots}
-use Rattle.tables.specs.Tables.{markOf, numberFor, heldBy, cellBy, spreadBy, spreadsAt, lastSpreads, levelsAt}
+use Rattle.video.specs.At.{Content, lentRefused, scanOf, readingOf, scanDots}
+use Rattle.dots.specs.Half.{same-shown}
+use Rattle.tables.specs.Tables.{markOf, numberFor, cellBy, spreadBy, spreadsAt, lastSpreads, levelsAt}
 use Rattle.tables.specs.Marks.{mark-lt}
 use Rattle.tables.specs.Laws.{shown-lt, levels-at, spread-at, spread-small, code-of, mark-of, by-spreads, last-is}
 use Rattle.line.specs.Line.{lineDots, lineLength}
 use Rattle.line.specs.Length.{length-line}
-use Rattle.line.specs.Walk.{Drawn, contentBy, column-content}
+use Rattle.line.specs.Walk.{Drawn, validBy, contentBy, column-content}
 use Rattle.picture.specs.declared.Plan.{Plan}
-use Rattle.picture.specs.Plan.{planOf, cellDotsOf, rowLine, rowFrom, rowDrawn, Sheet}
+use Rattle.picture.specs.Plan.{planOf, cellDotsOf, scan-lt, rowLine, rowFrom, rowDrawn, Sheet}
 use Rattle.picture.specs.Picture.{pictureDots, pictureLength, pictureCheck, picturedOf}
 
 -- ---- a call that is not refused
@@ -98,15 +98,17 @@ module _ (b : Board) (chars attrs : List ℕ) (f : Font) (field : ℕ) (low high
       (spread-at f d 0 low (made .lows) n s (k .code) (made .low-is) h l)
       (λ g. spread-at f d (d - 8) high (made .highs) n s (k .code) (made .high-is g) h l))
 
-  same-line : (r s : ℕ) → s < n → rowLine (planOf (b .page)) chars attrs low high looks (heldAt (b .page) chars attrs r 0) (rowStart (b .page) chars r) s ≡ lineDots b chars attrs f (r * n + s) field
-  unfolding rowLine planOf cellBy lineDots
+  same-line : (r s : ℕ) → s < n
+      → rowLine (planOf (b .page)) (codeOf (codeAt (b .page) chars r)) chars attrs low high looks (heldAt (b .page) chars attrs r 0) (rowStart (b .page) chars r) s ≡ lineDots b chars attrs f (r * n + s) field
+  unfolding rowLine planOf cellBy lineDots fetchAt
   same-line r s h =
       let q : (r * n + s) / n ≡ r = digits-div r h in
       let m : (r * n + s) % n ≡ s = digits-mod r h in
-      let start = rowStart (b .page) chars r in
-      let held = heldAt (b .page) chars attrs r 0 in
+      let k = codeOf (codeAt (b .page) chars r) in
+      let scan = scanOf k n s in
       same-joined 0 (hactOf (b .page .irs)) _ _ (λ c l u.
-      same-cell s (contentBy (b .page) chars attrs held start c) h (shown-lt (readingOf (b .page)) chars attrs (heldBy (fieldMode (b .page)) attrs (bufferOf (b .page .irs)) held start c) (advanceBy (bufferOf (b .page .irs)) c start) bytes)
+      same-shown (isWide k) _ (λ (i : ℕ). scanDots b f scan field (contentBy (b .page) chars attrs r i)) (hactOf (b .page .irs))
+      (λ i v. same-cell scan (contentBy (b .page) chars attrs r i) (scan-lt k n s h) (shown-lt (readingOf (b .page)) chars attrs (validBy (b .page) chars attrs r i) (fetchAt (b .page) chars r i) bytes)) c (omega arith)
       ∙ (rw (q, m) at (column-content b chars attrs f (r * n + s) field c (omega arith))))
 
   same-row : (r : ℕ) → rowDrawn (planOf (b .page)) (b .page) chars attrs low high looks r ≡ joined 0 n (λ (s : ℕ). lineDots b chars attrs f (r * n + s) field)

@@ -1,25 +1,33 @@
 -- A row's lines as the drawer makes them, from cells and tables. Assumes nothing.
 use Prim.Native.Nat.{ℕ, _+_, _*_, _/_, _%_, _≤_, _<_}
 use mathlib.Core.Path.{_≡_, sym, ap, _∙_}
+use mathlib.Core.Bool.{Bool, true, false}
 use mathlib.Core.List.{List, _++_}
 use native.Mathlib.Numerals.{add-one}
 use native.Mathlib.Omega.{arith}
 use lib.ListN.{length, getD, drop, List·getD-append}
+use Rattle.units.specs.declared.Clocks.{Clocks}
+use Rattle.units.specs.declared.Lines.{Lines}
 use Rattle.units.specs.Units.{clocks, lines}
+use Rattle.lists.specs.Choice.{pick}
 use Rattle.lists.specs.Join.{joined, same-joined, length-joined}
 use Rattle.lists.specs.Tab.{tab, length-tab, getD-tab}
 use Rattle.raster.specs.declared.Cell.{Cell}
+use Rattle.raster.specs.declared.Code.{Code}
 use Rattle.raster.specs.Moves.{cell, Bounded}
+use Rattle.raster.specs.Wide.{codeOf, isWide, isTop, isBottom}
 use Rattle.board.specs.declared.Page.{Page}
-use Rattle.timing.specs.Fields.{hactOf, linesOf, rowsOf, bufferOf}
-use Rattle.fetch.specs.Rows.{rowStart}
+use Rattle.timing.specs.Fields.{hactOf, linesOf, rowsOf, bufferOf, countsOf}
+use Rattle.fetch.specs.Rows.{codeAt, rowStart, fetchedOf}
+use Rattle.fetch.specs.Laws.{begun-all}
 use Rattle.latch.specs.Held.{heldAt}
 use Rattle.latch.specs.Laws.{held-next}
-use Rattle.video.specs.At.{readingOf}
+use Rattle.video.specs.At.{scanOf, readingOf}
 use Rattle.dots.specs.Stores.{dotsBy}
 use Rattle.dots.specs.Spread.{length-dots}
+use Rattle.dots.specs.Half.{shownOf, fetchedFor, same-shown, length-shown, drawn-plain}
 use Rattle.tables.specs.Tables.{heldBy, cellBy}
-use Rattle.line.specs.Walk.{valid-along}
+use Rattle.line.specs.Walk.{validBy, valid-along}
 use Rattle.picture.specs.declared.Plan.{Plan}
 
 -- the dots of a cell's number on a scan line
@@ -28,11 +36,12 @@ cellDotsOf low high looks d scan x =
     dotsBy (getD low (scan * 256 + x % 256) 0) (getD high (scan * 256 + x % 256) 0)
     (getD looks (scan * 128 + x / 256) 0 % 256) (getD looks (scan * 128 + x / 256) 0 / 256) d
 
-unfoldable pub columnOf : (cells low high looks : List ℕ) → (d scan c : ℕ) → List ℕ
-columnOf cells low high looks d scan c = cellDotsOf low high looks d scan (getD cells c 0)
+unfoldable pub cellFrom : (cells low high looks : List ℕ) → (d scan i : ℕ) → List ℕ
+cellFrom cells low high looks d scan i = cellDotsOf low high looks d scan (getD cells i 0)
 
-unfoldable pub lineFrom : (cells low high looks : List ℕ) → (n d scan : ℕ) → List ℕ
-lineFrom cells low high looks n d scan = joined 0 n (columnOf cells low high looks d scan)
+-- line s of a row with a code
+unfoldable pub lineFrom : Plan → Code → (cells low high looks : List ℕ) → (s : ℕ) → List ℕ
+lineFrom p k cells low high looks s = joined 0 (p .columns .0) (shownOf (isWide k) (cellFrom cells low high looks (p .dots .0) (scanOf k (p .lines .0) s)))
 
 pub record Sheet (p : Plan) (low high looks : List ℕ) : Type 0 where
   pub least : 6 ≤ p .dots .0
@@ -48,78 +57,101 @@ pub record Sheet (p : Plan) (low high looks : List ℕ) : Type 0 where
   pub low-le : (s i : ℕ) → s < p .lines .0 → i < 256 → getD low (s * 256 + i) 0 ≤ 72340172838076673
   pub high-le : 8 < p .dots .0 → (s i : ℕ) → s < p .lines .0 → i < 256 → getD high (s * 256 + i) 0 ≤ 72340172838076673
 
-pub length-column : (cells low high looks : List ℕ) (d scan : ℕ) → 6 ≤ d → d ≤ 12 → (c : ℕ) → length (columnOf cells low high looks d scan c) ≡ d
-unfolding columnOf cellDotsOf
-length-column cells low high looks d scan h m c = length-dots _ _ _ _ d m
+-- the numbers of the cells that a row fetches
+abbrev pub Numbered : (wide : Bool) → Plan → (cells : List ℕ) → Type 0
+Numbered wide p cells = (i : ℕ) → i < fetchedFor wide (p .columns .0) → getD cells i 0 < 32768
+
+-- a scan line of the row's is shown, whatever its code
+pub scan-lt : (k : Code) (L s : ℕ) → s < L → scanOf k L s < L
+scan-lt k L s h = go (isTop k) (isBottom k)
+  where
+    go : (t u : Bool) → pick t (s / 2) (pick u ((L + s) / 2) s) < L
+    go true u = omega (arith, h)
+    go false true = omega (arith, h)
+    go false false = h
+
+pub length-cell : (cells low high looks : List ℕ) (d scan : ℕ) → d ≤ 12 → (i : ℕ) → length (cellFrom cells low high looks d scan i) ≡ d
+unfolding cellFrom cellDotsOf
+length-cell cells low high looks d scan m i = length-dots _ _ _ _ d m
 
 -- a turn of the drawer's loop
-pub as-column : (cells low high looks : List ℕ) (d scan c : ℕ) (out rest : List ℕ)
-    → out ≡ dotsBy (getD low (scan * 256 + getD cells c 0 % 256) 0) (getD high (scan * 256 + getD cells c 0 % 256) 0)
-    (getD looks (scan * 128 + getD cells c 0 / 256) 0 % 256) (getD looks (scan * 128 + getD cells c 0 / 256) 0 / 256) d ++ rest
-    → out ≡ columnOf cells low high looks d scan c ++ rest
-unfolding columnOf cellDotsOf
-as-column cells low high looks d scan c out rest e = e
+pub as-cell : (cells low high looks : List ℕ) (d scan i : ℕ) (out rest : List ℕ)
+    → out ≡ dotsBy (getD low (scan * 256 + getD cells i 0 % 256) 0) (getD high (scan * 256 + getD cells i 0 % 256) 0)
+    (getD looks (scan * 128 + getD cells i 0 / 256) 0 % 256) (getD looks (scan * 128 + getD cells i 0 / 256) 0 / 256) d ++ rest
+    → out ≡ cellFrom cells low high looks d scan i ++ rest
+unfolding cellFrom cellDotsOf
+as-cell cells low high looks d scan i out rest e = e
 
 -- ---- lines and rows
 
-pub length-line : (cells low high looks : List ℕ) (n d w : ℕ) → 6 ≤ d → d ≤ 12 → w ≡ n * d → (s : ℕ) → length (lineFrom cells low high looks n d s) ≡ w
+pub length-line : (p : Plan) (k : Code) (cells low high looks : List ℕ) → 6 ≤ p .dots .0 → p .dots .0 ≤ 12 → p .width ≡ p .columns .0 * p .dots .0
+    → (s : ℕ) → length (lineFrom p k cells low high looks s) ≡ p .width
 unfolding lineFrom
-length-line cells low high looks n d w h m e s =
-    length-joined (columnOf cells low high looks d s) d (length-column cells low high looks d s h m) 0 n ∙ sym e
+length-line p k cells low high looks h m e s =
+    let scan = scanOf k (p .lines .0) s in
+    length-joined _ (p .dots .0) (length-shown _ (p .dots .0) (omega (arith, h)) (length-cell cells low high looks (p .dots .0) scan m) (isWide k)) 0 (p .columns .0) ∙ sym e
 
-pub as-line : (cells low high looks : List ℕ) (n d w s : ℕ) (out part : List ℕ) → w ≡ n * d
-    → out ≡ joined 0 n (columnOf cells low high looks d s) ++ drop (n * d) part → out ≡ lineFrom cells low high looks n d s ++ drop w part
+pub as-line : (p : Plan) (k : Code) (cells low high looks : List ℕ) (s : ℕ) {scan : Lines} {wide : Bool} (out rest : List ℕ)
+    → scan ≡ lines (scanOf k (p .lines .0) s) → wide ≡ isWide k
+    → out ≡ joined 0 (p .columns .0) (shownOf wide (cellFrom cells low high looks (p .dots .0) (scan .0))) ++ rest → out ≡ lineFrom p k cells low high looks s ++ rest
 unfolding lineFrom
-as-line cells low high looks n d w s out part h e = rw h e
+as-line p k cells low high looks s out rest se we e = rw (se, we) at e
+
+pub plain-line : (p : Plan) (cells low high looks : List ℕ) (scan : ℕ) {wide : Bool} {out : List ℕ} (out₀ : List ℕ) → wide ≡ false → p .width ≡ p .columns .0 * p .dots .0
+    → out ≡ joined 0 (p .columns .0) (cellFrom cells low high looks (p .dots .0) scan) ++ drop (p .columns .0 * p .dots .0) out₀
+    → out ≡ joined 0 (p .columns .0) (shownOf wide (cellFrom cells low high looks (p .dots .0) scan)) ++ drop (p .width) out₀
+plain-line p cells low high looks scan out₀ t e q = rw e (drawn-plain t _ (p .columns .0) _ q)
 
 -- the row that begins at an address, where held is valid before it
-unfoldable pub rowLine : Plan → (chars attrs low high looks : List ℕ) → (held start scan : ℕ) → List ℕ
-rowLine p chars attrs low high looks held start s =
-    joined 0 (p .columns .0) (λ (c : ℕ). cellDotsOf low high looks (p .dots .0) s (cellBy (p .reading) chars attrs (p .buffer) held start c))
+unfoldable pub rowLine : Plan → Code → (chars attrs low high looks : List ℕ) → (held start s : ℕ) → List ℕ
+rowLine p k chars attrs low high looks held start s =
+    joined 0 (p .columns .0)
+    (shownOf (isWide k) (λ (i : ℕ). cellDotsOf low high looks (p .dots .0) (scanOf k (p .lines .0) s) (cellBy (p .reading) chars attrs (p .buffer) held start i)))
 
-unfoldable pub rowFrom : Plan → (chars attrs low high looks : List ℕ) → (held start : ℕ) → List ℕ
-rowFrom p chars attrs low high looks held start = joined 0 (p .lines .0) (rowLine p chars attrs low high looks held start)
+unfoldable pub rowFrom : Plan → Code → (chars attrs low high looks : List ℕ) → (held start : ℕ) → List ℕ
+rowFrom p k chars attrs low high looks held start = joined 0 (p .lines .0) (rowLine p k chars attrs low high looks held start)
 
-pub same-row : (p : Plan) (chars attrs low high looks cells rest : List ℕ) (held start : ℕ) → cells ≡ tab (p .columns .0) (cellBy (p .reading) chars attrs (p .buffer) held start) ++ rest
-    → joined 0 (p .lines .0) (lineFrom cells low high looks (p .columns .0) (p .dots .0)) ≡ rowFrom p chars attrs low high looks held start
-unfolding rowFrom rowLine lineFrom columnOf
-same-row p chars attrs low high looks cells rest held start e =
-    same-joined 0 (p .lines .0) _ _ (λ s l u. same-joined 0 (p .columns .0) _ _ (λ c k v. ap (cellDotsOf low high looks (p .dots .0) s) (at c (omega (arith, v)))))
+pub same-row : (p : Plan) (k : Code) (chars attrs low high looks cells rest : List ℕ) (held start : ℕ)
+    → cells ≡ tab (fetchedFor (isWide k) (p .columns .0)) (cellBy (p .reading) chars attrs (p .buffer) held start) ++ rest
+    → joined 0 (p .lines .0) (lineFrom p k cells low high looks) ≡ rowFrom p k chars attrs low high looks held start
+unfolding rowFrom rowLine lineFrom cellFrom
+same-row p k chars attrs low high looks cells rest held start e =
+    same-joined 0 (p .lines .0) _ _ (λ s l u.
+    same-joined 0 (p .columns .0) _ _ (λ c v w.
+    same-shown (isWide k) _ _ (p .columns .0) (λ i h. ap (cellDotsOf low high looks (p .dots .0) (scanOf k (p .lines .0) s)) (at i h)) c (omega (arith, w))))
   where
+    n : ℕ
+    n = fetchedFor (isWide k) (p .columns .0)
+
     f : ℕ → ℕ
     f = cellBy (p .reading) chars attrs (p .buffer) held start
 
-    at : (c : ℕ) → c < p .columns .0 → getD cells c 0 ≡ f c
-    at c h = rw e (List·getD-append (tab (p .columns .0) f) rest 0 c (rw (length-tab (p .columns .0) f) h)) ∙ getD-tab (p .columns .0) f c h
+    at : (i : ℕ) → i < n → getD cells i 0 ≡ f i
+    at i h = rw e (List·getD-append (tab n f) rest 0 i (rw (length-tab n f) h)) ∙ getD-tab n f i h
 
-pub as-row : (p : Plan) (chars attrs low high looks cells rest : List ℕ) (held start : ℕ) (out back : List ℕ) → cells ≡ tab (p .columns .0) (cellBy (p .reading) chars attrs (p .buffer) held start) ++ rest
-    → out ≡ joined 0 (p .lines .0) (lineFrom cells low high looks (p .columns .0) (p .dots .0)) ++ back → out ≡ rowFrom p chars attrs low high looks held start ++ back
-as-row p chars attrs low high looks cells rest held start out back e q = q ∙ ap (λ (l : List ℕ). l ++ back) (same-row p chars attrs low high looks cells rest held start e)
+-- in the words of the call that gathers the cells
+module _ (p : Plan) (k : Code) (chars attrs : List ℕ) (held start : ℕ) {n : ℕ} (c : n ≡ fetchedFor (isWide k) (p .columns .0)) where
+  pub as-row : (low high looks cells rest : List ℕ) (out back : List ℕ) → cells ≡ tab n (cellBy (p .reading) chars attrs (p .buffer) held start) ++ rest
+      → out ≡ joined 0 (p .lines .0) (lineFrom p k cells low high looks) ++ back → out ≡ rowFrom p k chars attrs low high looks held start ++ back
+  as-row low high looks cells rest out back e q = q ∙ ap (λ (l : List ℕ). l ++ back) (same-row p k chars attrs low high looks cells rest held start (rw c at e))
 
-pub length-row : (p : Plan) (chars attrs low high looks : List ℕ) → 6 ≤ p .dots .0 → p .dots .0 ≤ 12 → p .width ≡ p .columns .0 * p .dots .0 → p .size ≡ p .lines .0 * p .width
-    → (held start : ℕ) → length (rowFrom p chars attrs low high looks held start) ≡ p .size
-unfolding rowFrom rowLine cellDotsOf
-length-row p chars attrs low high looks h m w z held start =
-    length-joined (rowLine p chars attrs low high looks held start) (p .width) each 0 (p .lines .0) ∙ sym z
-  where
-    each : (s : ℕ) → length (rowLine p chars attrs low high looks held start s) ≡ p .width
-    each s = length-joined _ (p .dots .0) (λ c. length-dots _ _ _ _ (p .dots .0) m) 0 (p .columns .0) ∙ sym w
+  pub held-after : (v : ℕ) → v ≡ heldBy (p .reading .runs) attrs (p .buffer) held start n → v ≡ heldBy (p .reading .runs) attrs (p .buffer) held start (fetchedFor (isWide k) (p .columns .0))
+  held-after v e = rw c at e
 
 -- row r of a page
 unfoldable pub rowDrawn : Plan → Page → (chars attrs low high looks : List ℕ) → (r : ℕ) → List ℕ
-rowDrawn p page chars attrs low high looks r = rowFrom p chars attrs low high looks (heldAt page chars attrs r 0) (rowStart page chars r)
+rowDrawn p page chars attrs low high looks r = rowFrom p (codeOf (codeAt page chars r)) chars attrs low high looks (heldAt page chars attrs r 0) (rowStart page chars r)
 
-pub length-row-at : (p : Plan) (page : Page) (chars attrs low high looks : List ℕ) → 6 ≤ p .dots .0 → p .dots .0 ≤ 12 → p .width ≡ p .columns .0 * p .dots .0 → p .size ≡ p .lines .0 * p .width
+pub length-row : (p : Plan) (page : Page) (chars attrs low high looks : List ℕ) → 6 ≤ p .dots .0 → p .dots .0 ≤ 12 → p .width ≡ p .columns .0 * p .dots .0 → p .size ≡ p .lines .0 * p .width
     → (r : ℕ) → length (rowDrawn p page chars attrs low high looks r) ≡ p .size
-unfolding rowDrawn
-length-row-at p page chars attrs low high looks h m w z r = length-row p chars attrs low high looks h m w z (heldAt page chars attrs r 0) (rowStart page chars r)
+unfolding rowDrawn rowFrom rowLine cellDotsOf
+length-row p page chars attrs low high looks h m w z r = length-joined _ (p .width) each 0 (p .lines .0) ∙ sym z
+  where
+    k : Code
+    k = codeOf (codeAt page chars r)
 
-pub as-row-at : (p : Plan) (page : Page) (chars attrs low high looks : List ℕ) (r held : ℕ) (start : Cell) (out part : List ℕ) → held ≡ heldAt page chars attrs r 0 → start ≡ cell (rowStart page chars r)
-    → p .size ≡ p .lines .0 * p .width → out ≡ rowFrom p chars attrs low high looks held (start .address) ++ drop (p .lines .0 * p .width) part
-    → out ≡ rowDrawn p page chars attrs low high looks r ++ drop (p .size) part
-unfolding rowDrawn
-as-row-at p page chars attrs low high looks r held start out part v q z e =
-    (rw (v, q) at e) ∙ ap (λ (k : ℕ). rowFrom p chars attrs low high looks (heldAt page chars attrs r 0) (rowStart page chars r) ++ drop k part) (sym z)
+    each : (s : ℕ) → length (rowLine p k chars attrs low high looks (heldAt page chars attrs r 0) (rowStart page chars r) s) ≡ p .width
+    each s = length-joined _ (p .dots .0) (length-shown _ (p .dots .0) (omega (arith, h)) (λ i. length-dots _ _ _ _ (p .dots .0) m) (isWide k)) 0 (p .columns .0) ∙ sym w
 
 unfoldable pub planOf : Page → Plan
 planOf p = record {
@@ -133,9 +165,25 @@ planOf p = record {
   reading = readingOf p;
 }
 
--- what is valid after a row is what the next begins with
-pub carried-on : (p : Plan) (page : Page) (chars attrs : List ℕ) (r held v : ℕ) (start : Cell) → p ≡ planOf page → held ≡ heldAt page chars attrs r 0 → start ≡ cell (rowStart page chars r)
-    → v ≡ heldBy (p .reading .runs) attrs (p .buffer) held (start .address) (p .columns .0) → v ≡ heldAt page chars attrs (r + 1) 0
-unfolding planOf
-carried-on p page chars attrs r held v start q e s d =
-    (rw (q, e, s) at d) ∙ valid-along page chars attrs r (hactOf (page .irs)) (omega arith) ∙ held-next page chars attrs r ∙ rw (add-one r)
+-- where the drawer stands in a row: its code, what is valid before it, and its start
+module _ (p : Plan) (page : Page) (chars attrs : List ℕ) (r : ℕ) {byte held : ℕ} {k : Code} {start : Cell} (be : byte ≡ codeAt page chars r) (ke : k ≡ codeOf byte)
+    (v : held ≡ heldAt page chars attrs r 0) (q : start ≡ cell (rowStart page chars r)) where
+  pub as-row-at : (low high looks out part : List ℕ) → p .size ≡ p .lines .0 * p .width → out ≡ rowFrom p k chars attrs low high looks held (start .address) ++ drop (p .lines .0 * p .width) part
+      → out ≡ rowDrawn p page chars attrs low high looks r ++ drop (p .size) part
+  unfolding rowDrawn
+  as-row-at low high looks out part z e = (rw (v, q, ke, be) at e) ∙ ap (λ (i : ℕ). rowDrawn p page chars attrs low high looks r ++ drop i part) (sym z)
+
+  -- so many cells
+  pub counted : p ≡ planOf page → (n : Clocks) → n ≡ clocks (fetchedOf page chars r) → n .0 ≡ fetchedFor (isWide k) (p .columns .0)
+  unfolding planOf fetchedOf countsOf
+  counted e n c = rw (e, c, ke, be)
+
+  -- what is valid after a row is what the next begins with
+  pub carried-on : p ≡ planOf page → (x : ℕ) → x ≡ heldBy (p .reading .runs) attrs (p .buffer) held (start .address) (fetchedFor (isWide k) (p .columns .0)) → x ≡ heldAt page chars attrs (r + 1) 0
+  unfolding planOf fetchedOf countsOf
+  carried-on e x d =
+      (rw (e, v, q, ke, be) at d)
+      ∙ ap (validBy page chars attrs r) (sym (begun-all page chars r))
+      ∙ valid-along page chars attrs r (hactOf (page .irs)) (omega arith)
+      ∙ held-next page chars attrs r
+      ∙ rw (add-one r)

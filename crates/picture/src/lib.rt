@@ -9,10 +9,12 @@ ghost use Rattle.lists.specs.Join.{joined};
 ghost use Rattle.shape.specs.Font.{fontNow, lentFont};
 ghost use Rattle.timing.specs.Laws.{Accepted};
 ghost use Rattle.video.specs.At.{lentRefused};
+ghost use Rattle.raster.specs.Wide.{isWide};
+ghost use Rattle.dots.specs.Half.{shownOf, fetchedFor};
 ghost use Rattle.tables.specs.Tables.{heldBy};
 ghost use Rattle.line.specs.Walk.{lastOf};
 ghost use Rattle.picture.specs.Picture.{pictureCheck, pictureDots, pictureLength, picturedOf};
-ghost use Rattle.picture.specs.Plan.{planOf, columnOf, lineFrom, rowFrom, rowDrawn, Sheet};
+ghost use Rattle.picture.specs.Plan.{planOf, cellFrom, lineFrom, rowFrom, rowDrawn, Sheet, Numbered};
 ghost use Rattle.picture.specs.Agree.{Pictured};
 
 // What is the same for all rows: columns, dots a cell, lines a row, rows, the bytes of a line and of a row, the buffer, how cells are read.
@@ -27,7 +29,7 @@ pub struct Plan {
     pub reading: video::Reading,
 }
 
-// One line from its row's cells. No branch goes by what a cell is.
+// So many cells of a line. No branch goes by what a cell is.
 fn draw_cells(
     out: &mut [u8],
     p: Plan,
@@ -36,23 +38,24 @@ fn draw_cells(
     high: &[u64],
     looks: &[u16],
     scan: units::Lines,
+    n: units::Clocks,
 )
-    requires { ⌜ Sheet p (now low) (now high) (now looks) × (length (now cells) ≡ 256) × ((c : ℕ) → c < p .columns .0 → getD (now cells) c 0 < 32768) ⌝ }
-    requires { ⌜ (scan .0 < p .lines .0) × (p .columns .0 * p .dots .0 ≤ length (now out)) ⌝ }
+    requires { ⌜ Sheet p (now low) (now high) (now looks) × (length (now cells) ≡ 256) × ((i : ℕ) → i < n .0 → getD (now cells) i 0 < 32768) ⌝ }
+    requires { ⌜ (scan .0 < p .lines .0) × (n .0 ≤ 256) × (n .0 * p .dots .0 ≤ length (now out)) ⌝ }
     ensures { λ _. ⌜ now (out .exit)
-        ≡ joined 0 (p .columns .0) (columnOf (now (cells .entry)) (now (low .entry)) (now (high .entry)) (now (looks .entry)) (p .dots .0) (scan .0))
-        ++ drop (p .columns .0 * p .dots .0) (now (out .entry)) ⌝ }
+        ≡ joined 0 (n .0) (cellFrom (now (cells .entry)) (now (low .entry)) (now (high .entry)) (now (looks .entry)) (p .dots .0) (scan .0))
+        ++ drop (n .0 * p .dots .0) (now (out .entry)) ⌝ }
 {
-    let n = p.columns.0 as usize;
+    let count = n.0 as usize;
     let d = p.dots.0 as usize;
     let s = scan.0 as usize;
-    let mut c = 0;
-    while c < n {
-        let number = cells[c];
+    let mut i = 0;
+    while i < count {
+        let number = cells[i];
         let code = s * 256 + (number % 256) as usize;
         let mark = s * 128 + (number / 256) as usize;
         let levels = looks[mark];
-        let a = c * d;
+        let a = i * d;
         dots::put_cell(
             &mut out[a..],
             low[code],
@@ -61,25 +64,62 @@ fn draw_cells(
             (levels / 256) as u8,
             d,
         );
-        c += 1;
+        i += 1;
+    }
+}
+
+// One line from its row's cells: of a row of double width its cells first, and then each dot twice.
+fn draw_columns(
+    out: &mut [u8],
+    p: Plan,
+    wide: bool,
+    cells: &[u16],
+    low: &[u64],
+    high: &[u64],
+    looks: &[u16],
+    scan: units::Lines,
+)
+    requires { ⌜ Sheet p (now low) (now high) (now looks) × (length (now cells) ≡ 256) × Numbered wide p (now cells) ⌝ }
+    requires { ⌜ (scan .0 < p .lines .0) × (p .width ≤ length (now out)) ⌝ }
+    ensures { λ _. ⌜ now (out .exit)
+        ≡ joined 0 (p .columns .0) (shownOf wide (cellFrom (now (cells .entry)) (now (low .entry)) (now (high .entry)) (now (looks .entry)) (p .dots .0) (scan .0)))
+        ++ drop (p .width) (now (out .entry)) ⌝ }
+{
+    let n = p.columns;
+    if wide {
+        let mut halves = [0u8; 1536];
+        let count = units::Clocks((n.0 + 1) / 2);
+        draw_cells(&mut halves, p, cells, low, high, looks, scan, count);
+        dots::double(out, &halves, p.width);
+    } else {
+        draw_cells(out, p, cells, low, high, looks, scan, n);
     }
 }
 
 // All lines of a row from its cells.
-fn draw_lines(out: &mut [u8], p: Plan, cells: &[u16], low: &[u64], high: &[u64], looks: &[u16])
-    requires { ⌜ Sheet p (now low) (now high) (now looks) × (length (now cells) ≡ 256) × ((c : ℕ) → c < p .columns .0 → getD (now cells) c 0 < 32768) ⌝ }
+fn draw_lines(
+    out: &mut [u8],
+    p: Plan,
+    k: raster::Code,
+    cells: &[u16],
+    low: &[u64],
+    high: &[u64],
+    looks: &[u16],
+)
+    requires { ⌜ Sheet p (now low) (now high) (now looks) × (length (now cells) ≡ 256) × Numbered (isWide k) p (now cells) ⌝ }
     requires { ⌜ p .lines .0 * p .width ≤ length (now out) ⌝ }
     ensures { λ _. ⌜ now (out .exit)
-        ≡ joined 0 (p .lines .0) (lineFrom (now (cells .entry)) (now (low .entry)) (now (high .entry)) (now (looks .entry)) (p .columns .0) (p .dots .0))
+        ≡ joined 0 (p .lines .0) (lineFrom p k (now (cells .entry)) (now (low .entry)) (now (high .entry)) (now (looks .entry)))
         ++ drop (p .lines .0 * p .width) (now (out .entry)) ⌝ }
 {
     let n = p.lines.0 as usize;
     let width = p.width;
+    let wide = raster::is_wide(k);
     let mut s: usize = 0;
     while s < n {
         let a = s * width;
-        let scan = units::Lines(s as u32);
-        draw_cells(&mut out[a..], p, cells, low, high, looks, scan);
+        let scan = video::scan_of(k, p.lines, units::Lines(s as u32));
+        draw_columns(&mut out[a..], p, wide, cells, low, high, looks, scan);
         s += 1;
     }
 }
@@ -88,6 +128,8 @@ fn draw_lines(out: &mut [u8], p: Plan, cells: &[u16], low: &[u64], high: &[u64],
 fn draw_row(
     out: &mut [u8],
     p: Plan,
+    k: raster::Code,
+    n: units::Clocks,
     chars: &[u8],
     attrs: &[u8],
     low: &[u64],
@@ -97,10 +139,10 @@ fn draw_row(
     held: u8,
 ) -> u8
     requires { ⌜ Sheet p (now low) (now high) (now looks) × (length (now chars) ≡ 16384) × (length (now attrs) ≡ 16384) ⌝ }
-    requires { ⌜ (start .address < 16384) × (p .lines .0 * p .width ≤ length (now out)) ⌝ }
-    ensures { λ r. ⌜ (r ≡ heldBy (p .reading .runs) (now (attrs .entry)) (p .buffer) held (start .address) (p .columns .0))
+    requires { ⌜ (n .0 ≡ fetchedFor (isWide k) (p .columns .0)) × (start .address < 16384) × (p .lines .0 * p .width ≤ length (now out)) ⌝ }
+    ensures { λ r. ⌜ (r ≡ heldBy (p .reading .runs) (now (attrs .entry)) (p .buffer) held (start .address) (fetchedFor (isWide k) (p .columns .0)))
         × (now (out .exit)
-        ≡ rowFrom p (now (chars .entry)) (now (attrs .entry)) (now (low .entry)) (now (high .entry)) (now (looks .entry)) held (start .address)
+        ≡ rowFrom p k (now (chars .entry)) (now (attrs .entry)) (now (low .entry)) (now (high .entry)) (now (looks .entry)) held (start .address)
         ++ drop (p .lines .0 * p .width) (now (out .entry))) ⌝ }
 {
     let mut cells = [0u16; 256];
@@ -114,9 +156,9 @@ fn draw_row(
         buffer,
         start,
         held,
-        p.columns.0 as usize,
+        n.0 as usize,
     );
-    draw_lines(out, p, &cells, low, high, looks);
+    draw_lines(out, p, k, &cells, low, high, looks);
     valid
 }
 
@@ -143,10 +185,13 @@ fn draw_rows(
     let mut r: u32 = 0;
     while r < n {
         let start = fetch::row_start(page, chars, r);
+        let code = raster::code_of(fetch::code_at(page, chars, r));
         let a = r as usize * size;
         held = draw_row(
             &mut out[a..],
             p,
+            code,
+            fetch::fetched_of(page, chars, r),
             chars,
             attrs,
             low,

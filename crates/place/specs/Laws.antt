@@ -3,8 +3,8 @@
 --     loaded-lt      what is fetched or held is an address
 --     carried-all    what holds at every column of every row, and at clock 0, holds at every clock
 use Prim.Native.Nat.{ℕ, zero, suc, _+_, _-_, _/_, _%_, _≤_, _<_}
-use mathlib.Core.Path.{_≡_, refl, subst, _∙_}
-use mathlib.Core.Bool.{Bool, true, false, _&&_, true≢false}
+use mathlib.Core.Path.{_≡_, refl, ap, subst, _∙_}
+use mathlib.Core.Bool.{Bool, true, false, not, _&&_, true≢false}
 use mathlib.Core.List.{List}
 use native.Mathlib.Nat.{div-lt-iff-lt-mul}
 use native.Mathlib.Numerals.{sub-one}
@@ -18,21 +18,24 @@ use Rattle.units.specs.declared.Clocks.{Clocks}
 use Rattle.units.specs.declared.Lines.{Lines}
 use Rattle.units.specs.Units.{clocks, lines}
 use Rattle.refusal.specs.declared.Refusal.the-variants.{Done}
-use Rattle.raster.specs.declared.Beam.{Beam}
+use Rattle.raster.specs.declared.Row.{Row}
 use Rattle.raster.specs.declared.Cell.{Cell}
-use Rattle.raster.specs.Moves.{cell}
+use Rattle.raster.specs.Moves.{cell, advance}
+use Rattle.raster.specs.Latch.{latched, setsOf}
 use Rattle.raster.specs.Raster.{Pair, pair, loaded, onward, turn, step, tail, inLine, carriedAt, scanAt}
-use Rattle.raster.specs.Cells.{begins, movesOn}
-use Rattle.raster.specs.Beams.{beam}
+use Rattle.raster.specs.Cells.{begins}
+use Rattle.raster.specs.Wide.{codeOf, againAt, endsAt}
+use Rattle.raster.specs.Beams.{beam, row}
 use Rattle.board.specs.declared.Page.{Page}
 use Rattle.board.specs.declared.Place.{Place}
 use Rattle.board.specs.declared.Board.{Board}
+use Rattle.board.specs.Modes.{fieldMode}
 use Rattle.board.specs.Range.{memoriesRefused}
 use Rattle.board.specs.Laws.{memories-all}
 use Rattle.timing.specs.declared.Timing.{Timing}
-use Rattle.timing.specs.Fields.{linesOf, rowsOf, hactOf, htOf, vtOf, tableOf, visibleOf, timingOf, countsOf}
+use Rattle.timing.specs.Fields.{linesOf, rowsOf, hactOf, htOf, vtOf, tableOf, visibleOf, bufferOf, timingOf, countsOf}
 use Rattle.timing.specs.Laws.{Accepted, call-passed}
-use Rattle.fetch.specs.Rows.{entryOf, feedIn, rowStart, cellAt}
+use Rattle.fetch.specs.Rows.{entryOf, codeAt, feedIn, rowStart, cellAt}
 use Rattle.fetch.specs.Laws.{entry-lt}
 use Rattle.latch.specs.Held.{heldAt}
 use Rattle.latch.specs.Laws.{held-valid}
@@ -65,35 +68,39 @@ spot-row p c line = go (ltb 0 c) (ltb 0 line)
 
 -- ---- what a clock works on
 
+-- what the beam holds, with its row's code
+abbrev pub heldIn : Page → Place → Row
+heldIn p q = settled p (row (q .beam .address) (q .beam .latch) (q .row .code))
+
 module _ (p : Page) (chars : List ℕ) (q : Place) where
   pub loads-row : loadsAt p q ≡ true → q .line .0 / linesOf (p .irs) < 8192
   loads-row t = row-of p (q .line .0) (ltb-true _ _ (both (ltb (q .line .0) (visibleOf (p .irs) .0)) (eqb (q .clock .0) 0) t .0))
 
   pub loaded-first : loadsAt p q ≡ true → eqb (q .line .0 % linesOf (p .irs)) 0 ≡ true
-      → (x : Beam) → x ≡ begunIn p chars (q .line .0 / linesOf (p .irs)) (settled p (q .beam)) → carriedOf (pair x x) ≡ loadedIn p chars q
+      → (x : Row) → x ≡ begunIn p chars (q .line .0 / linesOf (p .irs)) (heldIn p q) → carriedOf (pair x x) ≡ loadedIn p chars q
   unfolding loadedIn loaded countsOf
   loaded-first t z x e =
       let b = both (ltb (q .line .0) (visibleOf (p .irs) .0)) (eqb (q .clock .0) 0) t in
       rw (b .0, b .1, z, e)
 
   pub loaded-again : loadsAt p q ≡ true → eqb (q .line .0 % linesOf (p .irs)) 0 ≡ false
-      → (x : Beam) → x ≡ settled p (q .row) → carriedOf (pair x x) ≡ loadedIn p chars q
+      → (x : Row) → x ≡ settled p (q .row) → carriedOf (pair x x) ≡ loadedIn p chars q
   unfolding loadedIn loaded countsOf
   loaded-again t z x e =
       let b = both (ltb (q .line .0) (visibleOf (p .irs) .0)) (eqb (q .clock .0) 0) t in
       rw (b .0, b .1, z, e)
 
-  pub loaded-on : loadsAt p q ≡ false → (x y : Beam) → x ≡ settled p (q .beam) → y ≡ settled p (q .row) → carriedOf (pair x y) ≡ loadedIn p chars q
+  pub loaded-on : loadsAt p q ≡ false → (x y : Row) → x ≡ heldIn p q → y ≡ settled p (q .row) → carriedOf (pair x y) ≡ loadedIn p chars q
   unfolding loadedIn loaded countsOf
   loaded-on t x y e d = rw (e, d) (go (ltb (q .line .0) (visibleOf (p .irs) .0)) (eqb (q .clock .0) 0) t)
     where
-      held : Pair Beam
+      held : Pair Row
       held = rasterOf (settledIn p q) .carried
 
-      first : Beam
+      first : Row
       first = begunIn p chars (q .line .0 / linesOf (p .irs)) (held .beam)
 
-      m : Pair Beam
+      m : Pair Row
       m = pick (eqb (q .line .0 % linesOf (p .irs)) 0) (pair first first) (pair (held .row) (held .row))
 
       go : (u v : Bool) → (u && v) ≡ false → carriedOf held ≡ carriedOf (pick u (pick v m held) held)
@@ -104,7 +111,7 @@ module _ (p : Page) (chars : List ℕ) (q : Place) where
 -- ---- the place after a clock
 
 module _ (p : Page) (attrs : List ℕ) (q : Place) (c : Carried) where
-  pub moved-active : activeAt p q ≡ true → (x : Beam) → x ≡ pastCell p attrs (c .beam)
+  pub moved-active : activeAt p q ≡ true → (x : Row) → x ≡ pastCell p attrs (q .clock .0) (c .beam)
       → _≡_ {A = Carried} (record { beam = x; row = c .row }) (movedIn p attrs q c)
   unfolding movedIn
   moved-active t x e = rw (t, e)
@@ -125,38 +132,54 @@ module _ (p : Page) (q : Place) (c : Carried) (t : Timing) (et : t ≡ timingOf 
   line-test b e = rw (el, et) at e
 
   pub turned-clock : ltb (k .0) (t .counts .ht .0) ≡ true
-      → _≡_ {A = Place} (record { field = q .field; line = q .line; clock = k; beam = c .beam; row = c .row }) (turnedIn p q c)
+      → _≡_ {A = Place} (record { field = q .field; line = q .line; clock = k; beam = beam (c .beam .address) (c .beam .latch); row = c .row }) (turnedIn p q c)
   unfolding turnedIn turn countsOf
   turned-clock h = rw (clock-test true h, ek)
 
   pub turned-line : ltb (k .0) (t .counts .ht .0) ≡ false → ltb (l .0) (t .counts .vt .0) ≡ true
-      → _≡_ {A = Place} (record { field = q .field; line = l; clock = clocks 0; beam = c .beam; row = c .row }) (turnedIn p q c)
+      → _≡_ {A = Place} (record { field = q .field; line = l; clock = clocks 0; beam = beam (c .beam .address) (c .beam .latch); row = c .row }) (turnedIn p q c)
   unfolding turnedIn turn countsOf
   turned-line h g = rw (clock-test false h, line-test true g, el)
 
   pub turned-frame : ltb (k .0) (t .counts .ht .0) ≡ false → ltb (l .0) (t .counts .vt .0) ≡ false → (f : ℕ) → f ≡ (q .field + 1) % 256
-      → _≡_ {A = Place} (record { field = f; line = lines 0; clock = clocks 0; beam = c .beam; row = c .row }) (turnedIn p q c)
+      → _≡_ {A = Place} (record { field = f; line = lines 0; clock = clocks 0; beam = beam (c .beam .address) (c .beam .latch); row = c .row }) (turnedIn p q c)
   unfolding turnedIn turn countsOf
   turned-frame h g f e = rw (clock-test false h, line-test false g, e)
 
 -- loaded, moved on and turned is one step
 pub one-clock : (p : Page) (chars attrs : List ℕ) (q : Place) → turnedIn p q (movedIn p attrs q (loadedIn p chars q)) ≡ nextPlace p chars attrs q
-unfolding nextPlace step turnedIn movedIn loadedIn loaded onward movesOn countsOf
+unfolding nextPlace step turnedIn movedIn loadedIn loaded onward countsOf
 one-clock p chars attrs q = go (ltb (q .line .0) (visibleOf (p .irs) .0)) (ltb (q .clock .0) (hactOf (p .irs)))
   where
-    a : Pair Beam
+    a : Pair Row
     a = loaded (countsIn p) (carrierIn p chars (λ _. 0)) (q .line .0) (q .clock .0) (rasterOf (settledIn p q) .carried)
 
-    b : Pair Beam
+    b : Pair Row
     b = rasterOf (settledIn p q) .carried
 
-    next : Beam
-    next = pastCell p attrs (a .beam)
+    ends : Bool
+    ends = endsAt (countsIn p) (codeOf (a .beam .code)) (q .clock .0)
+
+    again : Bool
+    again = againAt (codeOf (a .beam .code)) (q .clock .0)
+
+    at : ℕ
+    at = advance (bufferOf (p .irs)) (a .beam .address)
+
+    set : ℕ
+    set = latched (setsOf (fieldMode p) attrs (a .beam .address)) (a .beam .latch)
+
+    past : (latch : ℕ) → Carried
+    past latch = record { beam = row (pick ends at (a .beam .address)) latch (a .beam .code); row = a .row }
+
+    turned : (t : Bool) (x y : ℕ) → pick t x y ≡ pick (not t) y x
+    turned true x y = refl
+    turned false x y = refl
 
     go : (u v : Bool)
-        → turnedIn p q (pick (u && v) (record { beam = pastCell p attrs (carriedOf (pick u a b) .beam); row = carriedOf (pick u a b) .row }) (carriedOf (pick u a b)))
-        ≡ turnedIn p q (carriedOf (pick u (pair (beam (pick v (next .address) (a .beam .address)) (pick v (next .latch) (a .beam .latch))) (a .row)) b))
-    go true true = refl
+        → turnedIn p q (pick (u && v) (record { beam = pastCell p attrs (q .clock .0) (carriedOf (pick u a b) .beam); row = carriedOf (pick u a b) .row }) (carriedOf (pick u a b)))
+        ≡ turnedIn p q (carriedOf (pick u (pair (row (pick (v && ends) at (a .beam .address)) (pick (v && not again) set (a .beam .latch)) (a .beam .code)) (a .row)) b))
+    go true true = ap (λ (x : ℕ). turnedIn p q (past x)) (turned again (a .beam .latch) set)
     go true false = refl
     go false v = refl
 
@@ -172,11 +195,11 @@ module _ (p : Page) (chars : List ℕ) (a : Accepted p) where
   unfolding loadedIn loaded countsOf
   loaded-lt q h k = go (ltb (q .line .0) (visibleOf (p .irs) .0)) (eqb (q .clock .0) 0) (eqb (q .line .0 % linesOf (p .irs)) 0)
     where
-      first : Beam
-      first = begunIn p chars (q .line .0 / linesOf (p .irs)) (settled p (q .beam))
+      first : Row
+      first = begunIn p chars (q .line .0 / linesOf (p .irs)) (heldIn p q)
 
-      held : Pair Beam
-      held = pair (settled p (q .beam)) (settled p (q .row))
+      held : Pair Row
+      held = pair (heldIn p q) (settled p (q .row))
 
       go : (u v w : Bool) → carriedOf (pick u (pick v (pick w (pair first first) (pair (held .row) (held .row))) held) held) .beam .address < 16384
       go true true true = begins-lt (q .line .0 / linesOf (p .irs)) (q .beam .address) (omega arith)
@@ -189,9 +212,9 @@ module _ (p : Page) (chars : List ℕ) (a : Accepted p) where
 module _ (p : Page) (chars attrs : List ℕ) where
   pub row-at : (r c : ℕ) (a s : Cell) (l k : ℕ) → a ≡ cell (cellAt p chars r c) → s ≡ cell (rowStart p chars r)
       → l ≡ heldAt p chars attrs r c → k ≡ heldAt p chars attrs r 0
-      → _≡_ {A = Carried} (record { beam = beam (a .address) l; row = beam (s .address) k }) (rowAt p chars attrs r c)
+      → (j : ℕ) → j ≡ codeAt p chars r → _≡_ {A = Carried} (record { beam = row (a .address) l j; row = row (s .address) k j }) (rowAt p chars attrs r c)
   unfolding rowAt
-  row-at r c a s l k e d m n = rw (e, d, m, n)
+  row-at r c a s l k e d m n j o = rw (e, d, m, n, o)
 
   -- it is the raster's
   row-walked : (r c : ℕ) → rowAt p chars attrs r c ≡ carriedOf (pair (rowsIn p chars attrs .walk r c) (rowsIn p chars attrs .start r))
@@ -221,7 +244,7 @@ module _ (p : Page) (chars attrs : List ℕ) where
   carried-frame c line zero e d h = absurd (omega arith)
   carried-frame c line (suc frame) e d h = row-walked _ _ ∙ rw (e, d, sub-one (rowsOf (p .irs)))
 
-  pub carried-zero : (c line frame : ℕ) → c ≡ 0 → line ≡ 0 → frame ≡ 0 → carriedOf (pair (beam 0 0) (beam 0 0)) ≡ carriedBefore p chars attrs c line frame
+  pub carried-zero : (c line frame : ℕ) → c ≡ 0 → line ≡ 0 → frame ≡ 0 → carriedOf (pair (row 0 0 0) (row 0 0 0)) ≡ carriedBefore p chars attrs c line frame
   unfolding carriedBefore carriedAt
   carried-zero c line frame e d f = rw (e, d, f)
 
@@ -240,7 +263,7 @@ module _ (p : Page) (chars attrs : List ℕ) where
   spot-carried zero (suc line) frame h = rw (lt-ltb 0 (suc line) (omega arith)) (spot-line (htOf (p .irs)) (suc line - 1) ∙ carried-line 0 (suc line) frame refl (omega arith))
   spot-carried zero zero frame h = carried-frame 0 0 frame refl refl (omega arith)
 
-  pub at-zero : (c line frame : ℕ) → originAt c line frame ≡ true → carriedOf (pair (beam 0 0) (beam 0 0)) ≡ carriedBefore p chars attrs c line frame
+  pub at-zero : (c line frame : ℕ) → originAt c line frame ≡ true → carriedOf (pair (row 0 0 0) (row 0 0 0)) ≡ carriedBefore p chars attrs c line frame
   at-zero c line frame t =
       let a = both (eqb c 0 && eqb line 0) (eqb frame 0) t in
       let b = both (eqb c 0) (eqb line 0) (a .0) in
@@ -256,7 +279,7 @@ module _ (p : Page) (chars attrs : List ℕ) where
       some zero zero (suc frame) u = omega arith
       some zero zero zero u = absurd (true≢false u)
 
-  pub carried-all : (P : Carried → Type 0) → ((r c : ℕ) → P (rowAt p chars attrs r c)) → P (carriedOf (pair (beam 0 0) (beam 0 0)))
+  pub carried-all : (P : Carried → Type 0) → ((r c : ℕ) → P (rowAt p chars attrs r c)) → P (carriedOf (pair (row 0 0 0) (row 0 0 0)))
       → (c line frame : ℕ) → P (carriedBefore p chars attrs c line frame)
   carried-all P rows first c line frame = go (originAt c line frame) refl
     where
@@ -269,7 +292,7 @@ module _ (p : Page) (chars attrs : List ℕ) where
       (clock : Clocks) (ec : clock ≡ clocks (n % t .counts .ht .0)) (line : Lines) (el : line ≡ lines (whole .0 % t .counts .vt .0))
       (frame : ℕ) (ef : frame ≡ whole .0 / t .counts .vt .0) where
     pub place-at : (x : Carried) → x ≡ carriedBefore p chars attrs (clock .0) (line .0) frame
-        → _≡_ {A = Place} (record { field = frame % 256; line = line; clock = clock; beam = x .beam; row = x .row }) (placeAt p chars attrs n)
+        → _≡_ {A = Place} (record { field = frame % 256; line = line; clock = clock; beam = beam (x .beam .address) (x .beam .latch); row = x .row }) (placeAt p chars attrs n)
     unfolding carriedBefore placeAt scanAt timingOf countsOf
     place-at x e = rw (e, ec, el, ef, ew, et)
 

@@ -1,24 +1,27 @@
--- Latch bytes as they count (02, R-1): one without AFLG is none, and in character mode every one. Assumes nothing.
+-- Latch bytes and row codes as they count (02, R-1 and R-4): a latch byte without AFLG is none, and in character mode every one; of a code two bits, and none while IR0[7] is 0. Assumes nothing.
 --     next-settled   every step leaves them so
 --     at-settled     and so are those of the place for clock n
-use Prim.Native.Nat.{ℕ, _+_, _/_, _%_}
+use Prim.Native.Nat.{ℕ, _+_, _*_, _/_, _%_}
 use mathlib.Core.Path.{_≡_, refl, sym, ap, _∙_}
 use mathlib.Core.Bool.{Bool, true, false}
 use mathlib.Core.List.{List}
+use native.Mathlib.Omega.{arith}
 use lib.Dec.{ltb, eqb}
 use Rattle.lists.specs.Choice.{pick}
-use Rattle.raster.specs.declared.Beam.{Beam}
+use Rattle.raster.specs.declared.Row.{Row}
 use Rattle.raster.specs.Raster.{Pair, pair, Scan, scan, turn, loaded, scanAt}
 use Rattle.raster.specs.Latch.{latched, kept-twice, latched-kept}
-use Rattle.raster.specs.Beams.{beam}
+use Rattle.raster.specs.Wide.{codeOf, againAt}
+use Rattle.raster.specs.Beams.{beam, row}
 use Rattle.board.specs.declared.Page.{Page}
 use Rattle.board.specs.declared.Place.{Place}
 use Rattle.board.specs.Modes.{fieldMode}
-use Rattle.timing.specs.Fields.{linesOf, htOf, vtOf, visibleOf, countsOf}
+use Rattle.timing.specs.Fields.{codedOf, linesOf, htOf, vtOf, visibleOf, countsOf}
+use Rattle.fetch.specs.Rows.{byteAt, codeAt}
 use Rattle.latch.specs.Held.{heldAt}
 use Rattle.latch.specs.Laws.{held-plain, held-kept}
 use Rattle.place.specs.declared.Carried.{Carried}
-use Rattle.place.specs.Place.{placeOf, countsIn, carriedOf, setBy, countedLatch, settled, settledIn, activeAt, begunIn, loadedIn, pastCell, movedIn, turnedIn, nextPlace, rowAt, carriedBefore, placeAt}
+use Rattle.place.specs.Place.{placeOf, countsIn, carriedOf, setBy, countedLatch, countedCode, settled, settledIn, activeAt, begunIn, loadedIn, pastCell, movedIn, turnedIn, nextPlace, rowAt, carriedBefore, placeAt}
 use Rattle.place.specs.Laws.{one-clock, carried-all}
 
 module _ (p : Page) where
@@ -56,12 +59,38 @@ module _ (p : Page) where
       go true e = held-kept p chars attrs r c
       go false e = sym (held-plain p chars attrs e r c)
 
+  -- ---- one code
+
+  code-none : countedCode p 0 ≡ 0
+  unfolding countedCode
+  code-none = go (codedOf (p .irs))
+    where
+      go : (t : Bool) → pick t (0 % 4) 0 ≡ 0
+      go true = refl
+      go false = refl
+
+  code-twice : (k : ℕ) → countedCode p (countedCode p k) ≡ countedCode p k
+  unfolding countedCode
+  code-twice k = go (codedOf (p .irs))
+    where
+      go : (t : Bool) → pick t (pick t (k % 4) 0 % 4) 0 ≡ pick t (k % 4) 0
+      go true = omega arith
+      go false = refl
+
+  code-own : (chars : List ℕ) (r : ℕ) → countedCode p (codeAt p chars r) ≡ codeAt p chars r
+  unfolding countedCode codeAt
+  code-own chars r = go (codedOf (p .irs)) (byteAt chars (p .starts .start2 + 2 * r + 1))
+    where
+      go : (t : Bool) (byte : ℕ) → pick t (pick t (byte / 64 % 4) 0 % 4) 0 ≡ pick t (byte / 64 % 4) 0
+      go true byte = omega arith
+      go false byte = refl
+
   -- ---- what is carried
 
   abbrev pub Settled : Carried → Type 0
-  Settled c = (countedLatch p (c .beam .latch) ≡ c .beam .latch) × (countedLatch p (c .row .latch) ≡ c .row .latch)
+  Settled c = (countedLatch p (c .beam .latch) ≡ c .beam .latch) × (countedLatch p (c .row .latch) ≡ c .row .latch) × (countedCode p (c .row .code) ≡ c .row .code)
 
-  begun-settled : (chars : List ℕ) (r : ℕ) (x : Beam) → countedLatch p (begunIn p chars r (settled p x) .latch) ≡ begunIn p chars r (settled p x) .latch
+  begun-settled : (chars : List ℕ) (r : ℕ) (x : Row) → countedLatch p (begunIn p chars r (settled p x) .latch) ≡ begunIn p chars r (settled p x) .latch
   begun-settled chars r x = go (eqb r 0)
     where
       go : (t : Bool) → countedLatch p (pick t 0 (countedLatch p (x .latch))) ≡ pick t 0 (countedLatch p (x .latch))
@@ -72,37 +101,44 @@ module _ (p : Page) where
   unfolding loadedIn loaded countsOf
   loaded-settled chars q = go (ltb (q .line .0) (visibleOf (p .irs) .0)) (eqb (q .clock .0) 0) (eqb (q .line .0 % linesOf (p .irs)) 0)
     where
-      first : Beam
-      first = begunIn p chars (q .line .0 / linesOf (p .irs)) (settled p (q .beam))
+      x : Row
+      x = row (q .beam .address) (q .beam .latch) (q .row .code)
 
-      held : Pair Beam
-      held = pair (settled p (q .beam)) (settled p (q .row))
+      first : Row
+      first = begunIn p chars (q .line .0 / linesOf (p .irs)) (settled p x)
+
+      held : Pair Row
+      held = pair (settled p x) (settled p (q .row))
 
       go : (u v w : Bool) → Settled (carriedOf (pick u (pick v (pick w (pair first first) (pair (held .row) (held .row))) held) held))
-      go true true true = let e = begun-settled chars (q .line .0 / linesOf (p .irs)) (q .beam) in (e, e)
-      go true true false = (counted-twice (q .row .latch), counted-twice (q .row .latch))
-      go true false w = (counted-twice (q .beam .latch), counted-twice (q .row .latch))
-      go false v w = (counted-twice (q .beam .latch), counted-twice (q .row .latch))
+      go true true true = let e = begun-settled chars (q .line .0 / linesOf (p .irs)) x in (e, e, code-own chars (q .line .0 / linesOf (p .irs)))
+      go true true false = (counted-twice (q .row .latch), counted-twice (q .row .latch), code-twice (q .row .code))
+      go true false w = (counted-twice (q .beam .latch), counted-twice (q .row .latch), code-twice (q .row .code))
+      go false v w = (counted-twice (q .beam .latch), counted-twice (q .row .latch), code-twice (q .row .code))
 
   moved-settled : (attrs : List ℕ) (q : Place) (c : Carried) → Settled c → Settled (movedIn p attrs q c)
   unfolding movedIn
   moved-settled attrs q c h = go (activeAt p q)
     where
-      go : (t : Bool) → Settled (pick t (record { beam = pastCell p attrs (c .beam); row = c .row }) c)
-      go true = (counted-set _ (c .beam .latch) (h .0), h .1)
+      past : (again : Bool) (byte : ℕ) → countedLatch p (pick again (c .beam .latch) (latched (setBy p byte) (c .beam .latch))) ≡ pick again (c .beam .latch) (latched (setBy p byte) (c .beam .latch))
+      past true byte = h .0
+      past false byte = counted-set byte (c .beam .latch) (h .0)
+
+      go : (t : Bool) → Settled (pick t (record { beam = pastCell p attrs (q .clock .0) (c .beam); row = c .row }) c)
+      go true = (past (againAt (codeOf (c .beam .code)) (q .clock .0)) _, h .1, h .2)
       go false = h
 
   turned-settled : (q : Place) (c : Carried) → Settled c → settledIn p (turnedIn p q c) ≡ turnedIn p q c
   unfolding turnedIn turn
   turned-settled q c h = go (ltb (q .clock .0 + 1) (countsIn p .ht .0)) (ltb (q .line .0 + 1) (countsIn p .vt .0))
     where
-      to : (field line clock : ℕ) → Scan Beam
+      to : (field line clock : ℕ) → Scan Row
       to field line clock = scan field line clock (pair (c .beam) (c .row))
 
       kept : (field line clock : ℕ) → settledIn p (placeOf (to field line clock)) ≡ placeOf (to field line clock)
-      kept field line clock = rw (h .0, h .1)
+      kept field line clock = rw (h .0, h .1, h .2)
 
-      after : (u v : Bool) → Scan Beam
+      after : (u v : Bool) → Scan Row
       after u v = pick u (to (q .field) (q .line .0) (q .clock .0 + 1)) (pick v (to (q .field) (q .line .0 + 1) 0) (to ((q .field + 1) % 256) 0 0))
 
       go : (u v : Bool) → settledIn p (placeOf (after u v)) ≡ placeOf (after u v)
@@ -120,11 +156,11 @@ module _ (p : Page) where
 
   row-settled : (chars attrs : List ℕ) (r c : ℕ) → Settled (rowAt p chars attrs r c)
   unfolding rowAt
-  row-settled chars attrs r c = (counted-held chars attrs r c, counted-held chars attrs r 0)
+  row-settled chars attrs r c = (counted-held chars attrs r c, counted-held chars attrs r 0, code-own chars r)
 
   pub at-settled : (chars attrs : List ℕ) (n : ℕ) → settledIn p (placeAt p chars attrs n) ≡ placeAt p chars attrs n
   unfolding placeAt scanAt carriedBefore countsOf
   at-settled chars attrs n =
       let y = n / htOf (p .irs) in
-      let s = carried-all p chars attrs Settled (row-settled chars attrs) (counted-none, counted-none) (n % htOf (p .irs)) (y % vtOf (p .irs)) (y / vtOf (p .irs)) in
-      rw (s .0, s .1)
+      let s = carried-all p chars attrs Settled (row-settled chars attrs) (counted-none, counted-none, code-none) (n % htOf (p .irs)) (y % vtOf (p .irs)) (y / vtOf (p .irs)) in
+      rw (s .0, s .1, s .2)

@@ -7,14 +7,18 @@ ghost use Rattle.lists.specs.Choice.{pick};
 ghost use Rattle.raster.specs.Moves.{cell};
 ghost use Rattle.raster.specs.Cells.{begins};
 ghost use Rattle.fetch.specs.Rows.{feedIn};
-ghost use Rattle.place.specs.Place.{setBy, settled, activeAt, loadsAt, begunIn, loadedIn, pastCell, movedIn, turnedIn, rowAt, carriedBefore, placeAt};
+ghost use Rattle.raster.specs.Moves.{advance};
+ghost use Rattle.raster.specs.Latch.{latched};
+ghost use Rattle.raster.specs.Wide.{endsAt};
+ghost use Rattle.timing.specs.Fields.{bufferOf};
+ghost use Rattle.place.specs.Place.{countsIn, setBy, countedCode, settled, activeAt, loadsAt, begunIn, loadedIn, pastCell, movedIn, turnedIn, rowAt, carriedBefore, placeAt};
 ghost use Rattle.place.specs.Spot.{lastSpot, spotIn, spotBefore, originAt};
 ghost use Rattle.place.specs.State.{withPlace, stateOf};
 
-// What the beam carries along, and what its row began with.
+// What the beam carries along, with its row's code, and what its row began with.
 pub struct Carried {
-    pub beam: raster::Beam,
-    pub row: raster::Beam,
+    pub beam: raster::Row,
+    pub row: raster::Row,
 }
 
 pub struct StateAt {
@@ -29,13 +33,22 @@ fn set_by(p: board::Page, byte: u8) -> u8
     if board::field_mode(p) { byte } else { 0 }
 }
 
-// A beam with its latch byte as it counts.
-fn settled(p: board::Page, x: raster::Beam) -> raster::Beam
+// A row's code as it counts.
+fn counted_code(p: board::Page, code: u8) -> u8
+    ensures { λ r. ⌜ r ≡ countedCode p code ⌝ }
+{
+    let irs = p.irs;
+    if timing::coded_of(irs) { code % 4 } else { 0 }
+}
+
+// What is carried, with latch byte and code as they count.
+fn settled(p: board::Page, x: raster::Row) -> raster::Row
     ensures { λ r. ⌜ r ≡ settled p x ⌝ }
 {
-    raster::Beam {
+    raster::Row {
         address: x.address,
         latch: raster::latched(set_by(p, x.latch), 0),
+        code: counted_code(p, x.code),
     }
 }
 
@@ -64,15 +77,16 @@ fn begun_latch(row: u32, held: u8) -> u8
 }
 
 // What a row begins with, where x is held.
-fn begun(p: board::Page, chars: &[u8], row: u32, x: raster::Beam) -> raster::Beam
+fn begun(p: board::Page, chars: &[u8], row: u32, x: raster::Row) -> raster::Row
     requires { ⌜ (length (now chars) ≡ 16384) × (row < 8192) ⌝ }
     ensures { λ r. ⌜ r ≡ begunIn p (now (chars .entry)) row x ⌝ }
 {
     let held = raster::Cell { address: x.address };
     let at = begun_at(p, chars, row, held);
-    raster::Beam {
+    raster::Row {
         address: at.address,
         latch: begun_latch(row, x.latch),
+        code: fetch::code_at(p, chars, row),
     }
 }
 
@@ -90,8 +104,12 @@ pub fn loaded_at(p: board::Page, chars: &[u8], q: board::Place) -> Carried
     ensures { λ r. ⌜ r ≡ loadedIn p (now (chars .entry)) q ⌝ }
 {
     let irs = p.irs;
-    let beam = q.beam;
     let kept = q.row;
+    let beam = raster::Row {
+        address: q.beam.address,
+        latch: q.beam.latch,
+        code: q.row.code,
+    };
     let held = settled(p, beam);
     let row = settled(p, kept);
     let line = q.line;
@@ -123,31 +141,69 @@ pub fn active_at(p: board::Page, q: board::Place) -> bool
     q.line.below(timing::visible_of(irs)) & q.clock.below(t.counts.hact)
 }
 
-// Past the cell that is fetched, whose byte is latched where it has AFLG.
-fn past_cell(p: board::Page, attrs: &[u8], x: raster::Beam) -> raster::Beam
-    requires { ⌜ (length (now attrs) ≡ 16384) × (x .address < 16384) ⌝ }
-    ensures { λ r. ⌜ r ≡ pastCell p (now (attrs .entry)) x ⌝ }
+// The cell after this one, where the beam moves on.
+fn next_cell(p: board::Page, moves: bool, at: u16) -> u16
+    ensures { λ r. ⌜ r ≡ pick moves (advance (bufferOf (p .irs)) at) at ⌝ }
 {
     let irs = p.irs;
-    let held = raster::Cell { address: x.address };
-    let next = raster::advance_one(timing::buffer_of(irs), held);
-    let byte = attrs[x.address as usize];
-    raster::Beam {
-        address: next.address,
-        latch: raster::latched(set_by(p, byte), x.latch),
+    if moves {
+        let next = raster::advance_one(timing::buffer_of(irs), raster::Cell { address: at });
+        return next.address;
+    }
+    at
+}
+
+// What is latched after a column, which shows its cell again or fetches one with this byte.
+fn next_latch(p: board::Page, again: bool, byte: u8, held: u8) -> u8
+    ensures { λ r. ⌜ r ≡ pick again held (latched (setBy p byte) held) ⌝ }
+{
+    if again {
+        return held;
+    }
+    raster::latched(set_by(p, byte), held)
+}
+
+// A cell's last column.
+fn ends_at(p: board::Page, k: raster::Code, clock: units::Clocks) -> bool
+    requires { ⌜ clock .0 < 384 ⌝ }
+    ensures { λ r. ⌜ r ≡ endsAt (countsIn p) k (clock .0) ⌝ }
+{
+    let irs = p.irs;
+    let t = timing::timing_of(irs);
+    let next = clock.plus(units::Clocks(1));
+    !raster::is_wide(k) | ((clock.0 % 2 == 1) | next.same(t.counts.hact))
+}
+
+// Past a clock: the cell that it fetches is latched where it has AFLG, and after a cell's last column the beam moves on.
+fn past_cell(p: board::Page, attrs: &[u8], clock: units::Clocks, x: raster::Row) -> raster::Row
+    requires { ⌜ (length (now attrs) ≡ 16384) × (clock .0 < 384) × (x .address < 16384) ⌝ }
+    ensures { λ r. ⌜ r ≡ pastCell p (now (attrs .entry)) (clock .0) x ⌝ }
+{
+    let code = x.code;
+    let at = x.address;
+    raster::Row {
+        address: next_cell(p, ends_at(p, raster::code_of(code), clock), at),
+        latch: next_latch(
+            p,
+            raster::again_at(raster::code_of(code), clock.0),
+            attrs[at as usize],
+            x.latch,
+        ),
+        code: code,
     }
 }
 
-// Each active clock fetches its cell and moves on, with the display off too.
+// Each active clock, with the display off too.
 fn moved_on(p: board::Page, attrs: &[u8], q: board::Place, c: Carried) -> Carried
-    requires { ⌜ (length (now attrs) ≡ 16384) × (c .beam .address < 16384) ⌝ }
+    requires { ⌜ (length (now attrs) ≡ 16384) × (q .clock .0 < 384) × (c .beam .address < 16384) ⌝ }
     ensures { λ r. ⌜ r ≡ movedIn p (now (attrs .entry)) q c ⌝ }
 {
     let held = c.beam;
     let row = c.row;
+    let clock = q.clock;
     if active_at(p, q) {
         return Carried {
-            beam: past_cell(p, attrs, held),
+            beam: past_cell(p, attrs, clock, held),
             row: row,
         };
     }
@@ -161,7 +217,10 @@ fn turned(p: board::Page, q: board::Place, c: Carried) -> board::Place
 {
     let irs = p.irs;
     let t = timing::timing_of(irs);
-    let beam = c.beam;
+    let beam = raster::Beam {
+        address: c.beam.address,
+        latch: c.beam.latch,
+    };
     let row = c.row;
     let line = q.line;
     let clock = q.clock.plus(units::Clocks(1));
@@ -208,14 +267,17 @@ fn row_at(p: board::Page, chars: &[u8], attrs: &[u8], row: u32, c: units::Clocks
 {
     let at = fetch::cell_at(p, chars, row, c);
     let start = fetch::row_start(p, chars, row);
+    let code = fetch::code_at(p, chars, row);
     Carried {
-        beam: raster::Beam {
+        beam: raster::Row {
             address: at.address,
             latch: latch::held_at(p, chars, attrs, row, c),
+            code: code,
         },
-        row: raster::Beam {
+        row: raster::Row {
             address: start.address,
             latch: latch::held_at(p, chars, attrs, row, units::Clocks(0)),
+            code: code,
         },
     }
 }
@@ -290,9 +352,10 @@ fn carried_before(
     let spot = spot_before(p, c, line);
     let carried = row_at(p, chars, attrs, spot.row, spot.clocks);
     if at_origin(c, line, frame) {
-        let none = raster::Beam {
+        let none = raster::Row {
             address: 0,
             latch: 0,
+            code: 0,
         };
         return Carried {
             beam: none,
@@ -314,7 +377,10 @@ fn place_at(p: board::Page, chars: &[u8], attrs: &[u8], n: units::Clocks) -> boa
     let line = lines.remainder(t.counts.vt);
     let frame = lines.quotient(t.counts.vt);
     let c = carried_before(p, chars, attrs, clock, line, frame);
-    let beam = c.beam;
+    let beam = raster::Beam {
+        address: c.beam.address,
+        latch: c.beam.latch,
+    };
     let row = c.row;
     board::Place {
         field: (frame % 256) as u8,

@@ -1,4 +1,4 @@
--- The text that a row shows: a code for each of its columns. Assumes nothing.
+-- The text that a row shows: a code for each cell that it fetches. Assumes nothing.
 use Prim.Native.Nat.{ℕ, _≤_, _<_}
 use mathlib.Core.Path.{_≡_, refl, sym, ap, _∙_}
 use mathlib.Core.Bool.{Bool, true, false, _&&_}
@@ -14,11 +14,12 @@ use Rattle.refusal.specs.declared.Refusal.the-variants.{Done}
 use Rattle.refusal.specs.Number.{numberOf, doneOf}
 use Rattle.refusal.specs.Laws.{done-is}
 use Rattle.board.specs.declared.Board.{Board}
-use Rattle.timing.specs.Fields.{hactOf}
-use Rattle.fetch.specs.Rows.{cellAt}
+use Rattle.raster.specs.Moves.{advanceBy-lt}
+use Rattle.timing.specs.Fields.{bufferOf}
+use Rattle.fetch.specs.Rows.{rowStart, fetchedOf, fetchAt}
 use Rattle.fetch.specs.Run.{runCheck, spanOf, runOf}
 use Rattle.fetch.specs.RowCells.{cellsCheck, rowOf, cellsGiven}
-use Rattle.fetch.specs.Laws.{run-passed, cell-at-lt, span-fits, span-number}
+use Rattle.fetch.specs.Laws.{run-passed, fetched-small, span-fits, span-number}
 use Rattle.fetch.specs.RowLaws.{cells-passed, cells-as-run, cells-some, count-small, cells-at, run-at, run-least}
 use Rattle.copies.specs.Put.{length-part}
 use Rattle.feldrime.specs.declared.CellsAnswer.{CellsAnswer}
@@ -29,19 +30,19 @@ use Rattle.feldrime.specs.Pages.{runFor}
 use Rattle.feldrime.specs.RowCells.{cellsFor, cellsPutFor}
 use Rattle.promises.specs.Runs.{runPart}
 
--- how many columns a row has, none where it is refused
-abbrev pub columns : (numbers chars : List ℕ) → ℕ → ℕ
-columns numbers chars row = cellsFor numbers chars row 256 .count
+-- how many cells a row fetches, none where it is refused
+abbrev pub count : (numbers chars : List ℕ) → ℕ → ℕ
+count numbers chars row = cellsFor numbers chars row 256 .count
 
--- the code in a column
-unfoldable pub codeAt : (numbers chars : List ℕ) → (row c : ℕ) → ℕ
-codeAt numbers chars row c = getD chars (cellAt (numbersBoard numbers .page) chars row c) 0
+-- the code of the cell that it fetches after i others
+unfoldable pub charAt : (numbers chars : List ℕ) → (row i : ℕ) → ℕ
+charAt numbers chars row i = getD chars (fetchAt (numbersBoard numbers .page) chars row i) 0
 
 -- the row's text, and what stood beyond it; without room for it, what stood there
 unfoldable pub rowText : (numbers chars : List ℕ) → ℕ → List ℕ → List ℕ
 rowText numbers chars row text =
-    pick (leb (columns numbers chars row) (length text))
-    (tab (columns numbers chars row) (codeAt numbers chars row) ++ drop (columns numbers chars row) text)
+    pick (leb (count numbers chars row) (length text))
+    (tab (count numbers chars row) (charAt numbers chars row) ++ drop (count numbers chars row) text)
     text
 
 -- ---- the text as it is read, by cells that were answered
@@ -64,7 +65,7 @@ module _ (numbers chars : List ℕ) (row : ℕ) {a : CellsAnswer} {cells : List 
   b = numbersBoard numbers
 
   record Read (c : ℕ) : Type 0 where
-    is-cell : getD cells c 0 ≡ cellAt (b .page) chars row c
+    is-cell : getD cells c 0 ≡ fetchAt (b .page) chars row c
     whole : length chars ≡ 16384
 
   each : (c : ℕ) → c < a .count → Read c
@@ -74,10 +75,10 @@ module _ (numbers chars : List ℕ) (row : ℕ) {a : CellsAnswer} {cells : List 
       go : (t : Bool) → numbersRefused numbers ≡ t → Read c
       go true t = let none : c < 0 = rw (e .0, t) at h in absurd (omega (arith, none))
       go false t =
-          let k : c < cellsGiven b (length chars) row 256 .count = rw (e .0, t) at h in
+          let k : c < cellsGiven b chars row 256 .count = rw (e .0, t) at h in
           record {
             is-cell = ap (λ (l : List ℕ). getD l c 0) (e .1) ∙ rw t (cells-at b chars row noCells c k);
-            whole = run-passed b (length chars) row (cells-passed b (length chars) row 256 (cells-some b (length chars) row 256 c k) .0) .whole;
+            whole = run-passed b (length chars) row (cells-passed b (length chars) row 256 (cells-some b chars row 256 c k) .0) .whole;
           }
 
   few : a .count ≤ 256
@@ -86,27 +87,31 @@ module _ (numbers chars : List ℕ) (row : ℕ) {a : CellsAnswer} {cells : List 
     where
       go : (t : Bool) → numbersRefused numbers ≡ t → a .count ≤ 256
       go true t = rw (e .0, t) (omega arith)
-      go false t = rw (e .0, t) (count-small b (length chars) row 256)
+      go false t = rw (e .0, t) (count-small b chars row 256)
+
+  fetch-lt : (i : ℕ) → fetchAt (b .page) chars row i < 16384
+  unfolding fetchAt
+  fetch-lt i = advanceBy-lt (bufferOf (b .page .irs)) i (rowStart (b .page) chars row)
 
   pub readable : length cells ≡ 256 → (room : ℕ) → a .count ≤ room → Readable chars cells (a .count) room
   readable m room fits = record {
     within = omega (arith, m, few);
     roomy = fits;
-    inside = λ c h. let r = each c h in rw (r .is-cell, r .whole) (cell-at-lt (b .page) chars row c);
+    inside = λ c h. let r = each c h in rw (r .is-cell, r .whole) (fetch-lt c);
   }
 
   pub text-put : (text : List ℕ) → a .count ≤ length text → {text′ : List ℕ} → text′ ≡ tab (a .count) (codeBy chars cells) ++ drop (a .count) text
       → text′ ≡ rowText numbers chars row text
-  unfolding rowText codeBy codeAt
+  unfolding rowText codeBy charAt
   text-put text room q =
-      let counted : a .count ≡ columns numbers chars row = ap (λ (x : CellsAnswer). x .count) (e .0) in
-      rw (le-leb (columns numbers chars row) (length text) (rw counted at room))
+      let counted : a .count ≡ count numbers chars row = ap (λ (x : CellsAnswer). x .count) (e .0) in
+      rw (le-leb (count numbers chars row) (length text) (rw counted at room))
       (q ∙ ap (λ (l : List ℕ). l ++ drop (a .count) text) (same-tab (a .count) _ _ (λ c h. ap (λ (x : ℕ). getD chars x 0) (each c h .is-cell)))
-      ∙ ap (λ (k : ℕ). tab k (codeAt numbers chars row) ++ drop k text) counted)
+      ∙ ap (λ (k : ℕ). tab k (charAt numbers chars row) ++ drop k text) counted)
 
   pub text-kept : (text : List ℕ) → length text < a .count → text ≡ rowText numbers chars row text
   unfolding rowText
-  text-kept text short = rw (lt-leb (columns numbers chars row) (length text) (rw (e .0) at short))
+  text-kept text short = rw (lt-leb (count numbers chars row) (length text) (rw (e .0) at short))
 
 -- ---- the run stands at its front
 
@@ -121,28 +126,28 @@ module _ (numbers chars : List ℕ) (row : ℕ) (text : List ℕ) (room : 256 �
   unfolding runOf
   part-long = length-part chars (spanOf m chars row .start) n (span-fits m chars row)
 
-  given : runCheck m (length chars) row ≡ Done → cellsGiven m (length chars) row 256 ≡ rowOf Done (hactOf (m .page .irs))
+  given : runCheck m (length chars) row ≡ Done → cellsGiven m chars row 256 ≡ rowOf Done (fetchedOf (m .page) chars row)
   unfolding cellsGiven
   given q = rw (cells-as-run m (length chars) row 256 (omega arith), q)
 
-  columns-are : runCheck m (length chars) row ≡ Done → numbersRefused numbers ≡ false → columns numbers chars row ≡ hactOf (m .page .irs)
+  count-is : runCheck m (length chars) row ≡ Done → numbersRefused numbers ≡ false → count numbers chars row ≡ fetchedOf (m .page) chars row
   unfolding cellsFor
-  columns-are q t =
-      let answered : cellsFor numbers chars row 256 ≡ cellsAnswer Done (hactOf (m .page .irs)) = rw (t, given q) in
+  count-is q t =
+      let answered : cellsFor numbers chars row 256 ≡ cellsAnswer Done (fetchedOf (m .page) chars row) = rw (t, given q) in
       ap (λ (x : CellsAnswer). x .count) answered
 
-  most-columns : n ≤ cellsGiven m (length chars) row 256 .count
-  most-columns = run-least m chars row 256 (omega arith)
+  most-count : n ≤ cellsGiven m chars row 256 .count
+  most-count = run-least m chars row 256 (omega arith)
 
   -- a row that is not refused
   shown : runCheck m (length chars) row ≡ Done → numbersRefused numbers ≡ false → take n (rowText numbers chars row text) ≡ runOf m chars row
-  unfolding rowText codeAt runOf
+  unfolding rowText charAt runOf
   shown q t =
-      let h = hactOf (m .page .irs) in
-      let f = codeAt numbers chars row in
-      let hact-le : h ≤ length text = omega (arith, room) in
-      let text-is : rowText numbers chars row text ≡ tab h f ++ drop h text = rw (columns-are q t, le-leb h (length text) hact-le) in
-      let few : n ≤ h = rw (given q) at most-columns in
+      let h = fetchedOf (m .page) chars row in
+      let f = charAt numbers chars row in
+      let h-le : h ≤ length text = omega (arith, room, fetched-small (m .page) chars row .1) in
+      let text-is : rowText numbers chars row text ≡ tab h f ++ drop h text = rw (count-is q t, le-leb h (length text) h-le) in
+      let few : n ≤ h = rw (given q) at most-count in
       let long : n ≤ length (tab h f ++ drop h text) = rw (length-append (tab h f) (drop h text), length-tab h f) (omega (arith, few)) in
       let start = spanOf m chars row .start in
       rw text-is

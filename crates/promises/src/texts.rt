@@ -20,7 +20,7 @@ fn put_codes(chars: &[u8], cells: &[u16], n: usize, text: &mut [u8])
     }
 }
 
-// Each cell that is answered lies in character memory, and its code is what the row shows in that column. Text without room for the row, or of a refused row, stays.
+// Each cell that is answered lies in character memory, and its code is what the row shows there. Text without room for the row, or of a refused row, stays.
 pub fn row_text(numbers: &[u8], chars: &[u8], row: u32, text: &mut [u8])
     ensures { λ _. ⌜ now (text .exit) ≡ rowText (now (numbers .entry)) (now (chars .entry)) row (now (text .entry)) ⌝ }
 {

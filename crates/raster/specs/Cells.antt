@@ -7,12 +7,11 @@
 --     cells-inside  with the table off and an ordered buffer every cell is in the buffer
 use mathlib.Core.Path.{_≡_, refl, sym, ap, _∙_}
 use mathlib.Core.Bool.{Bool, true, false}
-use Prim.Native.Nat.{ℕ, suc, min, _+_, _*_, _<_}
+use Prim.Native.Nat.{ℕ, suc, _+_, _*_, _<_}
 use native.Mathlib.Nat.{zero-mul, suc-mul, add-comm}
-use native.Mathlib.Decide.{decLt}
 use native.Mathlib.Omega.{arith}
-use lib.Dec.{ltb, eqb}
-use borrow.Author.Tests.{lt-ltb, le-ltb, ne-eqb}
+use lib.Dec.{eqb}
+use borrow.Author.Tests.{ne-eqb}
 use Rattle.lists.specs.Choice.{pick}
 use Rattle.raster.specs.declared.Counts.{Counts}
 use Rattle.raster.specs.declared.Buffer.{Buffer}
@@ -20,6 +19,7 @@ use Rattle.raster.specs.declared.Cell.{Cell}
 use Rattle.raster.specs.Moves.{cell, advance, advanceBy, Bounded, advanceBy-zero, advanceBy-suc, advanceBy-add, advanceBy-lt, advanceBy-inside, Inside}
 use Rattle.raster.specs.Raster.{HT, HACT, Good, Carrier, Rows, steps, origin, scanAt}
 use Rattle.raster.specs.Agree.{Laws, steps-meet}
+use Rattle.raster.specs.Wide.{codeOf, movesAt, movedAt, moved-zero, moved-suc, moved-all}
 
 pub record Feed : Type 0 where
   pub buffer : Buffer
@@ -60,12 +60,12 @@ cellOf e t r c = advanceBy (e .buffer) (t .moved r c) (startOf e t r)
 abbrev pub cellRows : Feed → Tally → Rows Cell
 cellRows e t = record { start = λ r. cell (startOf e t r); walk = λ r c. cell (cellOf e t r c) }
 
--- each active clock moves on
-abbrev pub everyClock : Counts → ℕ → ℕ → Bool
-everyClock g r c = ltb c (HACT g)
+-- by the rows' codes
+abbrev pub movesBy : Counts → (code : ℕ → ℕ) → ℕ → ℕ → Bool
+movesBy g code r c = movesAt g (codeOf (code r)) c
 
-abbrev pub tallyOf : Counts → Tally
-tallyOf g = record { moved = λ r c. min c (HACT g); perRow = HACT g }
+abbrev pub tallyBy : Counts → (code : ℕ → ℕ) → Tally
+tallyBy g code = record { moved = λ r c. movedAt g (codeOf (code r)) c; perRow = HACT g }
 
 -- ---- the two agree
 
@@ -79,16 +79,13 @@ pub record Tallied (g : Counts) (e : Feed) (t : Tally) : Type 0 where
   pub one-more : (r c : ℕ) → c < HT g → t .moved r (suc c) ≡ pick (e .moves r c) (suc (t .moved r c)) (t .moved r c)
   pub in-a-row : e .table ≡ false → (r : ℕ) → t .moved r (HT g) ≡ t .perRow
 
-pub every-clock-tallied : (g : Counts) (e : Feed) → Good g → e .moves ≡ everyClock g → Tallied g e (tallyOf g)
-every-clock-tallied g e o q = record {
-  none-yet = λ r. omega arith;
-  one-more = λ r c h. rw q (go c (decLt c (HACT g)));
-  in-a-row = λ _ r. omega (arith, o .hact-lt);
+-- without a row table no row has a code
+pub by-code-tallied : (g : Counts) (e : Feed) (code : ℕ → ℕ) → Good g → e .moves ≡ movesBy g code → (e .table ≡ false → (r : ℕ) → code r ≡ 0) → Tallied g e (tallyBy g code)
+by-code-tallied g e code o q plain = record {
+  none-yet = λ r. moved-zero g (o .hact-some) (codeOf (code r));
+  one-more = λ r c h. rw q (moved-suc g (codeOf (code r)) c);
+  in-a-row = λ off r. moved-all g (codeOf (code r)) (HT g) (omega (arith, o .hact-lt)) ∙ rw (plain off r);
 }
-  where
-    go : (c : ℕ) → Dec (c < HACT g) → min (suc c) (HACT g) ≡ pick (ltb c (HACT g)) (suc (min c (HACT g))) (min c (HACT g))
-    go c (yes h) = rw (lt-ltb c (HACT g) h) (omega arith)
-    go c (no f) = rw (le-ltb c (HACT g) (omega arith)) (omega arith)
 
 module _ (g : Counts) (e : Feed) (t : Tally) (d : Fed e) (v : Tallied g e t) where
   pub start-lt : (r : ℕ) → startOf e t r < 16384

@@ -6,17 +6,20 @@
 --     last-split    after some cells, and some more
 --     last-over     none of them, or some, over what was valid before
 --     last-kept     a byte without AFLG is never latched
+--     columns-cells what a row's columns set is what the cells set that it has fetched by then
 use mathlib.Core.Path.{_≡_, refl, sym, ap, ap₂, _∙_}
-use mathlib.Core.Bool.{Bool, true, false}
-use Prim.Native.Nat.{ℕ, zero, suc, _+_, _-_, _≤_, _<_}
+use mathlib.Core.Bool.{Bool, true, false, _&&_}
+use Prim.Native.Nat.{ℕ, zero, suc, _+_, _-_, _/_, _%_, _≤_, _<_}
 use mathlib.Core.List.{List}
 use native.Mathlib.Nat.{add-zero}
-use native.Mathlib.Decide.{decLt}
+use native.Mathlib.Decide.{decLt, ℕ-discrete}
 use native.Mathlib.Omega.{arith}
-use lib.Dec.{ltb}
+use lib.Dec.{ltb, eqb}
 use lib.ListN.{getD}
-use borrow.Author.Tests.{lt-ltb, le-ltb, ltb-false}
+use borrow.Author.Tests.{lt-ltb, le-ltb, ltb-false, eq-eqb, ne-eqb}
 use Rattle.lists.specs.Choice.{pick}
+use Rattle.raster.specs.declared.Code.{Code}
+use Rattle.raster.specs.Wide.{isWide, againAt}
 
 -- AFLG is bit 7: where it is set a cell's own byte, else what was valid before
 abbrev pub latched : (byte held : ℕ) → ℕ
@@ -118,3 +121,30 @@ sets-or false byte held = refl
 -- where no byte has AFLG nothing is ever latched
 pub last-zero : (n : ℕ) → lastSet (λ _. 0) 0 n ≡ 0
 last-zero n = last-none (λ _. 0) 0 n (λ i h. omega arith)
+
+-- a row's columns, of which an odd one of double width fetches nothing, and the cells that it has fetched by then
+unfoldable pub fetchedBy : Code → (c : ℕ) → ℕ
+fetchedBy k c = pick (isWide k) ((c + 1) / 2) c
+
+pub columns-cells : (k : Code) (byte : ℕ → ℕ) (held c : ℕ)
+    → lastSet (λ i. pick (againAt k i) 0 (byte (pick (isWide k) (i / 2) i))) held c ≡ lastSet byte held (fetchedBy k c)
+unfolding lastSet fetchedBy
+columns-cells k byte held c = go (isWide k) c
+  where
+    set : Bool → ℕ → ℕ
+    set w i = pick (w && eqb (i % 2) 1) 0 (byte (pick w (i / 2) i))
+
+    next : (c : ℕ) → Dec (c % 2 ≡ 1) → lastSet (set true) held c ≡ lastSet byte held ((c + 1) / 2) → lastSet (set true) held (suc c) ≡ lastSet byte held ((suc c + 1) / 2)
+    next c (yes o) e =
+        let n : (suc c + 1) / 2 ≡ (c + 1) / 2 = omega (arith, o) in
+        rw (eq-eqb (c % 2) 1 o, n) e
+    next c (no f) e =
+        let n : (suc c + 1) / 2 ≡ suc ((c + 1) / 2) = omega (arith, f) in
+        let h : c / 2 ≡ (c + 1) / 2 = omega (arith, f) in
+        rw (ne-eqb (c % 2) 1 f, n, h) (ap (latched (byte ((c + 1) / 2))) e)
+
+    go : (w : Bool) (c : ℕ) → lastSet (set w) held c ≡ lastSet byte held (pick w ((c + 1) / 2) c)
+    go true zero = refl
+    go true (suc c) = next c (ℕ-discrete (c % 2) 1) (go true c)
+    go false zero = refl
+    go false (suc c) = ap (latched (byte c)) (go false c)

@@ -30,6 +30,7 @@ pub mod Walk
 pub mod Raster
 pub mod Agree
 pub mod Frame
+pub mod Wide
 pub mod Cells
 pub mod Latch
 pub mod Beams

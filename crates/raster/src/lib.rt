@@ -2,6 +2,7 @@
 ghost use mathlib.Core.Path.{_≡_};
 ghost use Rattle.raster.specs.Moves.{cell, advance, advanceBy};
 ghost use Rattle.raster.specs.Latch.{latched};
+ghost use Rattle.raster.specs.Wide.{codeOf, isWide, isTop, isBottom, againAt};
 
 // A cell, by its address.
 pub struct Cell {
@@ -13,6 +14,22 @@ pub struct Cell {
 pub struct Beam {
     pub address: u16,
     pub latch: u8,
+}
+
+// What a row keeps beside them: its code, of which two bits count.
+#[repr(C)]
+pub struct Row {
+    pub address: u16,
+    pub latch: u8,
+    pub code: u8,
+}
+
+// 02, R-4: a row of double width, or the top or bottom half of one.
+pub enum Code {
+    Plain,
+    Wide,
+    Top,
+    Bottom,
 }
 
 // The counts that the beam goes by: clocks per line, of which so many are active; lines per frame; lines per row; rows.
@@ -28,6 +45,58 @@ pub struct Counts {
 pub struct Buffer {
     pub first: u16,
     pub last: u16,
+}
+
+// The code of a row, by its byte.
+pub fn code_of(byte: u8) -> Code
+    ensures { λ r. ⌜ r ≡ codeOf byte ⌝ }
+{
+    match byte % 4 {
+        0 => Code::Plain,
+        1 => Code::Wide,
+        2 => Code::Top,
+        _ => Code::Bottom,
+    }
+}
+
+pub fn is_wide(k: Code) -> bool
+    ensures { λ r. ⌜ r ≡ isWide k ⌝ }
+{
+    match k {
+        Code::Plain => false,
+        Code::Wide => true,
+        Code::Top => true,
+        Code::Bottom => true,
+    }
+}
+
+pub fn is_top(k: Code) -> bool
+    ensures { λ r. ⌜ r ≡ isTop k ⌝ }
+{
+    match k {
+        Code::Plain => false,
+        Code::Wide => false,
+        Code::Top => true,
+        Code::Bottom => false,
+    }
+}
+
+pub fn is_bottom(k: Code) -> bool
+    ensures { λ r. ⌜ r ≡ isBottom k ⌝ }
+{
+    match k {
+        Code::Plain => false,
+        Code::Wide => false,
+        Code::Top => false,
+        Code::Bottom => true,
+    }
+}
+
+// Whether a column shows the cell of the column before it again.
+pub fn again_at(k: Code, column: u32) -> bool
+    ensures { λ r. ⌜ r ≡ againAt k column ⌝ }
+{
+    is_wide(k) & (column % 2 == 1)
 }
 
 // What is valid at a cell: its attribute byte where AFLG is set, else what was valid before it.

@@ -6,12 +6,14 @@ use mathlib.Core.List.{List, [], _∷_, _++_, map}
 use native.Mathlib.Nat.{sub-zero, not-suc-le-zero, le-of-suc-le-suc, suc-sub-suc}
 use native.Mathlib.Omega.{arith}
 use lib.Dec.{eqb}
-use lib.ListN.{length, getD, replicate, drop, length-map}
+use lib.ListN.{length, getD, replicate, drop, length-map, length-append, length-replicate}
 use Rattle.lists.specs.Choice.{pick, neither}
+use Rattle.lists.specs.Tab.{tab}
 use Rattle.refusal.specs.declared.Refusal.{Refusal}
 use Rattle.refusal.specs.declared.Refusal.the-variants.{Done}
 use Rattle.refusal.specs.Number.{doneOf}
 use Rattle.refusal.specs.Laws.{done-is}
+use Rattle.raster.specs.Wide.{codeOf, isWide, againAt}
 use Rattle.raster.specs.Latch.{latched}
 use Rattle.board.specs.declared.Place.{Place}
 use Rattle.board.specs.declared.Board.{Board}
@@ -21,13 +23,15 @@ use Rattle.board.specs.Laws.{memories-all}
 use Rattle.timing.specs.Check.{callCheck}
 use Rattle.timing.specs.Laws.{InRange, call-passed, ht-bound, vt-bound}
 use Rattle.shape.specs.Font.{Font, fontRefused, wordOf}
-use Rattle.shape.specs.Laws.{font-whole}
+use Rattle.shape.specs.Laws.{font-whole, word-of-small}
 use Rattle.video.specs.declared.Scene.{Scene}
 use Rattle.video.specs.declared.Look.{Look}
 use Rattle.video.specs.Scene.{sceneOf, cursorAt}
 use Rattle.video.specs.Look.{blankLook, lookOf}
-use Rattle.video.specs.Cell.{shadeOf, litBits, cellDots}
-use Rattle.video.specs.At.{lentRefused, shownCode, scanDots, dotsAt}
+use Rattle.video.specs.Cell.{shadeOf, litBits, cellDots, columnOf}
+use Rattle.video.specs.Twice.{column-plain}
+use Rattle.video.specs.At.{lentRefused, readingOf, countedByte, shownCode, scanDots, dotsAt}
+use Rattle.dots.specs.Half.{halfBy, half-column}
 use Rattle.dots.specs.Width.{length-cell}
 use Rattle.place.specs.declared.Carried.{Carried}
 use Rattle.place.specs.Place.{activeAt, loadedIn, movedIn, turnedIn}
@@ -36,7 +40,7 @@ use Rattle.place.specs.Laws.{one-clock, loaded-lt}
 use Rattle.step.specs.declared.Signals.{Signals}
 use Rattle.step.specs.declared.Stepped.{Stepped}
 use Rattle.step.specs.declared.Clock.{Clock}
-use Rattle.step.specs.Signals.{scanIn, signalsOf, padded, clockDots}
+use Rattle.step.specs.Signals.{scanIn, oddIn, signalsOf, padded, clockDots}
 use Rattle.step.specs.Step.{steppedOf, stepCheck, noSignals, stepRefused, stepOf, clockIn, Fit}
 
 -- ---- dots
@@ -73,6 +77,35 @@ pub padded-cell : (d : ℕ) (out : List ℕ) (k l : Look) (w v : ℕ) → d ≤ 
     → out ≡ padded (cellDots l v d) d
 padded-cell d out k l w v h e p q = over-zeros d out (cellDots l v d) h (rw (p, q) at e)
 
+-- they are twelve
+pub cell-places : (k : Look) (f : Font) (code scan d : ℕ) → d ≤ 12 → (cell : List ℕ) → cell ≡ padded (cellDots k (wordOf f code scan) d) d → length cell ≡ 12
+cell-places k f code scan d most cell e =
+    let dots = cellDots k (wordOf f code scan) d in
+    let n = length-cell k (wordOf f code scan) d (word-of-small f code scan) most in
+    rw e (length-append dots (replicate (12 - d) 0) ∙ rw (n, length-replicate {A = ℕ} (12 - d) 0) (omega (arith, most)))
+
+-- what the code makes of a cell's twelve dot places
+unfoldable pub columnPut : Board → (row : ℕ) → (cell : List ℕ) → List ℕ
+columnPut b k cell =
+    pick (isWide (codeOf k))
+    (tab (b .page .video .dots .0) (halfBy cell (pick (oddIn b) (b .page .video .dots .0) 0)) ++ drop (b .page .video .dots .0) (replicate 12 0))
+    cell
+
+-- is what its column shows
+column-put : (b : Board) (row : ℕ) (dots : List ℕ) → b .page .video .dots .0 ≤ 12 → length dots ≡ b .page .video .dots .0
+    → (cell : List ℕ) → cell ≡ padded dots (b .page .video .dots .0) → columnPut b row cell ≡ padded (columnOf (isWide (codeOf row)) (oddIn b) dots) (b .page .video .dots .0)
+unfolding columnPut
+column-put b row dots most n cell e = go (isWide (codeOf row))
+  where
+    d : ℕ
+    d = b .page .video .dots .0
+
+    go : (t : Bool) → pick t (tab d (halfBy cell (pick (oddIn b) d 0)) ++ drop d (replicate 12 0)) cell ≡ padded (columnOf t (oddIn b) dots) d
+    go true =
+        let half : tab d (halfBy cell (pick (oddIn b) d 0)) ≡ columnOf true (oddIn b) dots = rw e (half-column (oddIn b) dots (replicate (12 - d) 0) d n) in
+        ap (λ (l : List ℕ). l ++ drop d (replicate 12 0)) half ∙ ap (λ (l : List ℕ). columnOf true (oddIn b) dots ++ l) (rest-zero d 12 most)
+    go false = e ∙ ap (λ (l : List ℕ). padded l d) (sym (column-plain (oddIn b) dots))
+
 -- ---- the step
 
 pub in-frame : (b : Board) → InRange b → (b .place .line .0 < 8192) × (b .place .clock .0 < 384)
@@ -95,21 +128,26 @@ module _ (b : Board) (chars attrs : List ℕ) (f : Font) where
   pub address-lt : Fit b chars attrs f → (c : Carried) → c ≡ loadedIn (b .page) chars (b .place) → c .beam .address < 16384
   address-lt k c e = rw e (loaded-lt (b .page) chars (k .page) (b .place) (k .state .beam-le) (k .state .row-le))
 
-  module _ (scene : Scene) (e : scene ≡ sceneOf b (scanIn b) (b .place .field)) (held a : ℕ) (r : List ℕ) where
-    pub dots-active : activeAt (b .page) (b .place) ≡ true
-        → (valid : ℕ) → valid ≡ latched (getD attrs a 0) held → (code : ℕ) → code ≡ shownCode (settersHidden (b .page)) (getD chars a 0) (getD attrs a 0)
-        → r ≡ padded (cellDots (lookOf scene valid (cursorAt scene a)) (wordOf f code (scanIn b)) (b .page .video .dots .0)) (b .page .video .dots .0)
-        → r ≡ clockDots b chars attrs f held a
+  module _ (row : ℕ) (scene : Scene) (e : scene ≡ sceneOf b (scanIn b row) (b .place .field)) (held a : ℕ) (r : List ℕ) where
+    pub dots-active : activeAt (b .page) (b .place) ≡ true → b .page .video .dots .0 ≤ 12
+        → (byte : ℕ) → byte ≡ countedByte (readingOf (b .page)) (againAt (codeOf row) (b .place .clock .0)) (getD attrs a 0)
+        → (valid : ℕ) → valid ≡ latched byte held → (code : ℕ) → code ≡ shownCode (settersHidden (b .page)) (getD chars a 0) (getD attrs a 0)
+        → (cell : List ℕ) → cell ≡ padded (cellDots (lookOf scene valid (cursorAt scene a)) (wordOf f code (scanIn b row)) (b .page .video .dots .0)) (b .page .video .dots .0)
+        → r ≡ columnPut b row cell
+        → r ≡ clockDots b chars attrs f row held a
     unfolding clockDots dotsAt scanDots sceneOf
-    dots-active t valid ev code ec q = rw t (rw (e, ev, ec) at q)
+    dots-active t most byte eb valid ev code ec cell q z =
+        let d = b .page .video .dots .0 in
+        let dots = cellDots (lookOf scene valid (cursorAt scene a)) (wordOf f code (scanIn b row)) d in
+        rw t (rw (e, ev, eb, ec) at (z ∙ column-put b row dots most (length-cell _ _ d (word-of-small f code (scanIn b row)) most) cell q))
 
-    pub dots-blank : activeAt (b .page) (b .place) ≡ false → r ≡ padded (replicate (b .page .video .dots .0) (scene .blank)) (b .page .video .dots .0) → r ≡ clockDots b chars attrs f held a
+    pub dots-blank : activeAt (b .page) (b .place) ≡ false → r ≡ padded (replicate (b .page .video .dots .0) (scene .blank)) (b .page .video .dots .0) → r ≡ clockDots b chars attrs f row held a
     unfolding clockDots
     dots-blank t q = rw t (rw e at q)
 
   -- the parts of a clock put together
   pub clocked : (c : Carried) → c ≡ loadedIn (b .page) chars (b .place) → (q : Place) → q ≡ turnedIn (b .page) (b .place) (movedIn (b .page) attrs (b .place) c)
-      → (s : Signals) → s ≡ signalsOf b (c .beam .address) → (d : List ℕ) → d ≡ clockDots b chars attrs f (c .beam .latch) (c .beam .address)
+      → (s : Signals) → s ≡ signalsOf b (c .beam .code) (c .beam .address) → (d : List ℕ) → d ≡ clockDots b chars attrs f (c .beam .code) (c .beam .latch) (c .beam .address)
       → _≡_ {A = Clock} (record { signals = s; address = c .beam .address; dots = d; place = q }) (clockIn (steppedOf b chars attrs f))
   unfolding steppedOf
   clocked c ec q eq s es d ed = rw (eq, es, ed, ec, one-clock (b .page) chars attrs (b .place))

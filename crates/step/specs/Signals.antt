@@ -2,20 +2,23 @@
 use Prim.Native.Nat.{ℕ, _+_, _-_, _/_, _%_}
 use mathlib.Core.Bool.{Bool, _&&_, _||_, not}
 use mathlib.Core.List.{List, _++_}
+use lib.Dec.{eqb}
 use lib.ListN.{replicate}
 use Rattle.lists.specs.Choice.{pick}
 use Rattle.units.specs.Units.{during}
+use Rattle.raster.specs.Wide.{codeOf, isWide, againAt}
 use Rattle.board.specs.declared.Board.{Board}
-use Rattle.timing.specs.Fields.{ir, linesOf, hactOf, hfpOf, hsyncOf, vfpOf, vsyncOf, visibleOf, blinkOf}
+use Rattle.timing.specs.Fields.{ir, hactOf, hfpOf, hsyncOf, vfpOf, vsyncOf, visibleOf, blinkOf}
 use Rattle.shape.specs.Font.{Font}
 use Rattle.video.specs.Scene.{displayed, blinkAt, sceneOf, cursorAt}
-use Rattle.video.specs.At.{scanOf, dotsAt}
+use Rattle.video.specs.Cell.{columnOf}
+use Rattle.video.specs.At.{scanAt, dotsAt}
 use Rattle.place.specs.Place.{activeAt}
 use Rattle.step.specs.declared.Signals.{Signals}
 
--- the scan line of the place
-abbrev pub scanIn : Board → ℕ
-scanIn b = scanOf (b .place .line .0 % linesOf (b .page .irs))
+-- the scan line of the place, in a row with this code
+abbrev pub scanIn : Board → (row : ℕ) → ℕ
+scanIn b k = scanAt (b .page .irs) (codeOf k) (b .place .line .0)
 
 -- a line runs active, front porch, sync, back porch; a frame likewise in lines
 abbrev pub hsyncIn : Board → Bool
@@ -24,12 +27,12 @@ hsyncIn b = during (hactOf (b .page .irs) + hfpOf (b .page .irs)) (hsyncOf (b .p
 abbrev pub vsyncIn : Board → Bool
 vsyncIn b = during (visibleOf (b .page .irs) .0 + vfpOf (b .page .irs)) (vsyncOf (ir (b .page .irs) 7 / 64 % 4)) (b .place .line .0)
 
-unfoldable pub signalsOf : Board → (address : ℕ) → Signals
-signalsOf b address = record {
+unfoldable pub signalsOf : Board → (row address : ℕ) → Signals
+signalsOf b k address = record {
   hsync = hsyncIn b;
   vsync = vsyncIn b;
   blank = not (activeAt (b .page) (b .place)) || not (displayed b);
-  cursor = activeAt (b .page) (b .place) && cursorAt (sceneOf b (scanIn b) (b .place .field)) address;
+  cursor = activeAt (b .page) (b .place) && cursorAt (sceneOf b (scanIn b k) (b .place .field)) address;
   blink = blinkAt (blinkOf (b .page .irs)) (b .place .field);
 }
 
@@ -37,11 +40,15 @@ signalsOf b address = record {
 abbrev pub padded : List ℕ → ℕ → List ℕ
 padded dots d = dots ++ replicate (12 - d) 0
 
--- the cell's dots on an active clock, where held is valid before it; the blank level off the active clocks
-unfoldable pub clockDots : Board → (chars attrs : List ℕ) → Font → (held address : ℕ) → List ℕ
-clockDots b chars attrs f held address =
+-- an odd column
+abbrev pub oddIn : Board → Bool
+oddIn b = eqb (b .place .clock .0 % 2) 1
+
+-- the column's dots on an active clock of a row with this code, where held is valid before it; the blank level off the active clocks
+unfoldable pub clockDots : Board → (chars attrs : List ℕ) → Font → (row held address : ℕ) → List ℕ
+clockDots b chars attrs f k held address =
     padded
     (pick (activeAt (b .page) (b .place))
-    (dotsAt b chars attrs f (scanIn b) (b .place .field) held address)
-    (replicate (b .page .video .dots .0) (sceneOf b (scanIn b) (b .place .field) .blank)))
+    (columnOf (isWide (codeOf k)) (oddIn b) (dotsAt b chars attrs f (scanIn b k) (b .place .field) (againAt (codeOf k) (b .place .clock .0)) held address))
+    (replicate (b .page .video .dots .0) (sceneOf b (scanIn b k) (b .place .field) .blank)))
     (b .page .video .dots .0)

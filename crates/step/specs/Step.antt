@@ -24,17 +24,21 @@ use Rattle.step.specs.Signals.{signalsOf, clockDots}
 abbrev pub addressOf : Board → (chars : List ℕ) → ℕ
 addressOf b chars = loadedIn (b .page) chars (b .place) .beam .address
 
--- what is valid before the cell there
+-- what is valid before the column
 abbrev pub heldOf : Board → (chars : List ℕ) → ℕ
 heldOf b chars = loadedIn (b .page) chars (b .place) .beam .latch
+
+-- the code of the row
+abbrev pub codeIn : Board → (chars : List ℕ) → ℕ
+codeIn b chars = loadedIn (b .page) chars (b .place) .beam .code
 
 -- a clock's signals, address and dots, and the board for the next clock
 unfoldable pub steppedOf : Board → (chars attrs : List ℕ) → Font → Stepped
 steppedOf b chars attrs f = record {
   refusal = Done;
-  signals = signalsOf b (addressOf b chars);
+  signals = signalsOf b (codeIn b chars) (addressOf b chars);
   address = addressOf b chars;
-  dots = clockDots b chars attrs f (heldOf b chars) (addressOf b chars);
+  dots = clockDots b chars attrs f (codeIn b chars) (heldOf b chars) (addressOf b chars);
   board = withPlace b (nextPlace (b .page) chars attrs (b .place));
 }
 

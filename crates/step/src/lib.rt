@@ -1,15 +1,17 @@
 // One clock of the board: its signals, address and dots, and the board for the next clock.
 ghost use mathlib.Core.Path.{_≡_};
 ghost use Prim.Native.Nat.{_≤_, _<_};
-ghost use lib.ListN.{replicate};
+ghost use lib.ListN.{length, replicate};
 ghost use Rattle.units.specs.Units.{lines};
 ghost use Rattle.shape.specs.Font.{Whole, fontNow, lentFont, wordOf};
 ghost use Rattle.video.specs.Scene.{sceneOf, cursorAt};
 ghost use Rattle.video.specs.Look.{lookOf};
 ghost use Rattle.video.specs.Cell.{cellDots};
 ghost use Rattle.place.specs.Place.{activeAt};
+ghost use Rattle.lists.specs.Choice.{pick};
 ghost use Rattle.step.specs.Signals.{scanIn, hsyncIn, vsyncIn, signalsOf, padded, clockDots};
 ghost use Rattle.step.specs.Step.{Fit, steppedOf, stepCheck, stepOf, clockIn};
+ghost use Rattle.step.specs.Laws.{columnPut};
 
 pub struct Signals {
     pub hsync: bool,
@@ -28,12 +30,12 @@ pub struct Stepped {
     pub board: board::Board,
 }
 
-// The scan line of the place.
-fn scan_in(b: board::Board) -> units::Lines
-    ensures { λ r. ⌜ r ≡ lines (scanIn b) ⌝ }
+// The scan line of the place, in a row with this code.
+fn scan_in(b: board::Board, row: u8) -> units::Lines
+    ensures { λ r. ⌜ r ≡ lines (scanIn b row) ⌝ }
 {
     let irs = b.page.irs;
-    timing::line_of_row(irs, b.place.line)
+    video::scan_at(irs, raster::code_of(row), b.place.line)
 }
 
 fn hsync_in(b: board::Board) -> bool
@@ -53,9 +55,15 @@ fn vsync_in(b: board::Board) -> bool
     b.place.line.during(first, t.vsync)
 }
 
-fn signals_of(b: board::Board, scene: video::Scene, active: bool, address: usize) -> Signals
-    requires { ⌜ (scene ≡ sceneOf b (scanIn b) (b .place .field)) × (active ≡ activeAt (b .page) (b .place)) ⌝ }
-    ensures { λ r. ⌜ r ≡ signalsOf b address ⌝ }
+fn signals_of(
+    b: board::Board,
+    row: u8,
+    scene: video::Scene,
+    active: bool,
+    address: usize,
+) -> Signals
+    requires { ⌜ (scene ≡ sceneOf b (scanIn b row) (b .place .field)) × (active ≡ activeAt (b .page) (b .place)) ⌝ }
+    ensures { λ r. ⌜ r ≡ signalsOf b row address ⌝ }
 {
     Signals {
         hsync: hsync_in(b),
@@ -66,9 +74,10 @@ fn signals_of(b: board::Board, scene: video::Scene, active: bool, address: usize
     }
 }
 
-// The twelve dot places of an active clock, from the code that is shown and the attributes that are valid.
+// A cell's dots in twelve places, from the code that is shown and the attributes that are valid.
 fn shown_dots(
     b: board::Board,
+    row: u8,
     scene: video::Scene,
     code: u8,
     attributes: u8,
@@ -82,13 +91,13 @@ fn shown_dots(
     requires { ⌜ (6 ≤ b .page .video .dots .0) × (b .page .video .dots .0 ≤ 12) ⌝ }
     ensures { λ r. ⌜ r ≡ padded
         (cellDots (lookOf scene attributes (cursorAt scene address))
-        (wordOf (lentFont words flags unshifted shifted) code (scanIn b)) (b .page .video .dots .0))
+        (wordOf (lentFont words flags unshifted shifted) code (scanIn b row)) (b .page .video .dots .0))
         (b .page .video .dots .0) ⌝ }
 {
     let mut out = [0u8; 12];
     let cursor = video::cursor_at(scene, address);
     let look = video::look_of(scene, attributes, cursor);
-    let word = shape::word_of(code, scan_in(b), words, flags, unshifted, shifted);
+    let word = shape::word_of(code, scan_in(b, row), words, flags, unshifted, shifted);
     dots::draw_cell(&mut out, look, word, b.page.video.dots);
     out
 }
@@ -109,10 +118,32 @@ fn blank_dots(b: board::Board, level: u8) -> [u8; 12]
 }
 
 // The scene of the place's scan line.
-fn scene_in(b: board::Board) -> video::Scene
-    ensures { λ r. ⌜ r ≡ sceneOf b (scanIn b) (b .place .field) ⌝ }
+fn scene_in(b: board::Board, row: u8) -> video::Scene
+    ensures { λ r. ⌜ r ≡ sceneOf b (scanIn b row) (b .place .field) ⌝ }
 {
-    video::scene_of(b, scan_in(b), b.place.field)
+    video::scene_of(b, scan_in(b, row), b.place.field)
+}
+
+// Where a column's dots begin among the cell's, each twice.
+fn half_from(odd: bool, d: usize) -> usize
+    ensures { λ r. ⌜ r ≡ pick odd d 0 ⌝ }
+{
+    if odd { d } else { 0 }
+}
+
+// What a column of a row with this code shows of a cell's twelve dot places.
+fn column_dots(b: board::Board, row: u8, cell: [u8; 12]) -> [u8; 12]
+    requires { ⌜ (b .page .video .dots .0 ≤ 12) × (length cell ≡ 12) ⌝ }
+    ensures { λ r. ⌜ r ≡ columnPut b row cell ⌝ }
+{
+    if raster::is_wide(raster::code_of(row)) {
+        let mut out = [0u8; 12];
+        let d = b.page.video.dots.0 as usize;
+        let from = half_from(b.place.clock.0 % 2 == 1, d);
+        dots::halve(&mut out, &cell, from, d);
+        return out;
+    }
+    cell
 }
 
 // The twelve dot places of a clock that fetches or holds an address, where held is valid before its cell.
@@ -126,21 +157,25 @@ fn clock_dots(
     flags: &[u8],
     unshifted: &[u8],
     shifted: &[u8],
+    row: u8,
     held: u8,
     address: usize,
 ) -> [u8; 12]
     requires { ⌜ Fit b (now chars) (now attrs) (fontNow words flags unshifted shifted) ⌝ }
-    requires { ⌜ (scene ≡ sceneOf b (scanIn b) (b .place .field)) × (active ≡ activeAt (b .page) (b .place)) × (address < 16384) ⌝ }
-    ensures { λ r. ⌜ r ≡ clockDots b (now (chars .entry)) (now (attrs .entry)) (lentFont words flags unshifted shifted) held address ⌝ }
+    requires { ⌜ (scene ≡ sceneOf b (scanIn b row) (b .place .field)) × (active ≡ activeAt (b .page) (b .place)) × (address < 16384) ⌝ }
+    ensures { λ r. ⌜ r ≡ clockDots b (now (chars .entry)) (now (attrs .entry)) (lentFont words flags unshifted shifted) row held address ⌝ }
 {
     if active {
         let page = b.page;
         let byte = attrs[address];
-        let valid = raster::latched(byte, held);
+        let again = raster::again_at(raster::code_of(row), b.place.clock.0);
+        let counted = video::counted_byte(video::reading_of(page), again, byte);
+        let valid = raster::latched(counted, held);
         let hidden = board::setters_hidden(page);
         let code = video::shown_code(hidden, chars[address], byte);
-        return shown_dots(
+        let cell = shown_dots(
             b,
+            row,
             scene,
             code,
             valid,
@@ -150,6 +185,7 @@ fn clock_dots(
             unshifted,
             shifted,
         );
+        return column_dots(b, row, cell);
     }
     blank_dots(b, scene.blank)
 }
@@ -179,7 +215,8 @@ fn one_clock(
     let place = b.place;
     let c = place::loaded_at(page, chars, place);
     let next = place::place_after(page, attrs, place, c);
-    let scene = scene_in(b);
+    let row = c.beam.code;
+    let scene = scene_in(b, row);
     let active = place::active_at(page, place);
     let address = c.beam.address as usize;
     let dots = clock_dots(
@@ -192,11 +229,12 @@ fn one_clock(
         flags,
         unshifted,
         shifted,
+        row,
         c.beam.latch,
         address,
     );
     Clock {
-        signals: signals_of(b, scene, active, address),
+        signals: signals_of(b, row, scene, active, address),
         address: c.beam.address,
         dots: dots,
         place: next,

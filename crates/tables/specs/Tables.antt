@@ -1,6 +1,6 @@
 -- A row's cells as numbers, and the tables by mark and by code. Assumes nothing.
 use Prim.Native.Nat.{ℕ, _+_, _-_, _*_, _/_, _%_, _^_}
-use mathlib.Core.Bool.{Bool, _&&_}
+use mathlib.Core.Bool.{Bool, false, _&&_}
 use mathlib.Core.List.{List, _++_}
 use lib.Dec.{eqb, ltb}
 use lib.ListN.{drop}
@@ -36,7 +36,7 @@ heldBy runs attrs buffer held start c = lastSet (λ i. setsOf runs attrs (advanc
 
 -- that cell
 unfoldable pub cellBy : Reading → (chars attrs : List ℕ) → Buffer → (held start c : ℕ) → ℕ
-cellBy k chars attrs buffer held start c = numberFor (contentAt k chars attrs (heldBy (k .runs) attrs buffer held start c) (advanceBy buffer c start))
+cellBy k chars attrs buffer held start c = numberFor (contentAt k chars attrs false (heldBy (k .runs) attrs buffer held start c) (advanceBy buffer c start))
 
 -- a look's two levels as one number
 abbrev pub levelsBy : Look → ℕ

@@ -1,6 +1,6 @@
 -- The page check of 01, and the size of an accepted page's picture.
 use Prim.Native.Nat.{ℕ, _+_, _-_, _/_, _%_}
-use mathlib.Core.Bool.{Bool, _||_, not}
+use mathlib.Core.Bool.{Bool, _&&_, _||_, not}
 use mathlib.Core.List.{List, [], _∷_}
 use lib.Dec.{eqb, ltb, leb}
 use Rattle.lists.specs.Choice.{pick, firstOf}
@@ -15,11 +15,11 @@ use Rattle.board.specs.declared.Page.{Page}
 use Rattle.board.specs.declared.Board.{Board}
 use Rattle.board.specs.Range.{addressRefused, cellsRefused, pointerRefused}
 use Rattle.timing.specs.declared.PageSize.{PageSize}
-use Rattle.timing.specs.Fields.{ir, restOf, hfpOf, hactOf, htOf, vtOf, visibleOf}
+use Rattle.timing.specs.Fields.{ir, codedOf, tableOf, restOf, hfpOf, hactOf, htOf, vtOf, visibleOf}
 
--- 4: IR0[7] or IR1[7] set
+-- 4: interlace (IR1[7]), or IR0[7] without the row table
 abbrev pub reservedRefused : List ℕ → Bool
-reservedRefused irs = eqb (ir irs 0 / 128 % 2) 1 || eqb (ir irs 1 / 128 % 2) 1
+reservedRefused irs = eqb (ir irs 1 / 128 % 2) 1 || (codedOf irs && not (tableOf irs))
 
 -- 13: HBP code 0
 abbrev pub backPorchRefused : List ℕ → Bool

@@ -16,6 +16,10 @@ use Rattle.timing.specs.declared.CursorLook.{CursorLook}
 abbrev pub ir : List ℕ → ℕ → ℕ
 ir irs n = getD irs n 0
 
+-- IR0[7]: the row table's entries have codes (02, R-4)
+abbrev pub codedOf : List ℕ → Bool
+codedOf irs = eqb (ir irs 0 / 128 % 2) 1
+
 -- IR0[6:3]: scan lines per row
 abbrev pub linesOf : List ℕ → ℕ
 linesOf irs = ir irs 0 / 8 % 16 + 1

@@ -1,7 +1,7 @@
 -- What callers use of the definitions: bounds that hold of any registers, and what an accepted page gives. Assumes nothing.
 use Prim.Native.Nat.{ℕ, _*_, _/_, _%_, _≤_, _<_}
 use mathlib.Core.Path.{_≡_, refl}
-use mathlib.Core.Bool.{Bool, true, false, _||_}
+use mathlib.Core.Bool.{Bool, true, false, not, _&&_, _||_, true≢false}
 use mathlib.Core.List.{List}
 use native.Mathlib.Nat.{mul-le-mul}
 use native.Mathlib.Omega.{arith}
@@ -19,7 +19,7 @@ use Rattle.raster.specs.Raster.{Good}
 use Rattle.board.specs.declared.Page.{Page}
 use Rattle.board.specs.declared.Board.{Board}
 use Rattle.board.specs.Range.{startsRefused, switchesRefused, addressRefused, cellsRefused, pointerRefused}
-use Rattle.timing.specs.Fields.{ir, linesOf, rowsOf, hactOf, htOf, hfpOf, vsyncOf, vtOf, bufferOf, countsOf}
+use Rattle.timing.specs.Fields.{ir, codedOf, linesOf, tableOf, rowsOf, hactOf, htOf, hfpOf, vsyncOf, vtOf, bufferOf, countsOf}
 use Rattle.timing.specs.Check.{reservedRefused, backPorchRefused, lineShort, frontPorchRefused, missing, widthRefused, pageCheck, sized, sizeOf, stateRefused, callCheck}
 
 -- ---- any registers
@@ -58,12 +58,17 @@ pub record Accepted (p : Page) : Type 0 where
   pub start2 : p .starts .start2 ≤ 16383
   pub switches : p .switches ≤ 63
   pub strike : p .video .strike ≤ 15
-  pub plain : ir (p .irs) 0 / 128 % 2 ≡ 1 → ⊥
   pub straight : ir (p .irs) 1 / 128 % 2 ≡ 1 → ⊥
+  pub coded : tableOf (p .irs) ≡ false → codedOf (p .irs) ≡ false
   pub hbp : ir (p .irs) 2 % 8 ≡ 0 → ⊥
   pub hfp : 2 ≤ hfpOf (p .irs)
   pub least : 6 ≤ p .video .dots .0
   pub most : p .video .dots .0 ≤ 12
+
+no-code : (c t : Bool) → (c && not t) ≡ false → t ≡ false → c ≡ false
+no-code c true e off = absurd (true≢false off)
+no-code true false e off = e
+no-code false false e off = refl
 
 pub accepted : (p : Page) → pageCheck p ≡ Done → Accepted p
 unfolding pageCheck addressRefused
@@ -82,7 +87,7 @@ accepted p e =
     let a3 = neither (startsRefused s) known (a4 .0) in
     let a2 = neither (ltb 16383 (s .start1) || ltb 16383 (s .cursor)) (ltb 16383 (s .start2)) (a3 .0) in
     let a1 = neither (ltb 16383 (s .start1)) (ltb 16383 (s .cursor)) (a2 .0) in
-    let b1 = neither (eqb (ir irs 0 / 128 % 2) 1) (eqb (ir irs 1 / 128 % 2) 1) (b .0) in
+    let b1 = neither (eqb (ir irs 1 / 128 % 2) 1) (codedOf irs && not (tableOf irs)) (b .0) in
     let w1 = neither (ltb d 6) (ltb 12 d) (w .0) in
     record {
       start1 = ltb-false _ _ (a1 .0);
@@ -90,8 +95,8 @@ accepted p e =
       start2 = ltb-false _ _ (a2 .1);
       switches = ltb-false _ _ (neither (ltb 63 (p .switches)) _ (a3 .1) .0);
       strike = ltb-false _ _ (a4 .1);
-      plain = eqb-false _ _ (b1 .0);
-      straight = eqb-false _ _ (b1 .1);
+      straight = eqb-false _ _ (b1 .0);
+      coded = λ off. no-code (codedOf irs) (tableOf irs) (b1 .1) off;
       hbp = eqb-false _ _ (c .0);
       hfp = ltb-false _ _ (f .0);
       least = ltb-false _ _ (w1 .0);

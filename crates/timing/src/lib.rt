@@ -5,7 +5,7 @@ ghost use Prim.Native.Nat.{_/_, _%_};
 ghost use Rattle.lists.specs.Choice.{firstOf};
 ghost use Rattle.units.specs.Units.{clocks, lines};
 ghost use Rattle.refusal.specs.declared.Refusal.{Refusal};
-ghost use Rattle.timing.specs.Fields.{ir, linesOf, ecOf, tableOf, hsyncOf, hbpOf, vfpOf, vbpOf, blinkOf, rowsOf, hactOf, cursorOf, vsyncOf, underlineOf, bufferOf, htOf, restOf, hfpOf, visibleOf, vtOf, countsOf, timingOf};
+ghost use Rattle.timing.specs.Fields.{ir, codedOf, linesOf, ecOf, tableOf, hsyncOf, hbpOf, vfpOf, vbpOf, blinkOf, rowsOf, hactOf, cursorOf, vsyncOf, underlineOf, bufferOf, htOf, restOf, hfpOf, visibleOf, vtOf, countsOf, timingOf};
 ghost use Rattle.timing.specs.Check.{reservedRefused, backPorchRefused, lineShort, frontPorchRefused, missing, widthRefused, pageCheck, sizeOf, stateRefused, callCheck};
 
 // A line's and a frame's front porch and sync, and the counts that the beam goes by.
@@ -175,6 +175,13 @@ pub fn buffer_of(irs: [u8; 15]) -> raster::Buffer
     }
 }
 
+// Whether the row table's entries have codes.
+pub fn coded_of(irs: [u8; 15]) -> bool
+    ensures { λ r. ⌜ r ≡ codedOf irs ⌝ }
+{
+    irs[0] / 128 % 2 == 1
+}
+
 pub fn table_of(irs: [u8; 15]) -> bool
     ensures { λ r. ⌜ r ≡ tableOf irs ⌝ }
 {
@@ -204,11 +211,11 @@ pub fn blink_of(irs: [u8; 15]) -> u32
     64 * (irs[4] as u32 / 128 % 2 + 1)
 }
 
-// 4: doubled rows or interlace.
+// 4: interlace, or codes without the row table.
 fn reserved_refused(irs: [u8; 15]) -> bool
     ensures { λ r. ⌜ r ≡ reservedRefused irs ⌝ }
 {
-    (irs[0] / 128 % 2 == 1) | (irs[1] / 128 % 2 == 1)
+    (irs[1] / 128 % 2 == 1) | (coded_of(irs) & !table_of(irs))
 }
 
 // 13: HBP code 0.

@@ -1,15 +1,18 @@
 -- 01, "From cell to dots": the cell at an address, from the memories, the font and the scan line.
-use Prim.Native.Nat.{ℕ}
+use Prim.Native.Nat.{ℕ, _+_, _/_, _%_}
 use mathlib.Core.Bool.{Bool, _&&_, _||_}
 use mathlib.Core.List.{List}
 use lib.ListN.{length, getD}
 use lib.Dec.{eqb, leb}
 use Rattle.lists.specs.Choice.{pick}
+use Rattle.raster.specs.declared.Code.{Code}
+use Rattle.raster.specs.Wide.{isTop, isBottom}
 use Rattle.raster.specs.Latch.{latched}
 use Rattle.board.specs.declared.Page.{Page}
 use Rattle.board.specs.declared.Board.{Board}
 use Rattle.board.specs.Modes.{fieldMode, settersHidden}
 use Rattle.board.specs.Range.{memoriesRefused}
+use Rattle.timing.specs.Fields.{linesOf}
 use Rattle.shape.specs.Font.{Font, fontRefused, wordOf}
 use Rattle.video.specs.declared.Reading.{Reading}
 use Rattle.video.specs.Scene.{sceneOf}
@@ -20,9 +23,13 @@ use Rattle.video.specs.Cell.{cellDots}
 abbrev pub lentRefused : (chars attrs : List ℕ) → Font → Bool
 lentRefused chars attrs f = memoriesRefused (length chars) (length attrs) || fontRefused f
 
--- the scan line that line l of a row shows
-abbrev pub scanOf : ℕ → ℕ
-scanOf l = l
+-- the scan line that line l of a row of L lines shows: a top half has each of the upper scan lines twice, a bottom half each of the lower ones (02, R-4)
+abbrev pub scanOf : Code → (L l : ℕ) → ℕ
+scanOf k L l = pick (isTop k) (l / 2) (pick (isBottom k) ((L + l) / 2) l)
+
+-- the scan line that a visible line shows, in a row with this code
+abbrev pub scanAt : (irs : List ℕ) → Code → (line : ℕ) → ℕ
+scanAt irs k line = scanOf k (linesOf irs) (line % linesOf irs)
 
 -- what a cell is: its code, its attributes, and whether the cursor's address is its own
 pub record Content : Type 0 where
@@ -38,11 +45,15 @@ readingOf p = record { cursor = p .starts .cursor; runs = fieldMode p; hidden = 
 abbrev pub shownCode : (hidden : Bool) → (code byte : ℕ) → ℕ
 shownCode hidden code byte = pick (hidden && leb 128 byte) 0 code
 
--- the cell at an address, where held is valid before it: nothing, in character mode
-abbrev pub contentAt : Reading → (chars attrs : List ℕ) → (held address : ℕ) → Content
-contentAt k chars attrs held a = record {
+-- what a cell's attribute byte sets at a column: in field mode nothing where the column shows a cell again, since the cell is latched by then
+abbrev pub countedByte : Reading → (again : Bool) → (byte : ℕ) → ℕ
+countedByte k again byte = pick (again && k .runs) 0 byte
+
+-- the cell at an address, where held is valid before the column: nothing, in character mode
+abbrev pub contentAt : Reading → (chars attrs : List ℕ) → (again : Bool) → (held address : ℕ) → Content
+contentAt k chars attrs again held a = record {
   code = shownCode (k .hidden) (getD chars a 0) (getD attrs a 0);
-  attributes = latched (getD attrs a 0) held;
+  attributes = latched (countedByte k again (getD attrs a 0)) held;
   here = eqb a (k .cursor);
 }
 
@@ -54,6 +65,6 @@ scanDots b f scan field k =
     (wordOf f (k .code) scan)
     (b .page .video .dots .0)
 
--- the dots of the cell at an address, on a scan line of a field, where held is valid before it
-unfoldable pub dotsAt : Board → (chars attrs : List ℕ) → Font → (scan field held address : ℕ) → List ℕ
-dotsAt b chars attrs f scan field held a = scanDots b f scan field (contentAt (readingOf (b .page)) chars attrs held a)
+-- the dots of the cell at an address, on a scan line of a field, at a column before which held is valid
+unfoldable pub dotsAt : Board → (chars attrs : List ℕ) → Font → (scan field : ℕ) → (again : Bool) → (held address : ℕ) → List ℕ
+dotsAt b chars attrs f scan field again held a = scanDots b f scan field (contentAt (readingOf (b .page)) chars attrs again held a)

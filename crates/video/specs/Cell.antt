@@ -2,7 +2,7 @@
 use Prim.Native.Nat.{ℕ, zero, suc, _/_, _%_}
 use mathlib.Core.Bool.{Bool}
 use mathlib.Core.List.{List, [], _∷_, _++_, map}
-use lib.ListN.{take, replicate}
+use lib.ListN.{length, take, drop, replicate}
 use lib.Dec.{eqb, ltb}
 use Rattle.lists.specs.Choice.{pick}
 use Rattle.video.specs.declared.Look.{Look}
@@ -29,3 +29,14 @@ shadeOf symbol surround bit = pick (eqb bit 0) surround symbol
 
 unfoldable pub cellDots : Look → ℕ → ℕ → List ℕ
 cellDots look word d = map (shadeOf (look .symbol) (look .surround)) (litBits (look .lit) word d)
+
+-- ---- double width (02, R-4)
+
+-- each dot comes twice
+unfoldable pub twice : List ℕ → List ℕ
+twice [] = []
+twice (x ∷ xs) = x ∷ x ∷ twice xs
+
+-- what a column shows of its cell's dots: all of them, or of each twice the left half, and on an odd column the right one
+unfoldable pub columnOf : (wide odd : Bool) → List ℕ → List ℕ
+columnOf wide odd dots = pick wide (pick odd (drop (length dots) (twice dots)) (take (length dots) (twice dots))) dots

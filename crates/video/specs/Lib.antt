@@ -4,4 +4,5 @@ pub mod Table
 pub mod Scene
 pub mod Look
 pub mod Cell
+pub mod Twice
 pub mod At

@@ -3,12 +3,13 @@ ghost use mathlib.Core.Path.{_≡_};
 ghost use mathlib.Core.Bool.{xor};
 ghost use Prim.Native.Nat.{_≤_, _<_};
 ghost use Rattle.lists.specs.Choice.{pick, hasBit};
+ghost use Rattle.units.specs.Units.{lines};
 ghost use Rattle.video.specs.Levels.{blankLevel};
 ghost use Rattle.video.specs.Table.{line, ofTwo, ofEight, decided};
 ghost use Rattle.video.specs.Scene.{blinkAt, cursorGate, sceneOf, cursorAt};
 ghost use Rattle.video.specs.Look.{lookOf};
 ghost use Rattle.shape.specs.Font.{lentFont};
-ghost use Rattle.video.specs.At.{lentRefused, readingOf, shownCode};
+ghost use Rattle.video.specs.At.{lentRefused, readingOf, scanOf, scanAt, countedByte, shownCode};
 
 // What is the same for all cells of a scan line: whether the picture is shown, the blank level, BKGND, BLINK, whether this is the
 // underline line and the strike line, whether the cursor gate opens on this line, and at which address.
@@ -235,6 +236,35 @@ pub fn reading_of(p: board::Page) -> Reading
         runs: board::field_mode(p),
         hidden: board::setters_hidden(p),
     }
+}
+
+// The scan line that a line of a row shows, of so many lines.
+pub fn scan_of(k: raster::Code, of: units::Lines, line: units::Lines) -> units::Lines
+    requires { ⌜ (of .0 ≤ 32) × (line .0 ≤ 32) ⌝ }
+    ensures { λ r. ⌜ r ≡ lines (scanOf k (of .0) (line .0)) ⌝ }
+{
+    if raster::is_top(k) {
+        return units::Lines(line.0 / 2);
+    }
+    if raster::is_bottom(k) {
+        return units::Lines((of.0 + line.0) / 2);
+    }
+    line
+}
+
+// The scan line that a visible line shows.
+pub fn scan_at(irs: [u8; 15], k: raster::Code, line: units::Lines) -> units::Lines
+    ensures { λ r. ⌜ r ≡ lines (scanAt irs k (line .0)) ⌝ }
+{
+    let t = timing::timing_of(irs);
+    scan_of(k, t.counts.lines, timing::line_of_row(irs, line))
+}
+
+// What a cell's attribute byte sets at a column, which shows its cell again or fetches it.
+pub fn counted_byte(k: Reading, again: bool, byte: u8) -> u8
+    ensures { λ r. ⌜ r ≡ countedByte k again byte ⌝ }
+{
+    if again & k.runs { 0 } else { byte }
 }
 
 // The code that a cell with this attribute byte is shown as: 0, which has zero dots, where it sets attributes and such cells are hidden.

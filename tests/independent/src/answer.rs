@@ -2,7 +2,7 @@
 
 use std::io::{BufRead, Write};
 
-use crate::board::{Board, Page};
+use crate::board::{Board, Page, Place};
 use crate::calls;
 use crate::files::{page_of_head, page_of_numbers};
 use crate::judge::Refusal;
@@ -50,12 +50,31 @@ impl Handed {
     }
 
     fn page(page: Option<Page>) -> Handed {
-        let mode = match page {
-            None => "-",
-            Some(page) if page.field_mode() => "field",
-            Some(_) => "character",
-        };
-        Handed { power: "-", mode }
+        Handed { power: "-", mode: page.map_or("-", mode) }
+    }
+}
+
+fn mode(page: Page) -> &'static str {
+    match (page.rows_have_codes(), page.row_table_on(), page.field_mode()) {
+        (true, false, _) => "no-table",
+        (true, true, false) => "character+codes",
+        (true, true, true) => "field+codes",
+        (false, _, false) => "character",
+        (false, _, true) => "field",
+    }
+}
+
+/// WHERE a run of steps begins, by the board handed over.
+fn begins(board: &Board) -> &'static str {
+    let (page, place) = (&board.page, &board.place);
+    let wide = page.rows_have_codes() && place.row_code % 4 != 0;
+    match place.clock {
+        clock if place.line >= page.visible_lines() || clock >= page.hact() => "off",
+        0 => "load",
+        _ if !wide => "plain",
+        clock if clock % 2 == 1 => "right",
+        clock if clock + 1 == page.hact() => "last",
+        _ => "left",
     }
 }
 
@@ -82,12 +101,21 @@ struct Desk<'a> {
     every: u32,
 }
 
-/// A run of steps: how many were done, their sum, and the last one's answer.
+/// A run of steps: where it began, how many were done, their sum, and the last one's answer.
 struct Steps {
+    begins: &'static str,
+    code: u8,
     done: u32,
     sum: Sum,
     refusal: Refusal,
     last: Shown,
+}
+
+impl Steps {
+    fn from(board: &Board) -> Steps {
+        let (begins, code) = (begins(board), board.place.row_code);
+        Steps { begins, code, done: 0, sum: Sum::new(), refusal: Refusal::NONE, last: Shown::default() }
+    }
 }
 
 /// What the steps of a frame show on its active clocks, in order.
@@ -95,6 +123,41 @@ struct Frame {
     clocks: u32,
     dots: Vec<u8>,
     addresses: Vec<u16>,
+    counts: Counts,
+}
+
+/// What a frame meets, counted by the code of its rows.
+#[derive(Default)]
+struct Counts {
+    /// The code of each row.
+    codes: Vec<u8>,
+    wrapped: [u32; 4],
+    cursor: [u32; 4],
+    latched: [u32; 4],
+}
+
+impl Counts {
+    /// A step that began at a place of a line that shows a row.
+    fn step(&mut self, lines: u32, before: Place, shown: &Shown, after: Place) {
+        let code = after.row_code % 4;
+        if before.clock == 0 && before.line % lines == 0 {
+            self.codes.push(code);
+        }
+        self.cursor[usize::from(code)] += u32::from(shown.signals.cursor);
+        self.latched[usize::from(code)] += u32::from(before.clock != 0 && before.latch != after.latch);
+    }
+
+    /// A row's cells, some of which may not follow one another.
+    fn row(&mut self, row: u32, cells: &[u16]) {
+        let code = usize::from(self.codes.get(row as usize).copied().unwrap_or(0));
+        self.wrapped[code] += u32::from(cells.windows(2).any(|pair| pair[1] != pair[0] + 1));
+    }
+
+    fn text(&self) -> String {
+        let rows = [0, 1, 2, 3].map(|code| self.codes.iter().filter(|&&one| one == code).count() as u32);
+        let counts = [("rows", rows), ("wrapped", self.wrapped), ("cursor", self.cursor), ("latched", self.latched)];
+        counts.iter().map(|(name, [a, b, c, d])| format!(" {} {} {} {} {}", name, a, b, c, d)).collect()
+    }
 }
 
 impl<'a> Desk<'a> {
@@ -325,13 +388,15 @@ impl<'a> Desk<'a> {
     }
 
     fn report_steps(&mut self, steps: &Steps) -> Result<(), String> {
-        let results = format!("sum {:016x} {} board {}", steps.sum.0, shown_text(&steps.last), board_text(&self.board));
+        let (begins, code, sum) = (steps.begins, steps.code, steps.sum.0);
+        let (shown, board) = (shown_text(&steps.last), board_text(&self.board));
+        let results = format!("from {} {} sum {:016x} {} board {}", begins, code, sum, shown, board);
         let count = if !steps.refusal.refused() { steps.done } else { 1 };
         self.report("step", Handed::board(&self.board), count, steps.refusal, &results, &FONT_AND_MEMORIES)
     }
 
     fn step(&mut self, count: u32) -> Result<(), String> {
-        let mut steps = Steps { done: 0, sum: Sum::new(), refusal: Refusal::NONE, last: Shown::default() };
+        let mut steps = Steps::from(&self.board);
         while steps.done < count && !steps.refusal.refused() {
             self.step_once(&mut steps)?;
         }
@@ -339,25 +404,29 @@ impl<'a> Desk<'a> {
     }
 
     /// A whole frame by steps, by `line_draw` and by `picture_draw`, and all its rows' cells: whether the dots are the same, and
-    /// the cells those that the steps fetched on each line.
+    /// the cells those that the steps fetched on each line; and what it met.
     fn frame(&mut self) -> Result<(), String> {
         let (refusal, lines, width) = self.page_size()?;
         if refusal.refused() {
             return Ok(());
         }
         let field = self.board.place.field;
-        let stepped = self.frame_by_steps(lines, width)?;
+        let mut stepped = self.frame_by_steps(lines, width)?;
         let drawn = self.frame_by_lines(lines, width, field)?;
         let picture = self.frame_as_picture(lines, width, field)?;
-        let cells = self.frame_by_rows(lines)?;
+        let cells = self.frame_by_rows(lines, &mut stepped.counts)?;
         let agree = stepped.dots == drawn && stepped.dots == picture && stepped.addresses == cells;
-        self.say(&format!("frame {} {}", stepped.clocks, if agree { "agree" } else { "differ" }))
+        let agree = if agree { "agree" } else { "differ" };
+        let page = self.board.page;
+        let shape = format!("dots {} columns {} lines {}", page.dots, page.hact(), page.lines_per_row());
+        self.say(&format!("frame {} {} {} {}{}", stepped.clocks, agree, mode(page), shape, stepped.counts.text()))
     }
 
     fn frame_by_steps(&mut self, lines: u32, width: u32) -> Result<Frame, String> {
         let mut picture = vec![0; lines as usize * width as usize];
         let mut addresses = Vec::new();
-        let mut steps = Steps { done: 0, sum: Sum::new(), refusal: Refusal::NONE, last: Shown::default() };
+        let mut counts = Counts::default();
+        let mut steps = Steps::from(&self.board);
         loop {
             let (place, dots) = (self.board.place, self.board.page.dots);
             self.step_once(&mut steps)?;
@@ -368,13 +437,14 @@ impl<'a> Desk<'a> {
                 let at = (place.line * width + place.clock * dots) as usize;
                 picture[at..at + dots as usize].copy_from_slice(&steps.last.dots[..dots as usize]);
                 addresses.push(steps.last.address);
+                counts.step(self.board.page.lines_per_row(), place, &steps.last, self.board.place);
             }
             if (self.board.place.line, self.board.place.clock) == (0, 0) || steps.done == LONGEST_FRAME {
                 break;
             }
         }
         self.report_steps(&steps)?;
-        Ok(Frame { clocks: steps.done, dots: picture, addresses })
+        Ok(Frame { clocks: steps.done, dots: picture, addresses, counts })
     }
 
     fn frame_by_lines(&mut self, lines: u32, width: u32, field: u8) -> Result<Vec<u8>, String> {
@@ -399,10 +469,11 @@ impl<'a> Desk<'a> {
         Ok(self.buffers.out.clone())
     }
 
-    /// The cells of each row, as often as it has lines.
-    fn frame_by_rows(&mut self, lines: u32) -> Result<Vec<u16>, String> {
-        // IR4[6:0] is rows, n+1
+    /// The cells of each row, as often as it has lines; each on one column, or on two where they are half as many.
+    fn frame_by_rows(&mut self, lines: u32, counts: &mut Counts) -> Result<Vec<u16>, String> {
+        // IR4[6:0] is rows, n+1; IR5 is HACT, n+1
         let rows = u32::from(self.buffers.numbers[5] & 0x7F) + 1;
+        let columns = usize::from(self.buffers.numbers[6]) + 1;
         self.buffers.fill("cells", 256, 1)?;
         let (mut found, mut sum) = (Vec::new(), Sum::new());
         let (mut done, mut refusal) = (0, Refusal::NONE);
@@ -412,7 +483,10 @@ impl<'a> Desk<'a> {
             if !refusal.refused() {
                 let row = &self.buffers.cells[..count as usize];
                 row.iter().for_each(|&address| sum.add(u32::from(address)));
-                (0..lines / rows).for_each(|_| found.extend(row));
+                let each = if row.len() == columns { 1 } else { 2 };
+                let shown = || row.iter().flat_map(|&cell| [cell, cell].into_iter().take(each)).take(columns);
+                (0..lines / rows).for_each(|_| found.extend(shown()));
+                counts.row(done, row);
                 done += 1;
             }
         }
@@ -439,4 +513,5 @@ fn add_step(sum: &mut Sum, shown: &Shown, board: &Board) {
     sum.add(u32::from(board.place.latch));
     sum.add(u32::from(board.place.row_start));
     sum.add(u32::from(board.place.row_latch));
+    sum.add(u32::from(board.place.row_code));
 }

@@ -1,4 +1,4 @@
-//! What a board holds (01 "The board that is built", 02 R-1) and what its registers say (01 "Register fields").
+//! What a board holds (01 "The board that is built", 02) and what its registers say (01 "Register fields").
 //! Only 01's table of fields is here; both ways of drawing read it and share nothing else.
 
 pub const MEMORY: usize = 16384;
@@ -30,6 +30,8 @@ pub struct Place {
     pub row_start: u16,
     /// The one that the row began with.
     pub row_latch: u8,
+    /// "the row's code, kept with its row start". Any byte may be handed over; the two low bits count.
+    pub row_code: u8,
 }
 
 #[derive(Clone, Copy, PartialEq, Eq, Debug, Default)]
@@ -87,7 +89,8 @@ impl Page {
         (u32::from(self.irs[number]) >> low) & ((1 << (high - low + 1)) - 1)
     }
 
-    pub fn doubled_rows(&self) -> bool {
+    /// "while IR0[7] is set, the two upper bits of a row table entry are the row's code"
+    pub fn rows_have_codes(&self) -> bool {
         self.ir(0, 7, 7) == 1
     }
     pub fn lines_per_row(&self) -> u32 {

@@ -1,5 +1,5 @@
-//! 01 "Numbers on both sides": cases A1 to A10, A2 as R-2 has it, and the listing, in both ways of this program; and a page
-//! for R-1, drawn by hand.
+//! 01 "Numbers on both sides": cases A1 to A10, A2 as R-2 has it, and the listing, in both ways of this program; and pages
+//! for, drawn by hand.
 
 use crate::board::{Board, Font, Lent, Page};
 use crate::files::{self, numbers_of};
@@ -118,6 +118,7 @@ pub fn all() -> Vec<(&'static str, bool)> {
     cases.extend(dot_cases());
     cases.extend(listing_cases());
     cases.extend(field_cases());
+    cases.extend(code_cases());
     cases
 }
 
@@ -263,6 +264,109 @@ fn field_cases() -> Vec<(&'static str, bool)> {
         ("R-1 character mode, ACD high", is(2, 0x20, character)),
         ("R-1 ACD low", is(2, 0x10, acd_low)),
         ("R-1 ACD high", is(2, 0x30, acd_high)),
+    ]
+}
+
+/// Where the row table of these pages stands.
+const TABLE: u16 = 100;
+
+/// Rows of the codes 00, 01, 10 and 11, all of them from cell 0 on. All cells have 01's character, and cell 1 sets reverse.
+fn four_rows(version: u8, switches: u8, hact: u32, dots: u32) -> (Page, OneCell) {
+    let mut page = Page { version, switches: 1 | switches, start2: TABLE, dots, ..example_page() };
+    page.irs[0] |= 0x80;
+    // EC 2 and row table, for a front porch of 2 with five cells
+    page.irs[1] = 1;
+    page.irs[2] |= 0x80;
+    page.irs[4] = 3;
+    page.irs[5] = (hact - 1) as u8;
+    let mut cells = OneCell::new(0);
+    cells.chars[..6].fill(0x81);
+    cells.attrs[1] = 0x81;
+    for row in 0..4 {
+        cells.chars[usize::from(TABLE) + 2 * row + 1] = (row as u8) << 6;
+    }
+    (page, cells)
+}
+
+/// The listing of four rows, without blanks; `None` where steps show another picture, in frame 0 or in frame 1.
+fn four_listed((page, cells): (Page, OneCell)) -> Option<String> {
+    let listed = listing(&cells.listing_input(&page));
+    let head = format!("8 {}\n", page.line_dots());
+    let mut board = Board::of_page(page);
+    let same = (0..2).all(|_| head.clone() + &frame_text(&mut board, &cells.lent()) == listed);
+    Some(listed).filter(|_| same)
+}
+
+fn code_cases() -> Vec<(&'static str, bool)> {
+    let is = |rows: (Page, OneCell), lines: [&str; 8]| {
+        let head = format!("8 {}\n", rows.0.line_dots());
+        let dots: String = lines.iter().map(|line| line.replace(' ', "") + "\n").collect();
+        four_listed(rows) == Some(head + &dots)
+    };
+    let refused = |ir: usize, bits: u8| {
+        let (mut page, _) = four_rows(1, 0, 3, 8);
+        page.irs[ir] ^= bits;
+        check(&page)
+    };
+    let fetches = |row: u32, hact: u32| {
+        let (page, cells) = four_rows(1, 0, hact, 8);
+        let count = sheet::row_cells(&page, &cells.chars, row).len() as u32;
+        (count, sheet::run(&page, &cells.chars, row).1)
+    };
+    let (line_0, line_1) = ("oo...... ....oo..", "oooooooo oooooo..");
+    let three = [
+        "o.....o. .ooooo.o o.....o.",
+        "ooooooo. .......o ooooooo.",
+        &format!("{} ..oooooo", line_0),
+        &format!("{} ........", line_1),
+        &format!("{} ..oooooo", line_0),
+        &format!("{} ..oooooo", line_0),
+        &format!("{} ........", line_1),
+        &format!("{} ........", line_1),
+    ];
+    // cell 1 shows no character, and what it sets runs on: row 1 begins reversed
+    let acd_low = [
+        "o.....o. oooooooo .ooooo.o",
+        "ooooooo. oooooooo .......o",
+        "..oooooo oooo..oo oooooooo",
+        "........ ......oo oooooooo",
+        "..oooooo oooo..oo oooooooo",
+        "..oooooo oooo..oo oooooooo",
+        "........ ......oo oooooooo",
+        "........ ......oo oooooooo",
+    ];
+    // the middle dot stands in both halves
+    let seven = [
+        "o.....o .ooooo.",
+        "ooooooo .......",
+        "oo..... .....oo",
+        "ooooooo ooooooo",
+        "oo..... .....oo",
+        "oo..... .....oo",
+        "ooooooo ooooooo",
+        "ooooooo ooooooo",
+    ];
+    let twelve = [
+        ".o.....o....",
+        ".ooooooo....",
+        "..oo........",
+        "..oooooooooo",
+        "..oo........",
+        "..oo........",
+        "..oooooooooo",
+        "..oooooooooo",
+    ];
+    vec![
+        ("R-4 three columns", is(four_rows(1, 0, 3, 8), three)),
+        ("R-4 without IR0[7]", refused(0, 0x80) == Refusal::NONE),
+        ("R-4 without the row table", refused(2, 0x80) == Refusal::plain(4)),
+        ("R-4 interlace", refused(1, 0x80) == Refusal::plain(4)),
+        ("R-4 field mode", is(four_rows(2, 0x10, 3, 8), acd_low)),
+        ("R-4 seven dots", is(four_rows(1, 0, 2, 7), seven)),
+        ("R-4 one column of twelve dots", is(four_rows(1, 0, 1, 12), twelve)),
+        ("R-4 cells fetched", [1, 2, 3, 4, 5].map(|hact| fetches(2, hact).0) == [1, 1, 2, 2, 3]),
+        ("R-4 first runs", [1, 2, 3, 4, 5].map(|hact| fetches(3, hact).1) == [1, 1, 2, 2, 3]),
+        ("R-4 plain rows", [1, 2, 5].map(|hact| fetches(0, hact)) == [(1, 1), (2, 2), (5, 5)]),
     ]
 }
 

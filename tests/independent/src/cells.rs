@@ -1,8 +1,10 @@
-//! Compares two streams of answers script by script and counts call by answer number by power state and mode. A
-//! case counts only where its whole script was the same on both sides.
+//! Compares two streams of answers script by script and counts call by answer number by power state and mode, and what was
+//! met of R-4 (`met`). A case counts only where its whole script was the same on both sides.
 
 use std::collections::BTreeMap;
 use std::io::BufRead;
+
+use crate::met::Met;
 
 /// "Lowest number first, except that 12 precedes 4", and R-2's three in the place of 5: the table's columns.
 const NUMBERS: [u32; 14] = [0, 1, 2, 3, 12, 4, 13, 14, 15, 6, 7, 8, 9, 10];
@@ -13,7 +15,9 @@ const ACTIVE: &[&str] = &["active"];
 const EVERY_POWER: &[&str] = &["inactive-0", "inactive-1", "active"];
 
 const NO_PAGE: &[&str] = &["-"];
-const BOTH: &[&str] = &["character", "field"];
+const ANY: &[&str] = &["character", "field", "character+codes", "field+codes"];
+const NO_TABLE: &[&str] = &["no-table"];
+const ANY_AND_NO_TABLE: &[&str] = &["character", "field", "character+codes", "field+codes", "no-table"];
 
 /// Which answers a call may give in a power state and a mode, and 01's words for it, with R-2's numbers.
 struct Allowed {
@@ -37,37 +41,50 @@ const fn allowed(
 const FILES: &str = "Files give 1, 2 (reading only), 3, 12, 4, 13, 14, 15, 6";
 const DRAWING: &str = "Drawing, stepping, states and runs give 3, 4, 6 to 8 and 12 to 15";
 const REGISTERS: &str = "Register calls give 12, 7 (for the pointer only), 9, 10";
+const RESERVED: &str = "4 now means interlace, or IR0[7] without the row table";
 
 /// Every cell of the table that 01 allows. A page's numbers hold no place and no pointer, so that calls which
 /// take them have no 7 but for an asked line or row; 8 needs a buffer for dots. Numbers that are no page are 3.
 const ALLOWED: &[Allowed] = &[
     allowed("page_check", NO_BOARD, NO_PAGE, &[3], FILES),
-    allowed("page_check", NO_BOARD, BOTH, &[0, 12, 4, 13, 14, 15, 6], FILES),
+    allowed("page_check", NO_BOARD, ANY, &[0, 12, 4, 13, 14, 15, 6], FILES),
+    allowed("page_check", NO_BOARD, NO_TABLE, &[12, 4], RESERVED),
     allowed("page_size", NO_BOARD, NO_PAGE, &[3], FILES),
-    allowed("page_size", NO_BOARD, BOTH, &[0, 12, 4, 13, 14, 15, 6], FILES),
+    allowed("page_size", NO_BOARD, ANY, &[0, 12, 4, 13, 14, 15, 6], FILES),
+    allowed("page_size", NO_BOARD, NO_TABLE, &[12, 4], RESERVED),
     allowed("page_read", NO_BOARD, NO_PAGE, &[1, 2], FILES),
-    allowed("page_read", NO_BOARD, BOTH, &[0, 2, 3, 12, 4, 13, 14, 15, 6], FILES),
+    allowed("page_read", NO_BOARD, ANY, &[0, 2, 3, 12, 4, 13, 14, 15, 6], FILES),
+    allowed("page_read", NO_BOARD, NO_TABLE, &[2, 3, 12, 4], RESERVED),
     allowed("page_write", NO_BOARD, NO_PAGE, &[3], FILES),
-    allowed("page_write", NO_BOARD, BOTH, &[0, 3, 12, 4, 13, 14, 15, 6], FILES),
+    allowed("page_write", NO_BOARD, ANY, &[0, 3, 12, 4, 13, 14, 15, 6], FILES),
+    allowed("page_write", NO_BOARD, NO_TABLE, &[3, 12, 4], RESERVED),
     allowed("font_read", NO_BOARD, NO_PAGE, &[0, 1, 2, 3], FILES),
     allowed("line_draw", NO_BOARD, NO_PAGE, &[3], DRAWING),
-    allowed("line_draw", NO_BOARD, BOTH, &[0, 3, 12, 4, 13, 14, 15, 6, 7, 8], DRAWING),
+    allowed("line_draw", NO_BOARD, ANY, &[0, 3, 12, 4, 13, 14, 15, 6, 7, 8], DRAWING),
+    allowed("line_draw", NO_BOARD, NO_TABLE, &[3, 12, 4], RESERVED),
     allowed("picture_draw", NO_BOARD, NO_PAGE, &[3], DRAWING),
-    allowed("picture_draw", NO_BOARD, BOTH, &[0, 3, 12, 4, 13, 14, 15, 6, 8], DRAWING),
+    allowed("picture_draw", NO_BOARD, ANY, &[0, 3, 12, 4, 13, 14, 15, 6, 8], DRAWING),
+    allowed("picture_draw", NO_BOARD, NO_TABLE, &[3, 12, 4], RESERVED),
     allowed("row_run", NO_BOARD, NO_PAGE, &[3], DRAWING),
-    allowed("row_run", NO_BOARD, BOTH, &[0, 3, 12, 4, 13, 14, 15, 6, 7], DRAWING),
+    allowed("row_run", NO_BOARD, ANY, &[0, 3, 12, 4, 13, 14, 15, 6, 7], DRAWING),
+    allowed("row_run", NO_BOARD, NO_TABLE, &[3, 12, 4], RESERVED),
     allowed("row_cells", NO_BOARD, NO_PAGE, &[3], DRAWING),
-    allowed("row_cells", NO_BOARD, BOTH, &[0, 3, 12, 4, 13, 14, 15, 6, 7], DRAWING),
+    allowed("row_cells", NO_BOARD, ANY, &[0, 3, 12, 4, 13, 14, 15, 6, 7], DRAWING),
+    allowed("row_cells", NO_BOARD, NO_TABLE, &[3, 12, 4], RESERVED),
     allowed("power", NO_BOARD, NO_PAGE, &[0], "Power gives zeros throughout"),
     allowed("board_of", NO_BOARD, NO_PAGE, &[3], FILES),
-    allowed("board_of", NO_BOARD, BOTH, &[0, 12, 4, 13, 14, 15, 6], FILES),
-    allowed("numbers_of", EVERY_POWER, BOTH, &[0, 3, 12, 4, 13, 14, 15, 6], FILES),
-    allowed("set_video", EVERY_POWER, BOTH, &[0, 12, 6], "refusing 12, then 6"),
-    allowed("write", INACTIVE, BOTH, &[0, 12, 7, 9], "after 9 an inactive board answers 0"),
-    allowed("write", ACTIVE, BOTH, &[0, 12, 7, 9, 10], REGISTERS),
-    allowed("read", EVERY_POWER, BOTH, &[0, 12, 7, 9], REGISTERS),
-    allowed("state_at", EVERY_POWER, BOTH, &[0, 3, 12, 4, 13, 14, 15, 6, 7], DRAWING),
-    allowed("step", EVERY_POWER, BOTH, &[0, 3, 12, 4, 13, 14, 15, 6, 7], DRAWING),
+    allowed("board_of", NO_BOARD, ANY, &[0, 12, 4, 13, 14, 15, 6], FILES),
+    allowed("board_of", NO_BOARD, NO_TABLE, &[12, 4], RESERVED),
+    allowed("numbers_of", EVERY_POWER, ANY, &[0, 3, 12, 4, 13, 14, 15, 6], FILES),
+    allowed("numbers_of", EVERY_POWER, NO_TABLE, &[3, 12, 4], RESERVED),
+    allowed("set_video", EVERY_POWER, ANY_AND_NO_TABLE, &[0, 12, 6], "refusing 12, then 6"),
+    allowed("write", INACTIVE, ANY_AND_NO_TABLE, &[0, 12, 7, 9], "after 9 an inactive board answers 0"),
+    allowed("write", ACTIVE, ANY_AND_NO_TABLE, &[0, 12, 7, 9, 10], REGISTERS),
+    allowed("read", EVERY_POWER, ANY_AND_NO_TABLE, &[0, 12, 7, 9], REGISTERS),
+    allowed("state_at", EVERY_POWER, ANY, &[0, 3, 12, 4, 13, 14, 15, 6, 7], DRAWING),
+    allowed("state_at", EVERY_POWER, NO_TABLE, &[3, 12, 4], RESERVED),
+    allowed("step", EVERY_POWER, ANY, &[0, 3, 12, 4, 13, 14, 15, 6, 7], DRAWING),
+    allowed("step", EVERY_POWER, NO_TABLE, &[3, 12, 4], RESERVED),
 ];
 
 /// How often a call gave a number in a power state and a mode.
@@ -132,9 +149,10 @@ struct Outcome {
     compared: u64,
     differing: u64,
     tally: Tally,
+    met: Met,
 }
 
-/// Both streams read to their ends; prints the table. True where all agreed, `asked` scripts or more were
+/// Both streams read to their ends; prints the tables. True where all agreed, `asked` scripts or more were
 /// compared, and each allowed cell, and no other, was met.
 pub fn compare(asked: u64, ours: &mut dyn BufRead, theirs: &mut dyn BufRead) -> Result<bool, String> {
     let (mut ours, mut theirs) = (Stream::new(ours)?, Stream::new(theirs)?);
@@ -150,8 +168,8 @@ pub fn compare(asked: u64, ours: &mut dyn BufRead, theirs: &mut dyn BufRead) -> 
     if !ours.ended || !theirs.ended {
         return Err("a stream breaks off before its end".to_string());
     }
-    let empty = print_table(&outcome.tally);
-    let strange = strange(&outcome.tally);
+    let empty = print_table(&outcome.tally) + outcome.met.print();
+    let strange = [strange(&outcome.tally), outcome.met.strange()].concat();
     strange.iter().for_each(|cell| println!("01 allows no such answer: {}", cell));
     println!("{} scripts compared, {} differ, {} allowed cells empty", outcome.compared, outcome.differing, empty);
     Ok(outcome.differing == 0 && outcome.compared >= asked && empty == 0 && strange.is_empty())
@@ -163,7 +181,10 @@ impl Outcome {
         match apart {
             None => {
                 self.compared += 1;
-                ours.lines.iter().for_each(|line| count(&mut self.tally, line));
+                for line in &ours.lines {
+                    count(&mut self.tally, line);
+                    self.met.count(line);
+                }
             }
             Some(what) => {
                 self.differing += 1;
@@ -189,7 +210,7 @@ fn first_difference(ours: &Block, theirs: &Block) -> Option<String> {
 
 /// Both sides may agree that steps, lines and picture show different dots, or steps and rows other cells: that is no agreement.
 fn frame_that_differs(block: &Block) -> Option<String> {
-    let line = block.lines.iter().find(|line| line.starts_with("frame ") && line.ends_with(" differ"))?;
+    let line = block.lines.iter().find(|line| line.starts_with("frame ") && line.contains(" differ "))?;
     Some(format!("steps, lines, picture and cells differ on both sides: {}", line))
 }
 
@@ -206,7 +227,7 @@ fn count(tally: &mut Tally, line: &str) {
 /// Gives how many allowed cells are empty.
 fn print_table(tally: &Tally) -> u64 {
     let mut empty = 0;
-    print!("{:<13}{:<11}{:<10}", "call", "power", "mode");
+    print!("{:<13}{:<11}{:<16}", "call", "power", "mode");
     NUMBERS.iter().for_each(|number| print!("{:>9}", number));
     println!();
     for row in ALLOWED {
@@ -221,7 +242,7 @@ fn print_table(tally: &Tally) -> u64 {
 
 fn print_row(tally: &Tally, row: &Allowed, power: &str, mode: &str) -> u64 {
     let mut empty = 0;
-    print!("{:<13}{:<11}{:<10}", row.call, power, mode);
+    print!("{:<13}{:<11}{:<16}", row.call, power, mode);
     for number in NUMBERS {
         let key = (row.call.to_string(), power.to_string(), mode.to_string(), number);
         let text = match (row.numbers.contains(&number), tally.get(&key)) {

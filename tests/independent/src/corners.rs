@@ -1,15 +1,16 @@
 //! The fixed scripts for 01's corners: each command byte, each width, the smallest and largest pages, its
 //! cases, phrases, wraps, tables at the end of memory, fields past 255, the last clocks, rooms of every size, saved boards,
-//! files, and nothing at all. Those for R-1 are in `latches`.
+//! files, and nothing at all. Those for R-1 are in `latches`, those for R-4 in `headlines`.
 
 use crate::board::{Board, Page};
 use crate::cases;
 use crate::dice::{in_field_mode, in_version_1, page, Dice, Shape};
 use crate::files::{bytes_of, page_of, FONT_FILE, PAGE_FILE};
+use crate::headlines;
 use crate::latches;
 use crate::make::{Maker, Script};
 use crate::script::hex;
-use crate::stage::{cursor_in_sight, lines, rows, set_up, show, states, table};
+use crate::stage::{cursor_in_sight, framed, lines, rows, set_up, show, states, table};
 
 const POWERS: [u8; 4] = [0, 1, 2, 200];
 
@@ -46,6 +47,7 @@ pub fn all() -> Vec<Maker> {
         named("nothing", nothing),
     ]);
     all.extend(latches::boards());
+    all.extend(headlines::boards());
     all
 }
 
@@ -69,6 +71,7 @@ pub fn pages() -> Vec<Maker> {
         named("table-at-16383", table_at_the_end),
     ]);
     all.extend(latches::pages());
+    all.extend(headlines::pages());
     all
 }
 
@@ -96,6 +99,7 @@ fn commands(script: &mut Script, resets: u8, switches: u8) {
     board.place.line = 7;
     board.place.latch = 0x95;
     board.place.row_latch = 0x3C;
+    board.place.row_code = 0xE6;
     script.board(&board);
     for byte in 0..=255 {
         script.say("board");
@@ -267,10 +271,7 @@ fn wraps(script: &mut Script, dice: &mut Dice, hact: u32) {
                 page.cursor = dice.pick(&[first, last, 16383, 0]) as u16;
                 page.irs[2] = page.irs[2] & 0x7F | u8::from(back == 1) << 7;
                 table(script, dice, &page, &mut chars, &[page.start1, last as u16, 16383]);
-                script.numbers(&page);
-                script.say("call board_of");
-                script.say("frame");
-                rows(script, dice, &page);
+                framed(script, dice, &page);
             }
         }
     }

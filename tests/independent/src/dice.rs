@@ -90,6 +90,22 @@ pub fn in_field_mode(page: Page, acd: bool) -> Page {
     Page { version: 2, switches, ..page }
 }
 
+/// Row table on, and its entries have codes.
+pub fn with_codes(mut page: Page) -> Page {
+    page.irs[0] |= 0x80;
+    page.irs[2] |= 0x80;
+    page
+}
+
+/// With codes one time in so many.
+pub fn some_with_codes(dice: &mut Dice, times: u32, page: Page) -> Page {
+    if dice.one_in(times) {
+        with_codes(page)
+    } else {
+        page
+    }
+}
+
 /// IR1 has the least EC that leaves a front porch of 2 or 3, or some more. Bits that 01 ignores are set at random.
 fn registers(dice: &mut Dice, shape: Shape) -> Page {
     let mut page = Page::power();
@@ -110,7 +126,7 @@ fn registers(dice: &mut Dice, shape: Shape) -> Page {
     page
 }
 
-/// Any place in range, with any latches.
+/// Any place in range, with any latches and row code.
 pub fn any_place(dice: &mut Dice, page: &Page) -> Place {
     Place {
         field: dice.byte(),
@@ -120,6 +136,7 @@ pub fn any_place(dice: &mut Dice, page: &Page) -> Place {
         latch: dice.byte(),
         row_start: dice.between(0, 16383) as u16,
         row_latch: dice.byte(),
+        row_code: dice.byte(),
     }
 }
 

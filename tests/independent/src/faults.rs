@@ -1,7 +1,7 @@
 //! Every refusal of every call, alone, in pairs and all at once, so that the order of refusals shows.
 
 use crate::board::{Board, Page};
-use crate::dice::Dice;
+use crate::dice::{with_codes, Dice};
 use crate::files::{bytes_of, page_of, FONT_FILE, FONT_LENGTH, PAGE_FILE, PAGE_LENGTH};
 use crate::make::{Maker, Script};
 use crate::script::{board_text, hex};
@@ -43,11 +43,21 @@ pub struct Case {
 /// Something wrong, or something that a call does not judge.
 pub type Fault = Box<dyn Fn(&mut Case)>;
 
-/// HFP 3; 2 rows of 3 lines of 6 cells, 8 dots. Version 2 is in field mode.
-fn base(call: &str, resets: u8, version: u8) -> Case {
+/// Which page a case begins with: its version, of which 2 is in field mode, and whether its rows have codes.
+#[derive(Clone, Copy)]
+struct Base {
+    version: u8,
+    codes: bool,
+}
+
+/// HFP 3; 2 rows of 3 lines of 6 cells, 8 dots.
+fn base(call: &str, resets: u8, Base { version, codes }: Base) -> Case {
     let switches = if version == 2 { 0x1B } else { 0x0B };
     let mut page = Page { version, switches, dots: 8, strike: 1, start1: 1020, ..Page::default() };
     page.irs = [0x10, 2, 0x01, 0, 1, 5, 0x02, 0x42, 0, 0, 9, 9, 9, 9, 9];
+    if codes {
+        page = with_codes(page);
+    }
     assert_eq!(page.hfp(), 3);
     let font_file = call == "font_read";
     let file = if font_file { FONT_FILE } else { PAGE_FILE };
@@ -136,7 +146,13 @@ const PORCHES: [(u8, u8, u8, u8, i32); 10] = [
 
 /// 4, 13, 14, 15 and 6.
 fn timing_faults() -> Vec<Fault> {
-    let mut all = vec![fault(|case| case.board.page.irs[0] |= 0x80), fault(|case| case.board.page.irs[1] |= 0x80)];
+    let mut all = vec![
+        fault(|case| case.board.page.irs[0] |= 0x80),
+        fault(|case| case.board.page.irs[1] |= 0x80),
+        // the row table, on and off
+        fault(|case| case.board.page.irs[2] |= 0x80),
+        fault(|case| case.board.page.irs[2] &= 0x7F),
+    ];
     all.extend(PORCHES.iter().map(|&porch| fault(move |case| set_porch(&mut case.board.page, porch))));
     // after the porches, so that it stands beside each of them
     all.push(fault(|case| case.board.page.irs[2] &= !7));
@@ -176,6 +192,9 @@ fn place_faults() -> Vec<Fault> {
         fault(|case| case.board.place.latch = 0xFF),
         fault(|case| case.board.place.row_latch = 0x3F),
         fault(|case| case.board.place.row_latch = 0xC1),
+        // nor is one of a row's code
+        fault(|case| case.board.place.row_code = 0x02),
+        fault(|case| case.board.place.row_code = 0xFF),
         fault(|case| case.board.page.dots = 0x100 + 8),
         fault(|case| case.board.page.dots = u32::MAX),
     ]
@@ -207,7 +226,7 @@ pub fn of_file(call: &str) -> Vec<Fault> {
 
 /// The file with these faults.
 pub fn spoiled(call: &str, file: &[u8], faults: &[&Fault]) -> Vec<u8> {
-    let mut case = base(call, 2, file[0]);
+    let mut case = base(call, 2, Base { version: file[0], codes: false });
     if call == "page_read" {
         case.board.page = page_of(file[0], &file[5..]);
     }
@@ -380,19 +399,19 @@ impl<'a> Teller<'a> {
     }
 }
 
-fn every_pair(script: &mut Script, call: &'static str, resets: u8, version: u8) {
+fn every_pair(script: &mut Script, call: &'static str, resets: u8, begin: Base) {
     let faults = faults_of(call);
     let mut teller = Teller { script, call, told: vec![Vec::new(); lent_to(call).len()] };
-    teller.tell(&base(call, resets, version));
+    teller.tell(&base(call, resets, begin));
     for (at, one) in faults.iter().enumerate() {
         for other in &faults[at..] {
-            let mut case = base(call, resets, version);
+            let mut case = base(call, resets, begin);
             one(&mut case);
             other(&mut case);
             teller.tell(&case);
         }
     }
-    let mut case = base(call, resets, version);
+    let mut case = base(call, resets, begin);
     faults.iter().for_each(|fault| fault(&mut case));
     teller.tell(&case);
 }
@@ -402,16 +421,20 @@ pub fn all() -> Vec<Maker> {
     for call in WITH_BOARD {
         cases.extend([0, 1, 2, 200].map(|resets| (call, resets)));
     }
-    let maker = |name: String, call: &'static str, resets: u8, version: u8| -> Maker {
-        (name, Box::new(move |script: &mut Script, _: &mut Dice| every_pair(script, call, resets, version)))
+    let maker = |name: String, call: &'static str, resets: u8, begin: Base| -> Maker {
+        (name, Box::new(move |script: &mut Script, _: &mut Dice| every_pair(script, call, resets, begin)))
     };
     let mut all = Vec::new();
     for &(call, resets) in &cases {
-        all.push(maker(format!("faults-{}-{}", call, resets), call, resets, 1));
+        all.push(maker(format!("faults-{}-{}", call, resets), call, resets, Base { version: 1, codes: false }));
     }
-    // a font file has one version
-    for &(call, resets) in cases.iter().filter(|(call, _)| *call != "font_read") {
-        all.push(maker(format!("field-faults-{}-{}", call, resets), call, resets, 2));
+    // a font file has one version and no codes
+    let bases = [("field-faults-", 2, false), ("codes-faults-", 1, true), ("field-codes-faults-", 2, true)];
+    for (name, version, codes) in bases {
+        for &(call, resets) in cases.iter().filter(|(call, _)| *call != "font_read") {
+            let name = format!("{}{}-{}", name, call, resets);
+            all.push(maker(name, call, resets, Base { version, codes }));
+        }
     }
     all
 }

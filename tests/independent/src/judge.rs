@@ -1,4 +1,4 @@
-//! 01 "Refusal numbers": what is wrong with what a call was handed. A list of faults has no order of its
+//! 01 "Refusal numbers" and what 02 makes of them: what is wrong with what a call was handed. A list of faults has no order of its
 //! own; `first` applies 01's.
 
 use crate::board::{Board, Font, Page, FONT_FLAGS, FONT_LIST, FONT_WORDS, MEMORY};
@@ -97,7 +97,8 @@ fn porches(page: &Page) -> Vec<Fault> {
 pub fn page(page: &Page) -> Vec<Fault> {
     let mut faults = addresses(page);
     faults.push(strike(page.strike));
-    faults.push(fault(4, page.doubled_rows() || page.interlace()));
+    // "4 now means interlace, or IR0[7] without the row table"
+    faults.push(fault(4, page.interlace() || page.rows_have_codes() && !page.row_table_on()));
     faults.extend(porches(page));
     faults.push(dots(page.dots));
     faults
@@ -108,7 +109,7 @@ pub fn pointer(board: &Board) -> Fault {
     fault(7, board.pointer > 14)
 }
 
-/// "7: [..] a state's line, clock in the line, address, row start [..] out of range"
+/// "7: [..] a state's line, clock in the line, address, row start [..] out of range"; of latches and the row's code nothing is.
 pub fn place(board: &Board) -> Vec<Fault> {
     let (page, place) = (&board.page, &board.place);
     vec![

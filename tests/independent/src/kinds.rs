@@ -1,7 +1,7 @@
 //! The random scripts, one kind after another.
 
 use crate::board::{Board, Page};
-use crate::dice::{any_place, page, place_cells, Dice, Shape};
+use crate::dice::{any_place, page, place_cells, some_with_codes, Dice, Shape};
 use crate::files::{page_head, FONT_FILE, PAGE_FILE};
 use crate::make::Script;
 use crate::script::hex;
@@ -27,6 +27,7 @@ pub const KINDS: [(&str, Kind); 13] = [
 
 fn drawn(script: &mut Script, dice: &mut Dice, shape: Shape, resets: u8) {
     let mut page = page(dice, shape);
+    page = some_with_codes(dice, 4, page);
     place_cells(dice, &mut page);
     page.switches &= !u8::from(dice.one_in(10));
     let chars = script.chars(dice);
@@ -69,6 +70,7 @@ pub fn tall(script: &mut Script, dice: &mut Dice) {
 pub fn catalogue(script: &mut Script, dice: &mut Dice) {
     let shape = Shape::small(dice);
     let mut page = page(dice, shape);
+    page = some_with_codes(dice, 2, page);
     place_cells(dice, &mut page);
     page.irs[2] |= 0x80;
     page.start2 = dice.pick(&[page.start2, page.start2, 16383, 16380, page.start1]);
@@ -119,6 +121,7 @@ fn boards(script: &mut Script, dice: &mut Dice) {
 fn any_board(dice: &mut Dice) -> Board {
     let shape = Shape::small(dice);
     let mut page = page(dice, shape);
+    page = some_with_codes(dice, 2, page);
     place_cells(dice, &mut page);
     let place = any_place(dice, &page);
     let mut board = Board { page, place, pointer: dice.between(0, 14) as u8, resets: dice.pick(&[0, 1, 2, 200, 255]) };
@@ -135,7 +138,7 @@ fn any_board(dice: &mut Dice) -> Board {
 
 fn disturb(dice: &mut Dice, board: &mut Board) {
     let (wide, address) = (dice.pick(&[0, 1, 5, 13, 255, 256, 2153, u32::MAX]), dice.pick(&[0, 16383, 16384, 65535]));
-    match dice.between(0, 14) {
+    match dice.between(0, 15) {
         0 => board.page.start1 = address,
         1 => board.page.cursor = address,
         2 => board.page.start2 = address,
@@ -150,6 +153,7 @@ fn disturb(dice: &mut Dice, board: &mut Board) {
         11 => board.page.version = dice.pick(&[0, 1, 2, 3, 255]),
         12 => board.page.switches ^= dice.pick(&[0x10, 0x20, 0x30, 0x40, 0x80]),
         13 => board.page.version = dice.byte(),
+        14 => board.page.irs[dice.pick(&[0, 1, 2])] ^= 0x80,
         _ => board.page.irs[dice.between(0, 14) as usize] = dice.byte(),
     }
 }
@@ -158,6 +162,7 @@ fn disturb(dice: &mut Dice, board: &mut Board) {
 fn by_registers(script: &mut Script, dice: &mut Dice) {
     let shape = Shape::small(dice);
     let mut page = page(dice, shape);
+    page = some_with_codes(dice, 3, page);
     place_cells(dice, &mut page);
     page.switches = page.switches & !3 | dice.pick(&[1, 3, 3]);
     let chars = script.chars(dice);
@@ -214,12 +219,13 @@ fn bring(script: &mut Script, dice: &mut Dice, page: &Page) {
 fn live(script: &mut Script, dice: &mut Dice) {
     let shape = Shape::small(dice);
     let mut page = page(dice, shape);
+    page = some_with_codes(dice, 2, page);
     place_cells(dice, &mut page);
     let chars = script.chars(dice);
     set_up(script, dice, &page, &chars, 2);
     script.say("frame");
     for _ in 0..25 {
-        match dice.between(0, 6) {
+        match dice.between(0, 7) {
             0 => script.say(format!("call write {} {}", dice.between(2, 7), dice.byte())),
             1 => script.say(format!("call write 1 {}", dice.pick(&[0x28, 0x29, 0x30, 0x31, 0x38, 0x39, 0x2C, 0]))),
             2 => script.say(format!("call write 1 {}", 0x16 + dice.between(0, 8))),
@@ -231,6 +237,12 @@ fn live(script: &mut Script, dice: &mut Dice) {
                 dice.byte() & 1
             )),
             5 => script.say(format!("set chars {} {}", dice.between(0, 16380), hex(&[dice.byte(), dice.byte()]))),
+            6 if page.row_table_on() => {
+                // rows lose their codes, or get them back
+                page.irs[0] ^= 0x80;
+                script.say("call write 1 16");
+                script.say(format!("call write 0 {}", page.irs[0]));
+            }
             _ => script.say(format!("set attrs {} {}", dice.between(0, 16380), hex(&[dice.byte(), dice.byte()]))),
         }
         script.say(format!("call step {}", dice.between(1, page.ht() * 3)));
@@ -246,6 +258,7 @@ fn live(script: &mut Script, dice: &mut Dice) {
 fn files(script: &mut Script, dice: &mut Dice) {
     let shape = Shape::small(dice);
     let mut page = page(dice, shape);
+    page = some_with_codes(dice, 3, page);
     place_cells(dice, &mut page);
     let sizes = [("numbers", 32), ("chars", 16384), ("attrs", 16384), ("words", 1152), ("flags", 128)];
     for (buffer, size) in sizes.into_iter().chain([("unshifted", 9), ("shifted", 9)]) {
@@ -275,7 +288,8 @@ fn files(script: &mut Script, dice: &mut Dice) {
 /// Right and wrong sizes of everything.
 fn sizes(script: &mut Script, dice: &mut Dice) {
     let shape = Shape::small(dice);
-    let page = page(dice, shape);
+    let plain = page(dice, shape);
+    let page = some_with_codes(dice, 3, plain);
     let board = Board { resets: dice.pick(&[0, 1, 2, 200]), ..Board::of_page(page) };
     let chars = script.chars(dice);
     set_up(script, dice, &page, &chars, board.resets);

@@ -5,7 +5,7 @@ use crate::board::{Board, Page, Place};
 use crate::dice::{any_place, in_field_mode, page, Dice, Shape};
 use crate::make::{Maker, Script};
 use crate::sheet::row_cells;
-use crate::stage::{attribute, cursor_in_sight, prepare, rows, set_up, show, table};
+use crate::stage::{attribute, cursor_in_sight, on_and_off, prepare, rows, set_up, show, table};
 
 type Writer = fn(&mut Script, &mut Dice, bool);
 
@@ -276,15 +276,7 @@ fn off(script: &mut Script, dice: &mut Dice, resets: u8) {
         page.switches &= !1;
         let chars = script.chars(dice);
         set_up(script, dice, &page, &chars, 2);
-        script.board(&Board { resets, ..Board::of_page(page) });
-        script.say("frame");
-        for _ in 0..12 {
-            script.say(format!("call write 1 {}", dice.pick(&[0x28, 0x29, 0x29])));
-            script.say(format!("call step {}", dice.between(1, page.frame_clocks() / 8)));
-        }
-        script.say("every 1");
-        script.say(format!("call step {}", page.ht()));
-        script.say("every 0");
+        on_and_off(script, dice, &page, resets);
     }
 }
 

@@ -23,10 +23,15 @@ pub struct Shown {
 #[derive(Clone, Copy)]
 struct Beam {
     row: u32,
-    scan_line: u32,
+    row_line: u32,
     visible: bool,
     active: bool,
 }
+
+/// R-4: "00 plain, 01 double width, 10 double width and top half, 11 double width and bottom half"
+const PLAIN: u8 = 0b00;
+const TOP_HALF: u8 = 0b10;
+const BOTTOM_HALF: u8 = 0b11;
 
 pub fn step(board: &mut Board, lent: &Lent) -> Shown {
     let beam = arrive(board, lent.chars, lent.attrs);
@@ -60,10 +65,11 @@ fn walk(board: &mut Board, chars: &[u8], attrs: &[u8], clocks: u32) {
 fn arrive(board: &mut Board, chars: &[u8], attrs: &[u8]) -> Beam {
     let beam = beam(board);
     drop_what_is_no_latch(board);
+    drop_what_is_no_code(board);
     if beam.visible && board.place.clock == 0 {
         load(board, beam, chars);
     }
-    if beam.active {
+    if beam.active && !second_half(board) {
         latch(board, attrs);
     }
     beam
@@ -76,6 +82,35 @@ fn drop_what_is_no_latch(board: &mut Board) {
         if !field_mode || !has_aflg(*latch) {
             *latch = 0;
         }
+    }
+}
+
+/// Two bits of a code handed over count, and without IR0[7] none: every step leaves what counts.
+fn drop_what_is_no_code(board: &mut Board) {
+    board.place.row_code = if board.page.rows_have_codes() { board.place.row_code & 0b11 } else { PLAIN };
+}
+
+fn double_width(board: &Board) -> bool {
+    board.place.row_code != PLAIN
+}
+
+/// R-4: "the stepper fetches on even columns, shows that address and cursor again on the odd one after"
+fn second_half(board: &Board) -> bool {
+    double_width(board) && board.place.clock % 2 == 1
+}
+
+/// R-4: "and moves on after a cell's last column", which is the even one where the line's active clocks end with it.
+fn cell_ends(board: &Board) -> bool {
+    !double_width(board) || second_half(board) || board.place.clock + 1 == board.page.hact()
+}
+
+/// R-4: "With L lines a row, top halves use scan line floor(l/2), bottom halves floor((L+l)/2), for font, cursor, underline
+/// and strike alike."
+fn scan_line(board: &Board, beam: Beam) -> u32 {
+    match board.place.row_code {
+        TOP_HALF => beam.row_line / 2,
+        BOTTOM_HALF => (board.page.lines_per_row() + beam.row_line) / 2,
+        _ => beam.row_line,
     }
 }
 
@@ -93,7 +128,7 @@ fn has_aflg(attribute: u8) -> bool {
 
 /// "Each active clock fetches and then moves on [..]. Other clocks hold the address."
 fn leave(board: &mut Board, beam: Beam) {
-    if beam.active {
+    if beam.active && cell_ends(board) {
         board.place.address = next_address(&board.page, board.place.address);
     }
     count(&board.page, &mut board.place);
@@ -101,21 +136,24 @@ fn leave(board: &mut Board, beam: Beam) {
 
 fn beam(board: &Board) -> Beam {
     let lines = board.page.lines_per_row();
-    let (mut row, mut scan_line) = (0, board.place.line);
-    while scan_line >= lines {
-        scan_line -= lines;
+    let (mut row, mut row_line) = (0, board.place.line);
+    while row_line >= lines {
+        row_line -= lines;
         row += 1;
     }
     let visible = row < board.page.rows();
-    Beam { row, scan_line, visible, active: visible && board.place.clock < board.page.hact() }
+    Beam { row, row_line, visible, active: visible && board.place.clock < board.page.hact() }
 }
 
 /// "First line of a row: the row table entry if the table is on; else screen start 1 for row 0; else it
 /// carries on. That is the row start, and the row's later lines load it again."
 fn load(board: &mut Board, beam: Beam, chars: &[u8]) {
-    if beam.scan_line == 0 {
+    if beam.row_line == 0 {
         if board.page.row_table_on() {
-            board.place.row_start = table_entry(&board.page, chars, beam.row);
+            let (start, upper_bits) = table_entry(&board.page, chars, beam.row);
+            board.place.row_start = start;
+            // "while IR0[7] is set"
+            board.place.row_code = if board.page.rows_have_codes() { upper_bits } else { PLAIN };
         } else if beam.row == 0 {
             board.place.row_start = board.page.start1;
         } else {
@@ -130,11 +168,11 @@ fn load(board: &mut Board, beam: Beam, chars: &[u8]) {
 }
 
 /// "the two character bytes at screen start 2 + 2r, modulo 16,384: low byte, then high byte, of which six
-/// bits count"
-fn table_entry(page: &Page, chars: &[u8], row: u32) -> u16 {
+/// bits count", and R-4's two upper bits.
+fn table_entry(page: &Page, chars: &[u8], row: u32) -> (u16, u8) {
     let low = (usize::from(page.start2) + 2 * row as usize) % 16384;
     let high = (low + 1) % 16384;
-    u16::from(chars[low]) | (u16::from(chars[high]) & 0x3F) << 8
+    (u16::from(chars[low]) | (u16::from(chars[high]) & 0x3F) << 8, chars[high] >> 6)
 }
 
 /// "after the last buffer address comes the first; otherwise add 1, and 16383 is followed by 0"
@@ -157,7 +195,7 @@ fn signals(board: &Board, beam: Beam) -> Signals {
         hsync: place.clock >= hsync_from && place.clock < hsync_from + page.hsync(),
         vsync: place.line >= vsync_from && place.line < vsync_from + page.vsync(),
         blank: !beam.active || !board.display_on(),
-        cursor: beam.active && cursor(page, place, beam.scan_line),
+        cursor: beam.active && cursor(page, place, scan_line(board, beam)),
         blink: blink(page, place.field),
     }
 }
@@ -187,13 +225,40 @@ fn dots(board: &Board, beam: Beam, signals: Signals, lent: &Lent) -> [u8; 12] {
         places.for_each(|dot| *dot = level);
         return out;
     }
-    let cell = Cell::fetched(board, beam.scan_line, signals, lent);
-    let mut register = cell.loaded(page.dots);
+    let cell = Cell::fetched(board, scan_line(board, beam), signals, lent);
+    let mut register = Register::new(cell.loaded(page.dots), double_width(board));
+    if second_half(board) {
+        // these dots stood in the column before
+        for _ in 0..page.dots {
+            register.shift();
+        }
+    }
     for dot in places {
-        *dot = if register & 1 == 1 { cell.symbol } else { cell.surround };
-        register >>= 1;
+        *dot = if register.shift() { cell.symbol } else { cell.surround };
     }
     out
+}
+
+/// A cell's dots on their way out, D0 or the filler before it first. R-4: in a row of double width "each dot comes twice".
+struct Register {
+    bits: u16,
+    twice: bool,
+    again: bool,
+}
+
+impl Register {
+    fn new(bits: u16, twice: bool) -> Register {
+        Register { bits, twice, again: false }
+    }
+
+    fn shift(&mut self) -> bool {
+        let lit = self.bits & 1 == 1;
+        self.again = self.twice && !self.again;
+        if !self.again {
+            self.bits >>= 1;
+        }
+        lit
+    }
 }
 
 struct Cell {

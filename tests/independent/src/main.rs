@@ -1,5 +1,5 @@
-//! A second reading of 01, of 02's R-1 and R-2 and of the papers, for comparing with the library. It shares nothing with it. Start
-//! with `board`, then `machine` (the first way of drawing) and `sheet` (the second).
+//! A second reading of 01, of 02's R-1, R-2 and R-4 and of the papers, for comparing with the library. It shares nothing with it.
+//! Start with `board`, then `machine` (the first way of drawing) and `sheet` (the second).
 
 mod answer;
 mod board;
@@ -10,6 +10,7 @@ mod corners;
 mod dice;
 mod faults;
 mod files;
+mod headlines;
 mod input;
 mod judge;
 mod kinds;
@@ -17,6 +18,7 @@ mod latches;
 mod listing;
 mod machine;
 mod make;
+mod met;
 mod registers;
 mod script;
 mod sheet;
@@ -28,10 +30,10 @@ use std::io::{self, BufReader, BufWriter, Read, Write};
 use std::process::exit;
 
 const USAGE: &str = "usage: independent COMMAND
-  self SEED PAGES            compares its own two ways, 01's cases, R-1's and R-2's
+  self SEED PAGES            compares its own two ways, 01's cases, and those of R-1, R-2 and R-4
   make SEED COUNT [FIRST]    prints COUNT scripts, from number FIRST on; without FIRST the whole fixed list at least
   answer < SCRIPTS           prints its own answers
-  cells COUNT OURS THEIRS    compares two streams of answers, prints the table of calls
+  cells COUNT OURS THEIRS    compares two streams of answers, prints the tables of what was met
   input SEED NUMBER          prints a page file and a font file, whole or damaged
   listing < PAGE-AND-FONT    01's listing
   pgm FIELD PAGE FONT        the same page as a picture";
@@ -92,8 +94,9 @@ fn compare_own(seed: u64, pages: u64) -> Result<(), String> {
         }
     }
     let compared = twoways::compare(seed, pages)?;
-    println!("{} cases of 01, R-1 and R-2 come out", cases::all().len());
-    let modes = format!("{} pages, {} of them in field mode", pages, compared.in_field_mode);
+    println!("{} cases of 01, R-1, R-2 and R-4 come out", cases::all().len());
+    let (field, wide) = (compared.in_field_mode, compared.wide_rows);
+    let modes = format!("{} pages, {} of them in field mode, with {} rows of double width", pages, field, wide);
     println!("{}: {} clocks, {} lines, {} states agree", modes, compared.clocks, compared.lines, compared.states);
     Ok(())
 }

@@ -104,14 +104,14 @@ pub fn board_text(board: &Board) -> String {
     bytes.extend(place.address.to_be_bytes());
     bytes.push(place.latch);
     bytes.extend(place.row_start.to_be_bytes());
-    bytes.extend([place.row_latch, board.pointer, board.resets]);
+    bytes.extend([place.row_latch, place.row_code, board.pointer, board.resets]);
     hex(&bytes)
 }
 
 pub fn board_of_text(text: &str) -> Result<Board, String> {
     let b: Vec<u8> = elements(text)?;
-    if b.len() != 45 {
-        return Err(format!("a board has 90 hex digits: {}", text));
+    if b.len() != 46 {
+        return Err(format!("a board has 92 hex digits: {}", text));
     }
     let two = |at: usize| u16::from_be_bytes([b[at], b[at + 1]]);
     let four = |at: usize| u32::from_be_bytes([b[at], b[at + 1], b[at + 2], b[at + 3]]);
@@ -135,8 +135,9 @@ pub fn board_of_text(text: &str) -> Result<Board, String> {
         latch: b[39],
         row_start: two(40),
         row_latch: b[42],
+        row_code: b[43],
     };
-    Ok(Board { page, place, pointer: b[43], resets: b[44] })
+    Ok(Board { page, place, pointer: b[44], resets: b[45] })
 }
 
 /// What a script's calls are lent: "none" is an empty buffer here.

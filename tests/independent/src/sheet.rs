@@ -1,5 +1,5 @@
 //! The second way: a line, a row start or a state worked out at once, as on paper. It shares nothing with
-//! `machine`: levels are looked up in 000's Table 1 as it is printed, dots are written as text, a row
+//! `machine`: levels are looked up in 000's Table 1 as it is printed, dots are written as text and doubled there, a row
 //! start is found by moving row x HACT times, one by one, and what is latched by looking back from the cell.
 
 use std::iter::successors;
@@ -12,30 +12,86 @@ pub fn line(page: &Page, lent: &Lent, line: u32, field: u8) -> Vec<u8> {
         return vec![blanked(page); page.line_dots()];
     }
     let row = line / page.lines_per_row();
-    let scan_line = line % page.lines_per_row();
+    let size = row_size(page, lent.chars, row);
+    let scan_line = size.scan_line(page, line);
     let attributes = row_attributes(page, lent.chars, lent.attrs, row);
     let cells = row_cells(page, lent.chars, row).into_iter().zip(attributes);
-    cells.flat_map(|(address, attribute)| cell(page, lent, address, attribute, scan_line, field)).collect()
+    let shown = cells.flat_map(|(address, attribute)| cell(page, lent, address, attribute, scan_line, field, size));
+    // with an odd HACT the last cell of a double width row has no room for its right half
+    shown.take(page.line_dots()).collect()
+}
+
+/// R-4: "00 plain, 01 double width, 10 double width and top half, 11 double width and bottom half"
+#[derive(Clone, Copy, PartialEq, Eq)]
+enum Size {
+    Plain,
+    DoubleWidth,
+    TopHalf,
+    BottomHalf,
+}
+
+const SIZES: [Size; 4] = [Size::Plain, Size::DoubleWidth, Size::TopHalf, Size::BottomHalf];
+
+impl Size {
+    /// On how many columns a cell is shown: "A double width row shows fetched cell floor(c/2) in column c".
+    fn columns(self) -> u32 {
+        if self == Size::Plain {
+            1
+        } else {
+            2
+        }
+    }
+
+    /// "With L lines a row, top halves use scan line floor(l/2), bottom halves floor((L+l)/2)"
+    fn scan_line(self, page: &Page, line: u32) -> u32 {
+        let all = page.lines_per_row();
+        let own = line % all;
+        // the lines of a headline, which has twice as many, each shown twice
+        let mut headline = (0..all).flat_map(|scan_line| [scan_line, scan_line]);
+        match self {
+            Size::Plain | Size::DoubleWidth => own,
+            Size::TopHalf => headline.nth(own as usize).expect("a line of the top half"),
+            Size::BottomHalf => headline.nth((all + own) as usize).expect("a line of the bottom half"),
+        }
+    }
+}
+
+/// "while IR0[7] is set, the two upper bits of a row table entry are the row's code"
+fn row_code(page: &Page, chars: &[u8], row: u32) -> u8 {
+    if page.rows_have_codes() {
+        table_byte(page, chars, row, 1) / 64
+    } else {
+        0
+    }
+}
+
+fn row_size(page: &Page, chars: &[u8], row: u32) -> Size {
+    SIZES[usize::from(row_code(page, chars, row))]
+}
+
+/// The low byte or, with 1, the high byte of a row's entry.
+fn table_byte(page: &Page, chars: &[u8], row: u32, which: u32) -> u8 {
+    chars[((u32::from(page.start2) + 2 * row + which) % 16384) as usize]
 }
 
 /// "First line of a row: the row table entry if the table is on; else screen start 1 for row 0; else it
 /// carries on."
 pub fn row_start(page: &Page, chars: &[u8], row: u32) -> u16 {
     if page.row_table_on() {
-        let at = |n: u32| u32::from(chars[((u32::from(page.start2) + 2 * row + n) % 16384) as usize]);
-        ((at(1) % 64) * 256 + at(0)) as u16
+        let at = |which: u32| u16::from(table_byte(page, chars, row, which));
+        (at(1) % 64) * 256 + at(0)
     } else {
         moved(page, page.start1, row * page.hact())
     }
 }
 
 /// "the row's first run of cells [..]: from the row start to the row's end, the last buffer address or
-/// 16383, whichever is first met": where it begins and how many cells it has.
+/// 16383, whichever is first met"; R-4: "its first run counts the cells fetched". Where it begins and how many cells it has.
 pub fn run(page: &Page, chars: &[u8], row: u32) -> (u16, u32) {
     let first = row_start(page, chars, row);
     let mut count = 1;
     let mut address = first;
-    while count < page.hact() && address != page.last_address() && address != 16383 {
+    while count < cells_in_row(page, chars, row) && address != page.last_address() && address != 16383 {
         address += 1;
         count += 1;
     }
@@ -44,7 +100,15 @@ pub fn run(page: &Page, chars: &[u8], row: u32) -> (u16, u32) {
 
 /// "The addresses of all cells that a row fetches, column by column, wraps included"
 pub fn row_cells(page: &Page, chars: &[u8], row: u32) -> Vec<u16> {
-    cells_from(page, row_start(page, chars, row), page.hact())
+    cells_from(page, row_start(page, chars, row), cells_in_row(page, chars, row))
+}
+
+/// R-4: "the cells fetched, which are half of HACT rounded up"
+fn cells_in_row(page: &Page, chars: &[u8], row: u32) -> u32 {
+    match row_size(page, chars, row).columns() {
+        1 => page.hact(),
+        _ => page.hact() / 2 + page.hact() % 2,
+    }
 }
 
 fn cells_from(page: &Page, first: u16, count: u32) -> Vec<u16> {
@@ -102,7 +166,8 @@ pub fn moment(page: &Page, display_on: bool, lent: &Lent, n: u32) -> Moment {
     let down = part(place.line, [page.visible_lines(), page.vfp(), page.vsync(), page.vbp()]);
     let active = (across, down) == (0, 0);
     let row = place.line / page.lines_per_row();
-    let scan_line = place.line % page.lines_per_row();
+    let size = if active { row_size(page, lent.chars, row) } else { Size::Plain };
+    let scan_line = size.scan_line(page, place.line);
     let loaded = active && place.clock == 0;
     let address = if loaded { row_start(page, lent.chars, row) } else { place.address };
     let shown = active && display_on;
@@ -112,8 +177,14 @@ pub fn moment(page: &Page, display_on: bool, lent: &Lent, n: u32) -> Moment {
         signals: [across == 2, down == 2, !shown, cursor, blink_high(page, place.field)],
         address,
         dots: if shown {
-            let attribute = row_attributes(page, lent.chars, lent.attrs, row)[place.clock as usize];
-            cell(page, lent, address, attribute, scan_line, place.field)
+            let fetched = (place.clock / size.columns()) as usize;
+            let attribute = row_attributes(page, lent.chars, lent.attrs, row)[fetched];
+            let mut dots = cell(page, lent, address, attribute, scan_line, place.field, size);
+            // "left half in even columns"
+            let column = place.clock % size.columns();
+            dots.drain(..(column * page.dots) as usize);
+            dots.truncate(page.dots as usize);
+            dots
         } else {
             vec![blanked(page); page.dots as usize]
         },
@@ -158,13 +229,18 @@ fn passed(page: &Page, frame: u32, line: u32, clock: u32) -> Option<(u32, u32)> 
     Some((last / page.lines_per_row(), count))
 }
 
-/// What the beam holds after so many cells of a row, and what the row began with.
-fn held(page: &Page, chars: &[u8], attrs: &[u8], row: u32, count: u32, counts: Place) -> Place {
+/// What the beam holds after so many columns of a row, and what the row began with. The cell of its next column is
+/// fetched already where that is a right half.
+fn held(page: &Page, chars: &[u8], attrs: &[u8], row: u32, columns: u32, counts: Place) -> Place {
     let row_start = row_start(page, chars, row);
     let row_latch = row_latch(page, chars, attrs, row);
+    let row_code = row_code(page, chars, row);
+    let each = row_size(page, chars, row).columns();
+    let fetched = (columns + each - 1) / each;
+    let left = if columns == page.hact() { fetched } else { columns / each };
     let latch =
-        if page.field_mode() { last_set(attrs, &cells_from(page, row_start, count)).unwrap_or(row_latch) } else { 0 };
-    Place { address: moved(page, row_start, count), latch, row_start, row_latch, ..counts }
+        if page.field_mode() { last_set(attrs, &cells_from(page, row_start, fetched)).unwrap_or(row_latch) } else { 0 };
+    Place { address: moved(page, row_start, left), latch, row_start, row_latch, row_code, ..counts }
 }
 
 /// "after the last buffer address comes the first; otherwise add 1, and 16383 is followed by 0"
@@ -213,8 +289,8 @@ fn blanked(page: &Page) -> u8 {
     })
 }
 
-/// The dots of a cell for which this attribute byte holds.
-fn cell(page: &Page, lent: &Lent, address: u16, attribute: u8, scan_line: u32, field: u8) -> Vec<u8> {
+/// The dots of a cell for which this attribute byte holds, in all its columns.
+fn cell(page: &Page, lent: &Lent, address: u16, attribute: u8, scan_line: u32, field: u8, size: Size) -> Vec<u8> {
     let attribute = Attribute::of(attribute);
     let cursor = cursor_here(page, address, scan_line, field);
     let hidden = attribute.blank == 1 || attribute.blink == 1 && blink_high(page, field);
@@ -229,7 +305,9 @@ fn cell(page: &Page, lent: &Lent, address: u16, attribute: u8, scan_line: u32, f
     } else {
         pattern(&ten_dots(lent, lent.chars[usize::from(address)], scan_line), page.dots as usize)
     };
-    pattern.chars().map(|dot| level(if dot == '1' { *symbol } else { *surround })).collect()
+    // R-4: "each dot comes twice"
+    let shown = pattern.chars().flat_map(|dot| [dot, dot].into_iter().take(size.columns() as usize));
+    shown.map(|dot| level(if dot == '1' { *symbol } else { *surround })).collect()
 }
 
 /// 000: "if ACD = 0, the first character in each new attribute field (the attribute control character) will be

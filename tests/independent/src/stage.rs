@@ -10,10 +10,16 @@ use crate::sheet;
 const FIELDS: [u32; 22] =
     [0, 1, 15, 16, 31, 32, 47, 48, 63, 64, 95, 96, 127, 128, 191, 192, 223, 224, 255, 256, 257, 300];
 
-/// Writes these row starts as a row table at screen start 2; upper bits that do not count are set at random.
+/// Writes these row starts as a row table at screen start 2, with upper bits at random: they are codes, or do not count.
 pub fn table(script: &mut Script, dice: &mut Dice, page: &Page, chars: &mut [u8], starts: &[u16]) {
-    for (row, start) in starts.iter().enumerate() {
-        let entry = [(start % 256) as u8, (start / 256) as u8 | dice.pick(&[0, 0x40, 0x80, 0xC0])];
+    let rows: Vec<(u16, u8)> = starts.iter().map(|&start| (start, dice.between(0, 3) as u8)).collect();
+    coded_table(script, page, chars, &rows);
+}
+
+/// Writes these row starts and codes.
+pub fn coded_table(script: &mut Script, page: &Page, chars: &mut [u8], rows: &[(u16, u8)]) {
+    for (row, (start, code)) in rows.iter().enumerate() {
+        let entry = [(start % 256) as u8, (start / 256) as u8 | code << 6];
         for (byte, value) in entry.iter().enumerate() {
             let at = (usize::from(page.start2) + 2 * row + byte) % 16384;
             script.say(format!("set chars {} {}", at, hex(&[*value])));
@@ -25,8 +31,7 @@ pub fn table(script: &mut Script, dice: &mut Dice, page: &Page, chars: &mut [u8]
 /// Puts the cursor on a cell that is shown.
 pub fn cursor_in_sight(dice: &mut Dice, page: &mut Page, chars: &[u8]) {
     let row = dice.between(0, page.rows() - 1);
-    let column = dice.between(0, page.hact() - 1);
-    page.cursor = sheet::row_cells(page, chars, row)[column as usize];
+    page.cursor = dice.pick(&sheet::row_cells(page, chars, row));
 }
 
 /// Attributes beside the character memory that is there; then font, numbers and board. AFLG stands in every second
@@ -44,7 +49,7 @@ pub fn set_up(script: &mut Script, dice: &mut Dice, page: &Page, chars: &[u8], r
 /// A cell that is shown, often at an end of its row.
 fn any_cell(dice: &mut Dice, page: &Page, chars: &[u8]) -> u16 {
     let cells = sheet::row_cells(page, chars, dice.between(0, page.rows() - 1));
-    let any = dice.between(0, page.hact() - 1) as usize;
+    let any = dice.between(0, cells.len() as u32 - 1) as usize;
     cells[dice.pick(&[any, any, 0, cells.len() - 1])]
 }
 
@@ -117,6 +122,27 @@ pub fn rows(script: &mut Script, dice: &mut Dice, page: &Page) {
         script.say(format!("call row_run {}", row));
         script.say(format!("call row_cells {}", row));
     }
+}
+
+/// The board of a page, a frame of it, and its rows.
+pub fn framed(script: &mut Script, dice: &mut Dice, page: &Page) {
+    script.numbers(page);
+    script.say("call board_of");
+    script.say("frame");
+    rows(script, dice, page);
+}
+
+/// From a board of this power state: a frame, then steps between which the display goes on and off, and a line clock by clock.
+pub fn on_and_off(script: &mut Script, dice: &mut Dice, page: &Page, resets: u8) {
+    script.board(&Board { resets, ..Board::of_page(*page) });
+    script.say("frame");
+    for _ in 0..12 {
+        script.say(format!("call write 1 {}", dice.pick(&[0x28, 0x29, 0x29])));
+        script.say(format!("call step {}", dice.between(1, page.frame_clocks() / 8)));
+    }
+    script.say("every 1");
+    script.say(format!("call step {}", page.ht()));
+    script.say("every 0");
 }
 
 /// States within the first frames and far away, and steps from there.

@@ -1,8 +1,8 @@
 //! Compares this program's two ways with each other: every clock of a frame, every line, states far away, and boards
 //! handed over anywhere, which the next frame brings back.
 
-use crate::board::{Board, Font, Lent, Place};
-use crate::dice::{any_place, page, place_cells, Dice, Shape};
+use crate::board::{Board, Font, Lent, Page, Place};
+use crate::dice::{any_place, page, place_cells, some_with_codes, Dice, Shape};
 use crate::files::{numbers_of, page_of_numbers};
 use crate::script::filled;
 use crate::{machine, sheet};
@@ -13,6 +13,8 @@ pub struct Compared {
     pub lines: u64,
     pub states: u64,
     pub in_field_mode: u64,
+    /// Of pages whose rows have codes, the rows of double width.
+    pub wide_rows: u64,
 }
 
 pub fn compare(seed: u64, pages: u64) -> Result<Compared, String> {
@@ -29,6 +31,7 @@ fn one_page(dice: &mut Dice, compared: &mut Compared) -> Result<(), String> {
     let mut page = page(dice, shape);
     place_cells(dice, &mut page);
     page.irs[2] |= dice.pick(&[0, 0x80]);
+    page = some_with_codes(dice, 2, page);
     page.switches &= !u8::from(dice.one_in(8));
     let chars: Vec<u8> = filled(16384, dice.seed());
     let attrs = attributes(dice);
@@ -43,9 +46,15 @@ fn one_page(dice: &mut Dice, compared: &mut Compared) -> Result<(), String> {
         return Err("numbers there and back".to_string());
     }
     compared.in_field_mode += u64::from(page.field_mode());
+    compared.wide_rows += wide_rows(&page, &chars);
     whole_frame(dice, &board, &lent, compared)?;
     far_states(dice, &board, &lent, compared)?;
     brought_back(dice, &board, &lent)
+}
+
+fn wide_rows(page: &Page, chars: &[u8]) -> u64 {
+    let wide = |row: u32| sheet::row_cells(page, chars, row).len() < page.hact() as usize;
+    (0..page.rows()).map(|row| u64::from(wide(row))).sum()
 }
 
 /// AFLG in one of 2, 16 or 128 cells; not all may hide or blink.
@@ -60,7 +69,7 @@ fn whole_frame(dice: &mut Dice, board: &Board, lent: &Lent, compared: &mut Compa
     let begin = dice.between(0, 300) * page.frame_clocks();
     let mut walked = machine::state_at(board, lent.chars, lent.attrs, begin);
     let field = walked.place.field;
-    let (mut dots, mut fetched) = (Vec::new(), Vec::new());
+    let (mut dots, mut shown) = (Vec::new(), Vec::new());
     for n in begin..begin + page.frame_clocks() {
         let stepped = one_step(&mut walked, lent);
         if stepped != sheet::moment(page, board.display_on(), lent, n) {
@@ -68,12 +77,12 @@ fn whole_frame(dice: &mut Dice, board: &Board, lent: &Lent, compared: &mut Compa
         }
         if stepped.place.line < page.visible_lines() && stepped.place.clock < page.hact() {
             dots.extend(&stepped.dots);
-            fetched.push(stepped.address);
+            shown.push(stepped.address);
         }
         compared.clocks += 1;
     }
-    let row_of = |line: u32| sheet::row_cells(page, lent.chars, line / page.lines_per_row());
-    if (0..page.visible_lines()).flat_map(row_of).collect::<Vec<u16>>() != fetched {
+    let on_line = |line: u32| on_columns(page, sheet::row_cells(page, lent.chars, line / page.lines_per_row()));
+    if (0..page.visible_lines()).flat_map(on_line).collect::<Vec<u16>>() != shown {
         return Err("cells of the rows".to_string());
     }
     if !board.active() {
@@ -86,6 +95,12 @@ fn whole_frame(dice: &mut Dice, board: &Board, lent: &Lent, compared: &mut Compa
     } else {
         Err(format!("lines of field {}", field))
     }
+}
+
+/// "A double width row shows fetched cell floor(c/2) in column c"
+fn on_columns(page: &Page, cells: Vec<u16>) -> Vec<u16> {
+    let wide = cells.len() < page.hact() as usize;
+    (0..page.hact() as usize).map(|column| cells[if wide { column / 2 } else { column }]).collect()
 }
 
 fn one_step(walked: &mut Board, lent: &Lent) -> sheet::Moment {
@@ -113,8 +128,9 @@ fn far_states(dice: &mut Dice, board: &Board, lent: &Lent, compared: &mut Compar
     Ok(())
 }
 
-/// A board handed over anywhere with any latches: each step leaves them 0 or with AFLG. Row 0 loads address and latch, so
-/// that nothing but the field count is left after the frame that the board stood in and one more.
+/// A board handed over anywhere with any latches and row code: each step leaves the latches 0 or with AFLG, and of the code
+/// what counts. Row 0 loads address, latch and code, so that nothing but the field count is left after the frame that the
+/// board stood in and one more.
 fn brought_back(dice: &mut Dice, board: &Board, lent: &Lent) -> Result<(), String> {
     let page = &board.page;
     let mut walked = Board { place: any_place(dice, page), ..*board };
@@ -125,6 +141,9 @@ fn brought_back(dice: &mut Dice, board: &Board, lent: &Lent) -> Result<(), Strin
         let strange = |latch: u8| latch != 0 && (latch < 128 || !page.field_mode());
         if strange(walked.place.latch) || strange(walked.place.row_latch) {
             return Err("a latch handed over".to_string());
+        }
+        if walked.place.row_code > if page.rows_have_codes() { 3 } else { 0 } {
+            return Err("a code handed over".to_string());
         }
     }
     let place = sheet::place_at(page, lent.chars, lent.attrs, page.frame_clocks());

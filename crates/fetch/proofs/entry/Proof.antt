@@ -5,7 +5,7 @@ use Rattle.fetch.proofs.entry.Tie as tie
 
 returns : tie.Need-returns
 unfolding entryOf
-returns c = rw (c .before .before .wide .ensures, c .wide2 .ensures)
+returns c = rw (c .before .wide .ensures, c .wide2 .ensures, c .before .before .byte-at2 .ensures, c .before .before .before .byte-at .ensures)
 
 pub entry-spec : {M : Type 1} → statement M
 entry-spec =
@@ -14,12 +14,10 @@ entry-spec =
     (λ c. search needs)
     (λ c. search needs)
     (λ c. search needs)
-    (λ c. search needs)
-    (λ c. search needs)
-    (λ c. search needs)
-    (λ c. search needs)
     (λ c κs. search needs)
     (λ c. search needs)
+    (λ c κs. search needs)
+    (λ c κs. search needs)
     (λ c κs. search needs)
     (λ c. search needs)
     (λ c. search needs)

@@ -1,25 +1,22 @@
 use borrow.Author.Needs.{needs}
 use Rattle.raster.specs.Moves.{toLast}
-use Rattle.timing.specs.Fields.{timingOf, countsOf}
 use Rattle.fetch.specs.Run.{runCount}
 use Rattle.fetch.proofs.run_count.Statement.{statement}
 use Rattle.fetch.proofs.run_count.Tie as tie
 
 returns : tie.Need-returns
-unfolding runCount toLast timingOf countsOf
+unfolding runCount toLast
 returns c =
     rw (
       c .least2 .ensures,
       c .before .least .ensures,
       c .before .before .before .buffer-of .ensures,
-      c .before .before .before .before .timing-of .ensures,
     )
 
 pub run-count-spec : {M : Type 1} → statement M
 run-count-spec =
     tie.close
     (tie.spec
-    (λ c κs. search needs)
     (λ c κs. search needs)
     (λ c. search needs)
     (λ c. search needs)

@@ -16,7 +16,7 @@ use Rattle.raster.specs.Moves.{cell}
 use Rattle.refusal.specs.Laws.{done-is, checked}
 use Rattle.board.specs.declared.Board.{Board}
 use Rattle.fetch.specs.declared.Span.{Span}
-use Rattle.fetch.specs.Rows.{rowStart}
+use Rattle.fetch.specs.Rows.{rowStart, fetchedOf}
 use Rattle.fetch.specs.Run.{runCheck, runCount, span, spanOf}
 use Rattle.fetch.specs.Laws.{Run, run-passed, row-start-lt, span-small}
 use Rattle.fetch.proofs.span_of.Statement.{statement}
@@ -25,28 +25,34 @@ use Rattle.fetch.proofs.span_of.Tie as tie
 fits : (b : Board) (chars : List ℕ) (row : ℕ) (s : Span) → s ≡ spanOf b chars row → (s .start + s .count ≤ 16384) × (s .start + s .count ≤ length chars)
 fits b chars row s e = rw e (span-small b chars row)
 
-shown : (b : Board) (chars : List ℕ) (row : ℕ) (x : Refusal) (a : Cell) (n : Clocks) → x ≡ runCheck b (length chars) row → doneOf (runCheck b (length chars) row) ≡ true
-    → a ≡ cell (rowStart (b .page) chars row) → n ≡ clocks (runCount (b .page) (a .address)) → span x (a .address) (n .0) ≡ spanOf b chars row
+shown : (b : Board) (chars : List ℕ) (row : ℕ) (x : Refusal) (m : Clocks) (a : Cell) (n : Clocks) → x ≡ runCheck b (length chars) row → doneOf (runCheck b (length chars) row) ≡ true
+    → m ≡ clocks (fetchedOf (b .page) chars row) → a ≡ cell (rowStart (b .page) chars row) → n ≡ clocks (runCount (b .page) (m .0) (a .address)) → span x (a .address) (n .0) ≡ spanOf b chars row
 unfolding spanOf
-shown b chars row x a n p t q r = rw (t, p, r, q)
+shown b chars row x m a n p t f q r = rw (t, p, r, f, q)
 
 passed : (c : tie.Then1) → Run (c .before .before .before .before .before .args .b) (length (now (c .before .before .before .before .before .args .chars))) (c .before .before .before .before .before .args .row)
 passed c = run-passed _ _ _ (done-is _ (checked (c .before .before .run-check .ensures) (c .before .is-done .ensures) (c .if1 .taken)))
 
-row-start-requires : tie.Need-row-start-requires
-row-start-requires c κs =
+fetched-of-requires : tie.Need-fetched-of-requires
+fetched-of-requires c κs =
     let k = passed c in
     (k .whole, omega (arith, k .row-lt))
 
+row-start-requires : tie.Need-row-start-requires
+row-start-requires c κs =
+    let k = passed (c .before) in
+    (k .whole, omega (arith, k .row-lt))
+
 run-count-requires : tie.Need-run-count-requires
-run-count-requires c κs = rw (c .before .row-start .ensures) (row-start-lt _ _ (passed (c .before .before) .page) _)
+run-count-requires c κs = rw (c .before .row-start .ensures) (row-start-lt _ _ (passed (c .before .before .before) .page) _)
 
 returns : tie.Need-returns
 returns c =
-    let then = c .before .before .before .before in
+    let fetched = c .before .before .before .before in
+    let then = fetched .before in
     let check = then .before .before .run-check .ensures in
-    let same = shown _ _ _ _ _ _ check (checked check (then .before .is-done .ensures) (then .if1 .taken))
-    (c .before .before .before .row-start .ensures) (c .before .run-count .ensures) in
+    let same = shown _ _ _ _ _ _ _ check (checked check (then .before .is-done .ensures) (then .if1 .taken))
+    (fetched .fetched-of .ensures) (c .before .before .before .row-start .ensures) (c .before .run-count .ensures) in
     (same, fits _ _ _ _ same .0, fits _ _ _ _ same .1)
 
 returns-2 : tie.Need-returns-2
@@ -61,6 +67,7 @@ span-of-spec =
     (tie.spec
     (λ c κs. search needs)
     (λ c κs. search needs)
+    fetched-of-requires
     row-start-requires
     (λ c. search needs)
     run-count-requires

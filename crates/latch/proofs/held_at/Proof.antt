@@ -10,53 +10,51 @@ use Rattle.raster.specs.Latch.{lastSet}
 use Rattle.board.specs.declared.Page.{Page}
 use Rattle.board.specs.Modes.{fieldMode}
 use Rattle.timing.specs.Fields.{hactOf, bufferOf}
-use Rattle.fetch.specs.Rows.{rowStart}
+use Rattle.fetch.specs.Rows.{rowStart, begunOf}
+use Rattle.fetch.specs.Laws.{begun-least}
 use Rattle.latch.specs.Held.{heldAt}
-use Rattle.latch.specs.Laws.{columns-of, rowByte, held-least, held-plain, looked-in, found-here, none-here}
+use Rattle.latch.specs.Laws.{rowByte, held-least, held-plain, looked-in, found-here, none-here}
 use Rattle.latch.proofs.held_at.Statement.{statement}
 use Rattle.latch.proofs.held_at.Tie as tie
 use Rattle.latch.proofs.held_at.Reads as reads
 use Rattle.latch.proofs.held_at.Lts as lts
 use Rattle.board.proofs.field_mode.Reads as field-mode-reads
+use Rattle.fetch.proofs.begun_of.Reads as begun-of-reads
 use Rattle.fetch.proofs.row_start.Reads as row-start-reads
 use Rattle.latch.proofs.held_before.Reads as held-before-reads
 use Rattle.latch.proofs.last_in_row.Reads as last-in-row-reads
 use Rattle.timing.proofs.buffer_of.Reads as buffer-of-reads
-use Rattle.timing.proofs.timing_of.Reads as timing-of-reads
-use Rattle.units.proofs.Clocks.least.Reads as least-reads
 
 returns : tie.Need-returns
 returns c = sym (held-plain _ _ _ (sym (c .before .field-mode .ensures) ∙ not-true _ (c .if1 .taken)) _ _)
 
 -- the search of the row itself
-module _ (c : lts.After-last-in-row (field-mode-reads.Asked, field-mode-reads.Learnt, timing-of-reads.Asked, timing-of-reads.Learnt, least-reads.Asked, least-reads.Learnt, row-start-reads.Asked, row-start-reads.Learnt, buffer-of-reads.Asked, buffer-of-reads.Learnt, last-in-row-reads.Asked, last-in-row-reads.Learnt, held-before-reads.Asked, held-before-reads.Learnt) reads.Pre reads.Post) where
+module _ (c : lts.After-last-in-row (field-mode-reads.Asked, field-mode-reads.Learnt, begun-of-reads.Asked, begun-of-reads.Learnt, row-start-reads.Asked, row-start-reads.Learnt, buffer-of-reads.Asked, buffer-of-reads.Learnt, last-in-row-reads.Asked, last-in-row-reads.Learnt, held-before-reads.Asked, held-before-reads.Learnt) reads.Pre reads.Post) where
   abbrev p : Page
-  p = c .before .before .before .before .before .before .before .before .before .before .args .p
+  p = c .before .before .before .before .before .before .before .before .before .args .p
 
   abbrev chars : List ℕ
-  chars = c .before .before .before .before .before .before .before .before .before .before .args .chars .now
+  chars = c .before .before .before .before .before .before .before .before .before .args .chars .now
 
   abbrev attrs : List ℕ
-  attrs = c .before .before .before .before .before .before .before .before .before .before .args .attrs .now
+  attrs = c .before .before .before .before .before .before .before .before .before .args .attrs .now
 
   abbrev row : ℕ
-  row = c .before .before .before .before .before .before .before .before .before .before .args .row
+  row = c .before .before .before .before .before .before .before .before .before .args .row
 
   abbrev column : ℕ
-  column = c .before .before .before .before .before .before .before .before .before .before .args .column .0
+  column = c .before .before .before .before .before .before .before .before .before .args .column .0
 
   abbrev byte : ℕ
   byte = c .last-in-row .result
 
   runs : fieldMode p ≡ true
-  runs = sym (c .before .before .before .before .before .before .before .field-mode .ensures) ∙ not-false _ (c .before .before .before .before .before .before .if1 .left)
+  runs = sym (c .before .before .before .before .before .before .field-mode .ensures) ∙ not-false _ (c .before .before .before .before .before .if1 .left)
 
-  few : c .before .before .before .least .result .0 ≡ min column (hactOf (p .irs))
-  few = ap (λ (k : Clocks). k .0) (c .before .before .before .least .ensures) ∙ ap (min column) (columns-of p _ (c .before .before .before .before .timing-of .ensures))
-
-  looked : byte ≡ lastSet (rowByte attrs (bufferOf (p .irs)) (rowStart p chars row)) 0 (min column (hactOf (p .irs)))
+  looked : byte ≡ lastSet (rowByte attrs (bufferOf (p .irs)) (rowStart p chars row)) 0 (begunOf p chars row (min column (hactOf (p .irs))))
   looked =
-      looked-in p chars attrs runs row (min column (hactOf (p .irs))) (c .before .buffer-of .ensures) (c .before .before .row-start .ensures) few (c .last-in-row .ensures)
+      looked-in p chars attrs runs row (begunOf p chars row (min column (hactOf (p .irs)))) (c .before .buffer-of .ensures) (c .before .before .row-start .ensures)
+      (ap (λ (k : Clocks). k .0) (c .before .before .before .begun-of .ensures) ∙ sym (begun-least p chars row column)) (c .last-in-row .ensures)
 
   found : (byte ≡ 0 → ⊥) → byte ≡ heldAt p chars attrs row column
   found some = found-here p chars attrs runs row (min column (hactOf (p .irs))) byte (omega arith) looked some ∙ held-least p chars attrs row column
@@ -68,7 +66,7 @@ returns-2 : tie.Need-returns-2
 returns-2 c = found (c .before) (c .if2 .taken)
 
 held-before-requires : tie.Need-held-before-requires
-held-before-requires c κs = let q = c .before .before .before .before .before .before .before .before .before .before .before .pre in (q .0, q .1, q .2, runs (c .before))
+held-before-requires c κs = let q = c .before .before .before .before .before .before .before .before .before .before .pre in (q .0, q .1, q .2, runs (c .before))
 
 returns-3 : tie.Need-returns-3
 returns-3 c = c .held-before .ensures ∙ none (c .before .before) (c .before .if2 .left)
@@ -79,7 +77,6 @@ held-at-spec =
     (tie.spec
     (λ c κs. search needs)
     returns
-    (λ c κs. search needs)
     (λ c κs. search needs)
     (λ c κs. search needs)
     (λ c κs. search needs)

@@ -1,75 +1,94 @@
 use Prim.Native.Nat.{ℕ, _≤_, _<_}
-use mathlib.Core.Path.{_≡_}
+use mathlib.Core.Path.{_≡_, ap}
 use native.Mathlib.Omega.{arith}
 use borrow.Author.Needs.{needs}
 use lib.ListN.{length, getD}
+use Rattle.units.specs.declared.Clocks.{Clocks}
 use Rattle.timing.specs.Fields.{timingOf, countsOf}
 use Rattle.timing.specs.Laws.{buffer-bounded}
-use Rattle.fetch.specs.Laws.{row-start-lt}
+use Rattle.fetch.specs.Laws.{row-start-lt, fetched-small}
 use Rattle.shape.specs.Font.{Font, fontOf}
 use Rattle.line.specs.Walk.{Prepared, prepared-of, ready, drawn}
 use Rattle.line.proofs.whole_line.Statement.{statement}
 use Rattle.line.proofs.whole_line.Tie as tie
 
--- where the function begins, from the place where the row's start is known, and what is known there
-abbrev begin : tie.After-row-start → tie.Start
-begin c = c .before .before .before .before .before .before .before .before .before .before .before .before .before .before
+-- where the function begins, from the place where the row is known, and what is known there
+abbrev begin : tie.After-row-of → tie.Start
+begin c = c .before .before .before .before .before .before .before .before .before .before .before
 
-abbrev font : tie.After-row-start → Font
+abbrev font : tie.After-row-of → Font
 font c = fontOf (begin c .args .words .now) (begin c .args .flags .now) (begin c .args .unshifted .now) (begin c .args .shifted .now)
 
--- what a search of the row's cells asks
-in-page : (c : tie.After-walk-of) → (length (c .before .before .before .before .before .before .before .before .before .before .before .before .before .args .chars .now) ≡ 16384) × (c .before .before .row-of .result < 8192)
-in-page c =
-    let start = c .before .before .before .before .before .before .before .before .before .before .before .before .before in
-    (start .pre .chars-all, rw (c .before .before .row-of .ensures) (omega (arith, start .pre .row-lt)))
+-- what is asked of the row
+in-page : (c : tie.After-row-of) → (length (begin c .args .chars .now) ≡ 16384) × (c .row-of .result < 8192)
+in-page c = (begin c .pre .chars-all, rw (c .row-of .ensures) (omega (arith, begin c .pre .row-lt)))
+
+code-at-requires : tie.Need-code-at-requires
+code-at-requires c κs = in-page c
 
 row-start-requires : tie.Need-row-start-requires
-row-start-requires c κs = in-page c
+row-start-requires c κs = in-page (c .before .before .before .before)
 
 held-at-requires : tie.Need-held-at-requires
-held-at-requires c κs = let q = in-page (c .before) in (q .0, begin c .pre .attrs-all, q .1)
+held-at-requires c κs =
+    let k = c .before .before .before .before .before in
+    (in-page k .0, begin k .pre .attrs-all, in-page k .1)
 
--- a row has at most 256 cells
-few : (c : tie.After-row-start) → c .before .before .before .before .timing-of .result .counts .hact .0 ≤ 256
-unfolding timingOf countsOf
-few c = rw (c .before .before .before .before .timing-of .ensures) (omega arith)
+fetched-of-requires : tie.Need-fetched-of-requires
+fetched-of-requires c κs = in-page (c .before .before .before .before .before .before)
+
+-- the row again, from the place where its cells are counted
+abbrev counted : tie.After-fetched-of → tie.After-row-of
+counted c = c .before .before .before .before .before .before .before
 
 gather-requires : tie.Need-gather-requires
 gather-requires c κs =
-    let k = c .before .before .before .before .before .before in (
+    let n = c .before .before .before .before in
+    let k = counted n in (
       begin k .pre .chars-all,
       begin k .pre .attrs-all,
-      few k,
+      rw (n .fetched-of .ensures) (fetched-small _ _ _ .1),
       rw (c .before .buffer-of .ensures) (buffer-bounded _),
-      rw (k .row-start .ensures) (row-start-lt _ _ (begin k .pre .page) _),
+      rw (n .before .before .row-start .ensures) (row-start-lt _ _ (begin k .pre .page) _),
     )
 
--- the row's start again, from the place where the levels are known
-abbrev started : tie.After-looks2 → tie.After-row-start
-started c = c .before .before .before .before .before .before .before .before .before .before .before
+-- and from the place where all is known
+abbrev cells : tie.After-is-wide → tie.After-fetched-of
+cells c = c .before .before .before .before .before .before .before .before .before .before .before
 
-prepared : (c : tie.After-looks2)
+abbrev started : tie.After-is-wide → tie.After-row-of
+started c = counted (cells c)
+
+prepared : (c : tie.After-is-wide)
     → Prepared (begin (started c) .args .b) (begin (started c) .args .chars .now) (begin (started c) .args .attrs .now) (font (started c)) (begin (started c) .args .line .0)
-    (begin (started c) .args .field) (started c .before .before .before .before .timing-of .result .counts .hact .0) (started c .before .walk-of .result) (c .before .before .before .before .gather .last .0) (c .looks2 .last .0)
+    (begin (started c) .args .field) (started c .before .timing-of .result .counts .hact .0) (cells c .before .before .before .walk-of .result) (c .is-wide .result)
+    (c .before .before .before .before .before .before .gather .last .0) (c .before .before .looks2 .last .0)
 prepared c =
     let k = started c in
-    prepared-of (begin k .args .b) _ _ (font k) _ _ _ _ (k .before .before .before .before .timing-of .ensures) (k .before .before .before .row-of .ensures) (k .before .before .line-of-row .ensures) (k .before .walk-of .ensures)
-    (k .row-start .ensures) (c .before .before .before .before .before .before .before .before .before .before .held-at .ensures) (c .before .before .before .before .before .before .before .reading-of .ensures) (c .before .before .before .before .before .before .buffer-of .ensures)
-    (c .before .before .before .before .gather .ensures .1) (c .before .scene-of .ensures) (c .looks2 .ensures)
+    let n = cells c in
+    let read = n .before .before .before .before .before .before in
+    let looked = c .before .before in
+    let gathered = looked .before .before .before .before in
+    prepared-of (begin k .args .b) _ _ (font k) _ _ _ _ (k .before .timing-of .ensures) (k .row-of .ensures) (read .code-at .ensures) (n .before .before .before .before .before .code-of .ensures)
+    (n .before .before .before .before .scan-at .ensures) (n .before .before .before .walk-of .ensures) (n .before .before .row-start .ensures) (n .before .held-at .ensures)
+    (ap (λ (x : Clocks). x .0) (n .fetched-of .ensures)) (gathered .before .before .before .reading-of .ensures) (gathered .before .before .buffer-of .ensures) (gathered .gather .ensures .1)
+    (looked .before .scene-of .ensures) (looked .looks2 .ensures) (c .is-wide .ensures)
 
-bytes : (c : tie.After-row-start) (i : ℕ) → getD (begin c .args .chars .now) i 0 < 256
-bytes c i = omega (arith, c .before .before .before .before .before .before .before .before .before .before .before .before .shared-slice-known .given i)
+bytes : (c : tie.After-row-of) (i : ℕ) → getD (begin c .args .chars .now) i 0 < 256
+bytes c i = omega (arith, c .before .before .before .before .before .before .before .before .before .shared-slice-known .given i)
 
-cells-requires : tie.Need-cells-requires
-cells-requires c κs =
-    let k = c .before .before .before .before in
-    ready _ _ _ (font (started k)) _ _ _ _ _ _ (prepared k) (bytes (started k)) (begin (started k) .pre) (omega (arith, few (started k))) (search needs)
+columns-requires : tie.Need-columns-requires
+unfolding timingOf countsOf
+columns-requires c κs =
+    let k = c .before .before .before in
+    let few : started k .before .timing-of .result .counts .hact .0 ≤ 256 = rw (started k .before .timing-of .ensures) (omega arith) in
+    let q = ready _ _ _ (font (started k)) _ _ _ _ _ _ _ (prepared k) (bytes (started k)) (begin (started k) .pre) (omega (arith, few)) (search needs) in
+    ((q .0, few), q .1)
 
 returns : tie.Need-returns
 returns c =
-    let k = c .before .before .before .before .before .before .before in
-    drawn _ _ _ (font (started k)) _ _ _ _ _ _ (prepared k) (bytes (started k)) (begin (started k) .pre .page) _ _ (c .before .before .cells .ensures)
+    let k = c .before .before .before .before .before .before in
+    drawn _ _ _ (font (started k)) _ _ _ _ _ _ _ (prepared k) (bytes (started k)) (begin (started k) .pre .page) _ _ (c .before .before .columns .ensures)
 
 pub whole-line-spec : {M : Type 1} → statement M
 whole-line-spec =
@@ -77,10 +96,13 @@ whole-line-spec =
     (tie.spec
     (λ c κs. search needs)
     (λ c κs. search needs)
+    code-at-requires
+    (λ c κs. search needs)
     (λ c κs. search needs)
     (λ c κs. search needs)
     row-start-requires
     held-at-requires
+    fetched-of-requires
     (λ c. search needs)
     (λ c κs. search needs)
     (λ c κs. search needs)
@@ -89,8 +111,9 @@ whole-line-spec =
     (λ c. search needs)
     (λ c κs. search needs)
     (λ c κs. search needs)
+    (λ c κs. search needs)
     (λ c. search needs)
     (λ c. search needs)
-    cells-requires
+    columns-requires
     (λ c. search needs)
     returns)

@@ -5,37 +5,37 @@ use borrow.Author.Needs.{needs}
 use lib.ListN.{drop, length, getD, length-take, length-drop}
 use Rattle.lists.specs.Fill.{Filling}
 use Rattle.lists.specs.Join.{joined, stretch-inside, join-begins, join-turn, join-ends}
-use Rattle.picture.specs.Plan.{columnOf, length-column, as-column}
+use Rattle.picture.specs.Plan.{cellFrom, length-cell, as-cell}
 use Rattle.picture.proofs.draw_cells.Statement.{statement}
 use Rattle.picture.proofs.draw_cells.Tie as tie
 
 abbrev Inv-loop : tie.InvT-loop
-Inv-loop out₀ cells low high looks n d s c₀ out c =
-    (c ≤ n) × Filling (joined 0 n (columnOf cells low high looks d s) ++ drop (n * d) out₀) out₀ (n * d) out (c * d) (joined c (n - c) (columnOf cells low high looks d s))
+Inv-loop out₀ cells low high looks count d s i₀ out i =
+    (i ≤ count) × Filling (joined 0 count (cellFrom cells low high looks d s) ++ drop (count * d) out₀) out₀ (count * d) out (i * d) (joined i (count - i) (cellFrom cells low high looks d s))
 
 abbrev μ-loop : tie.MeasureT-loop
-μ-loop out₀ cells low high looks n d s c₀ out c = n - c
+μ-loop out₀ cells low high looks count d s i₀ out i = count - i
 
 -- where the function begins, from a turn of the loop
 abbrev start : tie.In-loop Inv-loop μ-loop → tie.Start Inv-loop μ-loop
 start c = c .before .before .before .before .before .before .before .before .before .before
 
-room : (c : tie.In-loop Inv-loop μ-loop) → c .before .loop .c * start c .args .p .dots .0 + start c .args .p .dots .0 ≤ length (c .before .loop .out)
-room c = omega (arith, c .before .loop .inv .1 .same, stretch-inside (c .before .loop .c) (start c .args .p .columns .0) (start c .args .p .dots .0) _ (c .loop-test .taken) (start c .pre .1 .1))
+room : (c : tie.In-loop Inv-loop μ-loop) → c .before .loop .i * start c .args .p .dots .0 + start c .args .p .dots .0 ≤ length (c .before .loop .out)
+room c = omega (arith, c .before .loop .inv .1 .same, stretch-inside (c .before .loop .i) (start c .args .n .0) (start c .args .p .dots .0) _ (c .loop-test .taken) (start c .pre .1 .2))
 
 scan-lt : (c : tie.In-loop Inv-loop μ-loop) → start c .args .scan .0 < 16
 scan-lt c = omega (arith, start c .pre .1 .0, start c .pre .0 .0 .short)
 
-number-lt : (c : tie.In-loop Inv-loop μ-loop) → getD (start c .args .cells .now) (c .before .loop .c) 0 < 32768
+number-lt : (c : tie.In-loop Inv-loop μ-loop) → getD (start c .args .cells .now) (c .before .loop .i) 0 < 32768
 number-lt c = start c .pre .0 .2 _ (c .loop-test .taken)
 
 loop-holds : tie.Need-loop-holds Inv-loop μ-loop
 loop-holds c =
     let sheet = c .before .before .before .before .before .before .before .before .pre .0 .0 in
-    (omega arith, join-begins _ _ (length-column _ _ _ _ _ _ (sheet .least) (sheet .most)) _ _)
+    (omega arith, join-begins _ _ (length-cell _ _ _ _ _ _ (sheet .most)) _ _)
 
 shared-slice-read-number : tie.Need-shared-slice-read-number Inv-loop μ-loop
-shared-slice-read-number c = omega (arith, start (c .before) .pre .0 .1, start (c .before) .pre .0 .0 .few, c .before .loop-test .taken)
+shared-slice-read-number c = omega (arith, start (c .before) .pre .0 .1, start (c .before) .pre .1 .1, c .before .loop-test .taken)
 
 mul-code : tie.Need-mul-code Inv-loop μ-loop
 mul-code c = omega (arith, scan-lt (c .before))
@@ -88,7 +88,7 @@ shared-slice-read-put-cell-2 c =
 cast-put-cell-2 : tie.Need-cast-put-cell-2 Inv-loop μ-loop
 cast-put-cell-2 c =
     let i = c .before .before .before .before .before in
-    omega (arith, c .before .before .before .shared-slice-known6 .given (start i .args .scan .0 * 128 + getD (start i .args .cells .now) (i .before .loop .c) 0 / 256))
+    omega (arith, c .before .before .before .shared-slice-known6 .given (start i .args .scan .0 * 128 + getD (start i .args .cells .now) (i .before .loop .i) 0 / 256))
 
 put-cell-requires : tie.Need-put-cell-requires Inv-loop μ-loop
 put-cell-requires c κs =
@@ -108,8 +108,8 @@ loop-again c =
     let pre = start i .pre in
     let a = start i .args in (
       omega (arith, i .loop-test .taken),
-      join-turn _ _ (length-column _ _ _ _ _ _ (pre .0 .0 .least) (pre .0 .0 .most)) _ _ _ (i .before .loop .inv .1) (i .loop-test .taken) (pre .1 .1)
-          (as-column (a .cells .now) (a .low .now) (a .high .now) (a .looks .now) _ _ _ _ _ (put .put-cell .ensures)),
+      join-turn _ _ (length-cell _ _ _ _ _ _ (pre .0 .0 .most)) _ _ _ (i .before .loop .inv .1) (i .loop-test .taken) (pre .1 .2)
+          (as-cell (a .cells .now) (a .low .now) (a .high .now) (a .looks .now) _ _ _ _ _ (put .put-cell .ensures)),
     )
 
 same-length : tie.Need-same-length Inv-loop μ-loop
@@ -118,7 +118,7 @@ same-length c = c .before .loop .inv .1 .same
 returns : tie.Need-returns Inv-loop μ-loop
 returns c =
     let sheet = c .before .before .before .before .before .before .before .before .before .before .pre .0 .0 in
-    join-ends _ _ (length-column _ _ _ _ _ _ (sheet .least) (sheet .most)) _ _ (c .before .loop .inv .1) (omega arith) (omega arith)
+    join-ends _ _ (length-cell _ _ _ _ _ _ (sheet .most)) _ _ (c .before .loop .inv .1) (omega arith) (omega arith)
 
 pub draw-cells-spec : {M : Type 1} → statement M
 draw-cells-spec =

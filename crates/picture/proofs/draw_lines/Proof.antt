@@ -5,59 +5,68 @@ use borrow.Author.Needs.{needs}
 use lib.ListN.{drop, length, length-take, length-drop}
 use Rattle.lists.specs.Fill.{Filling}
 use Rattle.lists.specs.Join.{joined, stretch-inside, join-begins, join-turn, join-ends}
-use Rattle.picture.specs.Plan.{lineFrom, length-line, as-line}
+use Rattle.dots.specs.Half.{cells-same}
+use Rattle.picture.specs.Plan.{scan-lt, lineFrom, length-line, as-line}
 use Rattle.picture.proofs.draw_lines.Statement.{statement}
 use Rattle.picture.proofs.draw_lines.Tie as tie
 
 abbrev Inv-loop : tie.InvT-loop
-Inv-loop out₀ p cells low high looks n width s₀ out s =
+Inv-loop out₀ p k cells low high looks n width wide s₀ out s =
     (s ≤ n)
-    × Filling (joined 0 n (lineFrom cells low high looks (p .columns .0) (p .dots .0)) ++ drop (n * width) out₀) out₀ (n * width) out (s * width)
-    (joined s (n - s) (lineFrom cells low high looks (p .columns .0) (p .dots .0)))
+    × Filling (joined 0 n (lineFrom p k cells low high looks) ++ drop (n * width) out₀) out₀ (n * width) out (s * width)
+    (joined s (n - s) (lineFrom p k cells low high looks))
 
 abbrev μ-loop : tie.MeasureT-loop
-μ-loop out₀ p cells low high looks n width s₀ out s = n - s
+μ-loop out₀ p k cells low high looks n width wide s₀ out s = n - s
 
 -- where the function begins, from a turn of the loop
 abbrev start : tie.In-loop Inv-loop μ-loop → tie.Start Inv-loop μ-loop
-start c = c .before .before .before .before .before .before .before .before
+start c = c .before .before .before .before .before .before .before .before .before
 
 room : (c : tie.In-loop Inv-loop μ-loop) → c .before .loop .s * start c .args .p .width + start c .args .p .width ≤ length (c .before .loop .out)
 room c = omega (arith, c .before .loop .inv .1 .same, stretch-inside (c .before .loop .s) (start c .args .p .lines .0) (start c .args .p .width) _ (c .loop-test .taken) (start c .pre .1))
 
 loop-holds : tie.Need-loop-holds Inv-loop μ-loop
 loop-holds c =
-    let sheet = c .before .before .before .before .before .before .pre .0 .0 in
-    (omega arith, join-begins _ _ (length-line _ _ _ _ _ _ _ (sheet .least) (sheet .most) (sheet .width-is)) _ _)
+    let sheet = c .before .before .before .before .before .before .before .pre .0 .0 in
+    (omega arith, join-begins _ _ (length-line _ _ _ _ _ _ (sheet .least) (sheet .most) (sheet .width-is)) _ _)
 
 mul-a : tie.Need-mul-a Inv-loop μ-loop
 mul-a c = omega (arith, room c)
 
-cast-t13 : tie.Need-cast-t13 Inv-loop μ-loop
-cast-t13 c = omega (arith, c .loop-test .taken, start c .pre .0 .0 .short)
+cast-t15 : tie.Need-cast-t15 Inv-loop μ-loop
+cast-t15 c = omega (arith, c .loop-test .taken, start c .pre .0 .0 .short)
 
-sub-draw-cells : tie.Need-sub-draw-cells Inv-loop μ-loop
-sub-draw-cells c = omega (arith, room c)
+scan-of-requires : tie.Need-scan-of-requires Inv-loop μ-loop
+scan-of-requires c κs = let short = start c .pre .0 .0 .short in (omega (arith, short), omega (arith, short, c .loop-test .taken))
 
-part-draw-cells-start : tie.Need-part-draw-cells-start Inv-loop μ-loop
-part-draw-cells-start c = omega (arith, room c)
+sub-draw-columns : tie.Need-sub-draw-columns Inv-loop μ-loop
+sub-draw-columns c = omega (arith, room (c .before))
 
-draw-cells-requires : tie.Need-draw-cells-requires Inv-loop μ-loop
-draw-cells-requires c κs =
-    let i = c .before in
+part-draw-columns-start : tie.Need-part-draw-columns-start Inv-loop μ-loop
+part-draw-columns-start c = omega (arith, room (c .before))
+
+draw-columns-requires : tie.Need-draw-columns-requires Inv-loop μ-loop
+draw-columns-requires c κs =
+    let scan = c .before in
+    let i = scan .before in
     let pre = start i .pre in
-    (pre .0, (i .loop-test .taken, simp (length-take, length-drop) (omega (arith, room i, pre .0 .0 .width-is))))
+    let wide = i .before .before .is-wide .ensures in (
+      (pre .0 .0, pre .0 .1, (λ j h. pre .0 .2 j (cells-same wide j (start i .args .p .columns .0) h))),
+      (rw (scan .scan-of .ensures) (scan-lt (start i .args .k) _ _ (i .loop-test .taken)), simp (length-take, length-drop) (omega (arith, room i))),
+    )
 
 loop-again : tie.Need-loop-again Inv-loop μ-loop
 loop-again c =
     let call = c .before .before in
-    let i = call .before .before in
+    let scan = call .before .before in
+    let i = scan .before in
     let pre = start i .pre in
     let sheet = pre .0 .0 in
     let a = start i .args in (
       omega (arith, i .loop-test .taken),
-      join-turn _ _ (length-line _ _ _ _ _ _ _ (sheet .least) (sheet .most) (sheet .width-is)) _ _ _ (i .before .loop .inv .1) (i .loop-test .taken) (pre .1)
-          (as-line (a .cells .now) (a .low .now) (a .high .now) (a .looks .now) _ _ _ _ _ _ (sheet .width-is) (call .draw-cells .ensures)),
+      join-turn _ _ (length-line _ _ _ _ _ _ (sheet .least) (sheet .most) (sheet .width-is)) _ _ _ (i .before .loop .inv .1) (i .loop-test .taken) (pre .1)
+          (as-line _ _ (a .cells .now) (a .low .now) (a .high .now) (a .looks .now) _ _ _ (scan .scan-of .ensures) (i .before .before .is-wide .ensures) (call .draw-columns .ensures)),
     )
 
 same-length : tie.Need-same-length Inv-loop μ-loop
@@ -65,8 +74,8 @@ same-length c = c .before .loop .inv .1 .same
 
 returns : tie.Need-returns Inv-loop μ-loop
 returns c =
-    let sheet = c .before .before .before .before .before .before .before .before .pre .0 .0 in
-    join-ends _ _ (length-line _ _ _ _ _ _ _ (sheet .least) (sheet .most) (sheet .width-is)) _ _ (c .before .loop .inv .1) (omega arith) (omega arith)
+    let sheet = c .before .before .before .before .before .before .before .before .before .pre .0 .0 in
+    join-ends _ _ (length-line _ _ _ _ _ _ (sheet .least) (sheet .most) (sheet .width-is)) _ _ (c .before .loop .inv .1) (omega arith) (omega arith)
 
 pub draw-lines-spec : {M : Type 1} → statement M
 draw-lines-spec =
@@ -75,13 +84,15 @@ draw-lines-spec =
     Inv-loop
     μ-loop
     (λ c. search needs)
+    (λ c κs. search needs)
     loop-holds
     mul-a
-    cast-t13
-    sub-draw-cells
-    part-draw-cells-start
+    cast-t15
+    scan-of-requires
+    sub-draw-columns
+    part-draw-columns-start
     (λ c. search needs)
-    draw-cells-requires
+    draw-columns-requires
     (λ c. search needs)
     (λ c. search needs)
     loop-again

@@ -8,7 +8,7 @@ returns : tie.Need-returns
 returns c = moved-active _ _ _ _ (sym (c .before .before .active-at .ensures) ∙ c .before .if1 .taken) _ (c .past-cell .ensures)
 
 returns-2 : tie.Need-returns-2
-returns-2 c = moved-held _ (c .before .before .before .before .before .args .attrs .now) _ _ (sym (c .before .active-at .ensures) ∙ c .if1 .left)
+returns-2 c = moved-held _ (c .before .before .before .before .before .before .args .attrs .now) _ _ (sym (c .before .active-at .ensures) ∙ c .if1 .left)
 
 pub moved-on-spec : {M : Type 1} → statement M
 moved-on-spec = tie.close (tie.spec (λ c κs. search needs) (λ c κs. search needs) returns returns-2)

@@ -5,10 +5,12 @@ use Rattle.place.proofs.past_cell.Tie as tie
 returns : tie.Need-returns
 returns c =
     rw (
-      c .latched .ensures,
-      c .before .set-by .ensures,
-      c .before .before .before .before .advance-one .ensures,
-      c .before .before .before .before .before .buffer-of .ensures,
+      c .next-latch .ensures,
+      c .before .before .again-at .ensures,
+      c .before .before .before .code-of2 .ensures,
+      c .before .before .before .before .next-cell .ensures,
+      c .before .before .before .before .before .ends-at .ensures,
+      c .before .before .before .before .before .before .code-of .ensures,
     )
 
 pub past-cell-spec : {M : Type 1} → statement M
@@ -17,8 +19,10 @@ past-cell-spec =
     (tie.spec
     (λ c κs. search needs)
     (λ c κs. search needs)
-    (λ c. search needs)
-    (λ c. search needs)
     (λ c κs. search needs)
+    (λ c κs. search needs)
+    (λ c κs. search needs)
+    (λ c. search needs)
+    (λ c. search needs)
     (λ c κs. search needs)
     returns)

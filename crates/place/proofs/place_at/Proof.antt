@@ -18,10 +18,10 @@ quotient-requires c κs = vt-pos _ _ (c .before .before .before .timing-of .ensu
 
 returns : tie.Need-returns
 returns c =
-    place-at _ _ _ _ _ (c .before .before .before .before .before .before .before .timing-of .ensures) _
-    (c .before .before .before .before .before .whole-lines .ensures) _ (c .before .before .before .before .before .before .remainder .ensures) _
-    (c .before .before .before .before .remainder2 .ensures) _ (c .before .before .before .quotient .ensures) _
-    (c .before .before .carried-before .ensures)
+    place-at _ _ _ _ _ (c .before .before .before .before .before .before .timing-of .ensures) _
+    (c .before .before .before .before .whole-lines .ensures) _ (c .before .before .before .before .before .remainder .ensures) _
+    (c .before .before .before .remainder2 .ensures) _ (c .before .before .quotient .ensures) _
+    (c .before .carried-before .ensures)
 
 pub place-at-spec : {M : Type 1} → statement M
 place-at-spec =

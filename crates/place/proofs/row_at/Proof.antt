@@ -5,10 +5,10 @@ use Rattle.place.proofs.row_at.Tie as tie
 
 returns : tie.Need-returns
 returns c =
-    row-at _ _ _ _ _ _ _ _ _ (c .before .before .before .cell-at .ensures) (c .before .before .row-start .ensures) (c .before .held-at .ensures)
-    (c .held-at2 .ensures)
+    row-at _ _ _ _ _ _ _ _ _ (c .before .before .before .before .cell-at .ensures) (c .before .before .before .row-start .ensures) (c .before .held-at .ensures)
+    (c .held-at2 .ensures) _ (c .before .before .code-at .ensures)
 
 pub row-at-spec : {M : Type 1} → statement M
 row-at-spec =
     tie.close
-    (tie.spec (λ c κs. search needs) (λ c κs. search needs) (λ c κs. search needs) (λ c κs. search needs) returns)
+    (tie.spec (λ c κs. search needs) (λ c κs. search needs) (λ c κs. search needs) (λ c κs. search needs) (λ c κs. search needs) returns)

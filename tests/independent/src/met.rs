@@ -1,0 +1,139 @@
+//! What the scripts met of R-4: whole frames by the codes of their rows, and where runs of steps began. A number that no
+//! script meets is as empty as an answer that none gets.
+
+use std::collections::BTreeMap;
+
+const CODED: [&str; 2] = ["character+codes", "field+codes"];
+const UNCODED: [&str; 2] = ["character", "field"];
+
+/// Under which heads the rows of a frame count: each cell width, and what of its shape matters.
+const HEADS: [&str; 16] = [
+    "dots 6",
+    "dots 7",
+    "dots 8",
+    "dots 9",
+    "dots 10",
+    "dots 11",
+    "dots 12",
+    "columns 1",
+    "columns odd",
+    "columns even",
+    "lines 1",
+    "lines odd",
+    "lines even",
+    "wrapped",
+    "cursor",
+    "latched",
+];
+
+/// Places of `from`, and code bytes.
+const PLACES: [&str; 6] = ["off", "load", "plain", "left", "right", "last"];
+const BYTES: [&str; 5] = ["0", "1", "2", "3", "above 3"];
+
+#[derive(Default)]
+pub struct Met {
+    /// By mode and head, for each code.
+    frames: BTreeMap<(String, String), [u64; 4]>,
+    /// By mode and place, for each kind of code byte.
+    begun: BTreeMap<(String, String), [u64; 5]>,
+}
+
+impl Met {
+    /// An answer's line: a frame, or a run of steps that was not refused.
+    pub fn count(&mut self, line: &str) {
+        let words: Vec<&str> = line.split(' ').collect();
+        match words[..] {
+            ["frame", _, "agree", mode, "dots", dots, "columns", columns, "lines", lines, ref counts @ ..] => {
+                let shape = [format!("dots {}", dots), size("columns", columns), size("lines", lines)];
+                self.frame(mode, &shape, counts);
+            }
+            ["step", _, mode, _, "0", _, "from", place, code, ..] => {
+                let kind = code.parse().map_or(4, |code: usize| code.min(4));
+                self.begun.entry((mode.to_string(), place.to_string())).or_default()[kind] += 1;
+            }
+            _ => (),
+        }
+    }
+
+    /// COUNTS are words, each with a number for each code behind it.
+    fn frame(&mut self, mode: &str, shape: &[String], counts: &[&str]) {
+        for part in counts.chunks(5) {
+            let rows = part[0] == "rows";
+            let heads = if rows { shape.to_vec() } else { vec![part[0].to_string()] };
+            for head in heads {
+                let sums = self.frames.entry((mode.to_string(), head)).or_default();
+                sums.iter_mut().zip(&part[1..]).for_each(|(sum, count)| *sum += count.parse().unwrap_or(0));
+            }
+        }
+    }
+
+    /// Prints two tables and gives how many of their allowed cells are empty.
+    pub fn print(&self) -> u64 {
+        println!("\n{:<16}{:<16}{:>12}{:>12}{:>12}{:>12}", "frames: rows", "mode", "00", "01", "10", "11");
+        let mut empty = 0;
+        for mode in CODED {
+            for head in HEADS.iter().filter(|&&head| latches(mode, head)) {
+                let counts = self.frames.get(&(mode.to_string(), head.to_string())).copied().unwrap_or_default();
+                empty += print_row(head, mode, &counts, |_| true);
+            }
+        }
+        print!("\n{:<16}{:<16}", "steps from", "mode");
+        BYTES.iter().for_each(|byte| print!("{:>12}", byte));
+        println!();
+        for mode in UNCODED.into_iter().chain(CODED) {
+            for place in PLACES {
+                let counts = self.begun.get(&(mode.to_string(), place.to_string())).copied().unwrap_or_default();
+                empty += print_row(place, mode, &counts, |byte| may_begin(mode, place, byte));
+            }
+        }
+        empty
+    }
+
+    /// Runs that began where none can.
+    pub fn strange(&self) -> Vec<String> {
+        let cells = self.begun.iter().flat_map(|((mode, place), counts)| {
+            let met = (0..BYTES.len()).filter(|&byte| counts[byte] > 0 && !may_begin(mode, place, byte));
+            met.map(move |byte| format!("step {} from {} with code {}", mode, place, BYTES[byte]))
+        });
+        cells.collect()
+    }
+}
+
+fn size(name: &str, number: &str) -> String {
+    let odd = number.parse().map_or(false, |number: u32| number % 2 == 1);
+    match number {
+        "1" => format!("{} 1", name),
+        _ => format!("{} {}", name, if odd { "odd" } else { "even" }),
+    }
+}
+
+/// Nothing is latched in character mode.
+fn latches(mode: &str, head: &str) -> bool {
+    head != "latched" || mode == "field+codes"
+}
+
+/// Without IR0[7] every row is plain; with it a byte's two low bits tell.
+fn may_begin(mode: &str, place: &str, byte: usize) -> bool {
+    let coded = CODED.contains(&mode);
+    match place {
+        "off" | "load" => true,
+        "plain" => !coded || byte == 0 || byte == 4,
+        _ => coded && byte != 0,
+    }
+}
+
+fn print_row(head: &str, mode: &str, counts: &[u64], allowed: impl Fn(usize) -> bool) -> u64 {
+    let mut empty = 0;
+    print!("{:<16}{:<16}", head, mode);
+    for (at, &count) in counts.iter().enumerate() {
+        let text = match (allowed(at), count) {
+            (true, 0) => "EMPTY".to_string(),
+            (false, 0) => ".".to_string(),
+            (_, count) => count.to_string(),
+        };
+        empty += u64::from(text == "EMPTY");
+        print!("{:>12}", text);
+    }
+    println!();
+    empty
+}
