@@ -80,7 +80,7 @@ pub fn fetched_of(p: board::Page, chars: &[u8], row: u32) -> units::Clocks
     hact
 }
 
-// How many of them by a column.
+// How many of them it has moved on from by a column.
 fn moved_of(p: board::Page, chars: &[u8], row: u32, column: units::Clocks) -> units::Clocks
     requires { ⌜ (length (now chars) ≡ 16384) × (row < 8192) ⌝ }
     ensures { λ r. ⌜ r ≡ clocks (movedOf p (now (chars .entry)) row (column .0)) ⌝ }
