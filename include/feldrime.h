@@ -10,8 +10,10 @@
    feldrime_size_of(&page) tells how many lines the picture has and how many dots a line has. What blinks goes by the
    field count, which is the frame's number modulo 256; a still picture is field 0. examples/draw.c does just this.
    feldrime_draw_line draws a single line, feldrime_cells_of tells which cells of the memories a row shows, and
-   feldrime_write_page makes a page file. All these are short forms of calls over plain buffers, which stand before them
-   and say what is refused. The calls for an editor, which steps a board clock by clock, come last.
+   feldrime_write_page makes a page file. feldrime_page_to_table makes a typed sheet a page with a row table, as those of
+   a catalogue are, and feldrime_page_to_sheet makes it a sheet again. All these are short forms of calls over plain
+   buffers, which stand before them and say what is refused. The calls for an editor, which steps a board clock by clock,
+   come last.
 
    For every call:
    - A slice is a pointer and a count of elements, not of bytes. The pointer is NULL only where the count is 0; words and
@@ -25,7 +27,7 @@
      2, which is HACT + HSYNC + HBP + 2 - HT; else it is 0. On a refusal the results are 0, unless the call says otherwise.
    - The library keeps nothing between calls, and has no state of its own. Threads may call it at the same time, as long
      as a buffer that is being written is used by one call at a time. feldrime_picture_draw needs at most 80 KB of stack,
-     the other calls little. */
+     feldrime_to_table at most 20 KB, the other calls little. */
 #ifndef FELDRIME_H
 #define FELDRIME_H
 
@@ -39,7 +41,7 @@ extern "C" {
 /* The version of this header and of the archive that it belongs to. While it stays, all that is said here stays, though
    calls may be added. With another version calls, structs, sizes and refusal numbers may be others, and so may what is
    accepted and drawn: a program is then read through and compiled again. Files have versions of their own. */
-#define FELDRIME_VERSION 4
+#define FELDRIME_VERSION 5
 
 /* The sizes of buffers, in elements. */
 enum {
@@ -72,7 +74,11 @@ enum {
     FELDRIME_REFUSED_ADDRESS = 12,
     FELDRIME_REFUSED_BACK_PORCH = 13,
     FELDRIME_REFUSED_LINE_SHORT = 14,
-    FELDRIME_REFUSED_FRONT_PORCH = 15
+    FELDRIME_REFUSED_FRONT_PORCH = 15,
+    FELDRIME_REFUSED_KIND = 16,
+    FELDRIME_REFUSED_STRETCH = 17,
+    FELDRIME_REFUSED_APART = 18,
+    FELDRIME_REFUSED_CODED = 19
 };
 
 /* What a refusal number means, in words that name all its causes. */
@@ -110,6 +116,15 @@ static inline const char *feldrime_meaning(uint32_t refusal)
                "(EC in IR1, HSYNC and HBP in IR2, HACT in IR5)";
     case FELDRIME_REFUSED_FRONT_PORCH:
         return "the front porch is 0 or 1 clocks, and 2 are needed (EC in IR1, HSYNC and HBP in IR2, HACT in IR5)";
+    case FELDRIME_REFUSED_KIND:
+        return "the page is already of the kind asked for, with the row table (IR2[7]) or without it";
+    case FELDRIME_REFUSED_STRETCH:
+        return "there is no room for a row table: no stretch of two cells a row, not passing cell 16383, "
+               "that no row fetches";
+    case FELDRIME_REFUSED_APART:
+        return "some row after the first does not begin where the row before it ended";
+    case FELDRIME_REFUSED_CODED:
+        return "rows have codes (IR0[7]), and the rows of a sheet have none";
     default:
         return "no refusal has this number";
     }
@@ -145,8 +160,9 @@ static inline const char *feldrime_meaning(uint32_t refusal)
 
    A page shows rows x scan lines lines, of HACT x dots dots each. Cells follow one another in memory; after the last
    buffer address comes the first, and after 16383 comes 0. Row 0 begins at screen start 1, and each later row where the
-   one before it ended. With the row table on, row r begins at the address that the two character bytes at screen start 2
-   + 2r hold: low byte, then high byte, of which six bits count.
+   one before it ended: such a page is a sheet. With the row table on, row r begins at the address that two character
+   bytes hold, at screen start 2 + 2r and at the place after it, each modulo 16384: low byte, then high byte, of which six
+   bits count.
 
    While IR0[7] is set, the two upper bits of that high byte are the row's code: 00 plain, 01 double width, 10 double
    width and top half, 11 double width and bottom half. A row of double width has half as many cells, rounded up: column c
@@ -267,6 +283,28 @@ feldrime_cells feldrime_row_cells(
     uint32_t row,
     uint16_t *cells, size_t cells_count);
 
+/* Makes a sheet a page with the row table, whose picture is the same in every field. Writes a table of two bytes a row,
+   the low byte first and the upper two bits of the high byte 0, into the lowest stretch of consecutive cells, not passing
+   16383, that no row fetches. Screen start 2 becomes the first of these cells, and IR2[7] is set. All else stays: the
+   other numbers, bytes 25 to 31 too, and the other cells. What the characters of the table's cells were is gone. Refuses
+   3, 12, 4, 13, 14, 15, 6, 16, 17. 16 is for a page that has the row table. */
+feldrime_answer feldrime_to_table(
+    uint8_t *numbers, size_t numbers_count,
+    uint8_t *chars, size_t chars_count);
+
+/* The way back, for a page with the row table and without IR0[7], of which each row after the first begins where the row
+   before it ended: it becomes a sheet, whose picture is the same in every field. Screen start 1 becomes where row 0
+   begins, and IR2[7] is cleared. All else stays, the table in its cells too. So a sheet moved there and back differs only
+   in screen start 2 and in the table's cells. Refuses 3, 12, 4, 13, 14, 15, 6, 16, 19, 18. 16 is for a page without the
+   row table.
+
+   A board is moved by its numbers, either way: feldrime_numbers_of, the move, and then
+   board.page = feldrime_board_of(numbers, FELDRIME_NUMBERS).board.page, which leaves place, pointer and resets. Moved at a
+   clock that its own steps led to, it goes on showing the same. */
+feldrime_answer feldrime_to_sheet(
+    uint8_t *numbers, size_t numbers_count,
+    const uint8_t *chars, size_t chars_count);
+
 /* ---- short forms: a page and a font as structs ---- */
 
 /* Some 32 KB, so better static or allocated than on a small stack. The parts may be read and changed at will: typing is
@@ -349,6 +387,20 @@ static inline feldrime_cells feldrime_cells_of(
     uint16_t *cells, size_t cells_count)
 {
     return feldrime_row_cells(page->numbers, FELDRIME_NUMBERS, page->chars, FELDRIME_MEMORY, row, cells, cells_count);
+}
+
+/* feldrime_to_table */
+static inline feldrime_answer feldrime_page_to_table(
+    feldrime_page *page)
+{
+    return feldrime_to_table(page->numbers, FELDRIME_NUMBERS, page->chars, FELDRIME_MEMORY);
+}
+
+/* feldrime_to_sheet */
+static inline feldrime_answer feldrime_page_to_sheet(
+    feldrime_page *page)
+{
+    return feldrime_to_sheet(page->numbers, FELDRIME_NUMBERS, page->chars, FELDRIME_MEMORY);
 }
 
 /* ---- for an editor ---- */

@@ -17,6 +17,8 @@ static const struct word {
     { "rows", rows_word, rows_usage, rows_help, "tells where each row of a page comes from" },
     { "site", site_word, site_usage, site_help, "makes a web site of pages" },
     { "check", check_word, check_usage, check_help, "says whether a page could be drawn" },
+    { "catalogue", catalogue_word, catalogue_usage, catalogue_help, "makes a typed sheet a page with a row table" },
+    { "sheet", sheet_word, sheet_usage, sheet_help, "makes a page with a row table a typed sheet" },
 };
 enum { WORDS = sizeof words / sizeof *words };
 

@@ -14,7 +14,7 @@ static bool unread(char why[WHY])
     return false;
 }
 
-static bool judge(feldrime_answer answer, const char *hint, char why[WHY])
+bool judge(feldrime_answer answer, const char *hint, char why[WHY])
 {
     int end = snprintf(why, WHY, "refused %u, %s%s", (unsigned)answer.refusal, feldrime_meaning(answer.refusal), hint);
 

@@ -22,6 +22,9 @@ enum { WHY = 256 };
 bool read_page(const char *name, struct page *page, char why[WHY]);
 bool read_font(const char *name, feldrime_font *font, char why[WHY]);
 
+/* Whether an answer is no refusal. why becomes its number and words, and then the hint. */
+bool judge(feldrime_answer answer, const char *hint, char why[WHY]);
+
 /* The addresses of the cells that a row shows. Gives their count, which of a row of double width is half of
    page->columns, rounded up. */
 uint32_t cells_of(const struct page *page, uint32_t row, uint16_t cells[FELDRIME_CELLS]);

@@ -12,7 +12,7 @@
 
 #include "feldrime.h"
 
-enum { LONGEST_FRAME = 826752, WORDS_IN_A_LINE = 8, BOARD_BYTES = 46, MOST_ROWS = 128, CODES = 4 };
+enum { LONGEST_FRAME = 826752, MOST_CLOCKS = 30000, WORDS_IN_A_LINE = 8, BOARD_BYTES = 46, MOST_ROWS = 128, CODES = 4 };
 
 static unsigned long script_line;
 
@@ -417,7 +417,7 @@ static char results[512]; /* of the call that is being reported, "" or beginning
 
 static const int of_nothing[] = { ALL };
 static const int of_numbers[] = { NUMBERS, ALL };
-static const int of_run[] = { NUMBERS, CHARS, ALL };
+static const int of_run[] = { NUMBERS, CHARS, ALL }; /* and of the moves */
 static const int of_cells[] = { NUMBERS, CHARS, CELLS, ALL };
 static const int of_memories[] = { CHARS, ATTRS, ALL };
 static const int of_step[] = { CHARS, ATTRS, WORDS, FLAGS, UNSHIFTED, SHIFTED, ALL };
@@ -536,6 +536,37 @@ static void call_row_cells(char **word)
 
     RESULTS(" count %" PRIu32, answer.count);
     report("row_cells", by_numbers(), 1, answer.refusal, answer.beside, of_cells);
+}
+
+/* Which page was handed over is asked first: the call changes the numbers. */
+static uint32_t to_table(void)
+{
+    struct handed handed = by_numbers();
+    feldrime_answer answer = feldrime_to_table(BYTES(NUMBERS), BYTES(CHARS));
+
+    report_answer("to_table", handed, answer, of_run);
+    return answer.refusal;
+}
+
+static uint32_t to_sheet(void)
+{
+    struct handed handed = by_numbers();
+    feldrime_answer answer = feldrime_to_sheet(BYTES(NUMBERS), BYTES(CHARS));
+
+    report_answer("to_sheet", handed, answer, of_run);
+    return answer.refusal;
+}
+
+static void call_to_table(char **word)
+{
+    (void)word;
+    to_table();
+}
+
+static void call_to_sheet(char **word)
+{
+    (void)word;
+    to_sheet();
 }
 
 /* The board becomes the answer's. */
@@ -662,18 +693,24 @@ static const char *shown_text(void)
     return text;
 }
 
+static uint64_t add_shown(uint64_t sum, const feldrime_step_answer *a)
+{
+    const uint32_t shown[] = { a->refusal, a->beside, a->hsync, a->vsync, a->blank, a->cursor, a->blink, a->address };
+
+    for (size_t i = 0; i < sizeof shown / sizeof *shown; i++)
+        sum = add(sum, shown[i]);
+    for (size_t i = 0; i < sizeof a->dots; i++)
+        sum = add(sum, a->dots[i]);
+    return sum;
+}
+
 static void add_step(void)
 {
-    const feldrime_step_answer *a = &steps.last;
-    const uint32_t before[] = { a->refusal, a->beside, a->hsync, a->vsync, a->blank, a->cursor, a->blink, a->address };
     const uint32_t after[] = { board->place.field, board->place.line, board->place.clock,
                                board->place.beam.address, board->place.beam.latch,
                                board->place.row.address, board->place.row.latch, board->place.row.code };
 
-    for (size_t i = 0; i < sizeof before / sizeof *before; i++)
-        steps.sum = add(steps.sum, before[i]);
-    for (size_t i = 0; i < sizeof a->dots; i++)
-        steps.sum = add(steps.sum, a->dots[i]);
+    steps.sum = add_shown(steps.sum, &steps.last);
     for (size_t i = 0; i < sizeof after / sizeof *after; i++)
         steps.sum = add(steps.sum, after[i]);
 }
@@ -865,6 +902,199 @@ static void do_frame(char **word)
     free(frame.addresses);
 }
 
+/* ---- a page moved to the other kind and back ---- */
+
+/* What a move is lent. */
+struct movable {
+    uint8_t numbers[FELDRIME_NUMBERS], chars[FELDRIME_MEMORY];
+};
+
+/* What a page shows: pictures of some fields, end to end, and its first clocks. */
+struct look {
+    bool refused;
+    size_t dots;
+    uint8_t *pictures;
+    uint32_t clocks;
+    feldrime_step_answer *steps;
+};
+
+static void *some_memory(size_t count, size_t size)
+{
+    void *memory = calloc(count + 1, size);
+
+    if (memory == NULL)
+        fail("no memory for a look");
+    return memory;
+}
+
+static struct movable lent_page(void)
+{
+    struct movable page;
+
+    if (lent[NUMBERS].bytes != sizeof page.numbers || lent[CHARS].bytes != sizeof page.chars)
+        fail("no page to move");
+    memcpy(page.numbers, lent[NUMBERS].start, sizeof page.numbers);
+    memcpy(page.chars, lent[CHARS].start, sizeof page.chars);
+    return page;
+}
+
+/* Each field of a look has two hex digits. */
+static void look_at_pictures(struct look *look, const struct movable *page, const char *fields)
+{
+    feldrime_size size = feldrime_page_size(page->numbers, FELDRIME_NUMBERS);
+    size_t count = strlen(fields) / 2, each = (size_t)size.lines * size.dots;
+
+    look->dots = count * each;
+    look->pictures = some_memory(look->dots, 1);
+    for (size_t i = 0; i < count; i++) {
+        uint8_t field = (uint8_t)hex_digits(fields + 2 * i, 2);
+        feldrime_answer answer = feldrime_picture_draw(page->numbers, FELDRIME_NUMBERS, page->chars, FELDRIME_MEMORY,
+                                                       BYTES(ATTRS), FONT, field, look->pictures + i * each, each);
+        look->refused = look->refused || answer.refusal != 0;
+    }
+}
+
+static void look_at_clocks(struct look *look, const struct movable *page)
+{
+    feldrime_board at = feldrime_board_of(page->numbers, FELDRIME_NUMBERS).board;
+
+    look->steps = some_memory(MOST_CLOCKS, sizeof *look->steps);
+    do {
+        feldrime_step_answer *step = &look->steps[look->clocks];
+        *step = feldrime_step(&at, page->chars, FELDRIME_MEMORY, BYTES(ATTRS), FONT);
+        look->refused = look->refused || step->refusal != 0;
+        look->clocks++;
+    } while (!look->refused && (at.place.line != 0 || at.place.clock != 0) && look->clocks != MOST_CLOCKS);
+}
+
+static struct look look_at(const struct movable *page, const char *fields)
+{
+    struct look look = { 0 };
+
+    look_at_pictures(&look, page, fields);
+    look_at_clocks(&look, page);
+    return look;
+}
+
+static bool same_look(const struct look *a, const struct look *b)
+{
+    return !a->refused && !b->refused && a->dots == b->dots && memcmp(a->pictures, b->pictures, a->dots) == 0
+           && a->clocks == b->clocks && memcmp(a->steps, b->steps, a->clocks * sizeof *a->steps) == 0;
+}
+
+static void forget_look(struct look *look)
+{
+    free(look->pictures);
+    free(look->steps);
+}
+
+/* Whether the page that is lent now shows the same. */
+static bool shows_the_same(const struct look *look, const char *fields)
+{
+    struct movable page = lent_page();
+    struct look now = look_at(&page, fields);
+    bool same = same_look(look, &now);
+
+    forget_look(&now);
+    return same;
+}
+
+static uint32_t start2_of(const struct movable *page)
+{
+    return 256u * page->numbers[20] + page->numbers[21];
+}
+
+static uint32_t rows_of(const struct movable *page)
+{
+    return (page->numbers[5] & 127u) + 1;
+}
+
+/* Whether the page, which was this one, differs from it as a page moved there or back does: there in IR2[7], screen start 2 and the
+   table's cells, back in IR2[7] and screen start 1, and in nothing else. */
+static bool changed_alone(struct movable before, bool there)
+{
+    struct movable now = lent_page();
+    size_t address = there ? 20 : 16, table = start2_of(&now), size = 2 * rows_of(&now);
+
+    before.numbers[3] ^= 128;
+    memcpy(before.numbers + address, now.numbers + address, 2);
+    if (there && table + size <= sizeof before.chars)
+        memcpy(before.chars + table, now.chars + table, size);
+    return memcmp(&before, &now, sizeof now) == 0;
+}
+
+/* A move; `alone` becomes false where it changed what it must not. */
+static uint32_t move(bool there, bool *alone)
+{
+    struct movable before = lent_page(), now;
+    uint32_t refusal = there ? to_table() : to_sheet();
+
+    now = lent_page();
+    *alone = *alone && (refusal == 0 ? changed_alone(before, there) : memcmp(&before, &now, sizeof now) == 0);
+    return refusal;
+}
+
+/* A sheet goes back, and begins where it did; a table page's cells may leave no room for another table. */
+static bool came_home(const struct movable *old, bool there, uint32_t refusal)
+{
+    if (there)
+        return refusal == 0 && memcmp(old->numbers + 16, lent[NUMBERS].start + 16, 2) == 0;
+    return refusal == 0 || refusal == FELDRIME_REFUSED_STRETCH;
+}
+
+static void print_look(const struct look *look, const char *fields)
+{
+    uint64_t pictures = sum_start, clocks = sum_start;
+
+    for (size_t i = 0; i < look->dots; i++)
+        pictures = add(pictures, look->pictures[i]);
+    for (uint32_t i = 0; i < look->clocks; i++)
+        clocks = add_shown(clocks, &look->steps[i]);
+    printf(" pictures %zu %016" PRIx64 " steps %" PRIu32 " %016" PRIx64 "\n", strlen(fields) / 2, pictures, look->clocks,
+           clocks);
+}
+
+/* The page has been moved to its other kind: looks at it, moves it back and looks again. */
+static void move_home(const struct movable *old, bool there, bool agree, const char *page_mode, const char *fields)
+{
+    struct look look = look_at(old, fields);
+    struct movable now;
+    uint32_t refusal;
+
+    agree = shows_the_same(&look, fields) && agree;
+    refusal = move(!there, &agree);
+    agree = came_home(old, there, refusal) && agree;
+    agree = shows_the_same(&look, fields) && agree;
+    now = lent_page();
+    printf("moves %s 0 %s %" PRIu32 " %s %s", there ? "there" : "back", there ? "back" : "there", refusal,
+           agree ? "agree" : "differ", page_mode);
+    printf(" table %" PRIu32 " rows %" PRIu32, start2_of(&now), rows_of(&now));
+    print_look(&look, fields);
+    forget_look(&look);
+}
+
+static void do_moves(char **word)
+{
+    struct movable old;
+    const char *page_mode = by_numbers().mode;
+    bool there, agree = true;
+    uint32_t refusal;
+
+    if (strlen(word[1]) % 2 != 0)
+        fail("a field has two digits");
+    if (page_size().refusal != 0)
+        return;
+    old = lent_page();
+    there = (old.numbers[3] & 128) == 0;
+    refusal = move(there, &agree);
+    if (refusal == 0)
+        move_home(&old, there, agree, page_mode, word[1]);
+    else
+        printf("moves %s %" PRIu32 " %s %s\n", there ? "there" : "back", refusal, agree ? "agree" : "differ", page_mode);
+    memcpy(lent[NUMBERS].start, old.numbers, sizeof old.numbers);
+    memcpy(lent[CHARS].start, old.chars, sizeof old.chars);
+}
+
 /* ---- scripts ---- */
 
 static void do_every(char **word)
@@ -899,6 +1129,7 @@ static const struct {
     { "board", 1, do_board_again },
     { "every", 2, do_every },
     { "frame", 1, do_frame },
+    { "moves", 2, do_moves },
     { "call page_check", 2, call_page_check },
     { "call page_size", 2, call_page_size },
     { "call page_read", 2, call_page_read },
@@ -908,6 +1139,8 @@ static const struct {
     { "call picture_draw", 3, call_picture_draw },
     { "call row_run", 3, call_row_run },
     { "call row_cells", 3, call_row_cells },
+    { "call to_table", 2, call_to_table },
+    { "call to_sheet", 2, call_to_sheet },
     { "call power", 2, call_power },
     { "call board_of", 2, call_board_of },
     { "call numbers_of", 2, call_numbers_of },

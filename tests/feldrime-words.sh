@@ -1,6 +1,7 @@
 # Sourced by tests/feldrime: the words, their help and their wrong uses; draw, rows and check.
 ends 0 "feldrime draw PAGE FONT OUT.png [FIELD]" "${feldrime[@]}" --help
-for word in draw rows site check; do
+for word in draw rows site check catalogue sheet; do
+    ends 0 "  feldrime $word " "${feldrime[@]}" --help
     ends 0 "usage: feldrime $word" "${feldrime[@]}" "$word" --help
     [[ $said == *"0 where all was done, 1 where a file was refused"* ]] || say "$word --help does not tell the statuses"
     ends 2 "usage: feldrime $word" "${feldrime[@]}" "$word"

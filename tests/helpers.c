@@ -1,7 +1,7 @@
 /* The header's short forms beside the calls that they stand for: helpers FONT PAGE..
    Each is asked with the same bytes and counts, good and bad, and both have to answer the same and to leave the same behind. The pages
-   have to be of both attribute modes. Then two
-   sentences of the header: in which fields a picture can change, and that every refusal has words of its own. C99 and C++11. */
+   have to be of both attribute modes, and sheets and others. Then three sentences of the header: in which fields a picture can change, what
+   a move leaves as it was, and that every refusal has words of its own. C99 and C++11. */
 #include <stdio.h>
 #include <stdlib.h>
 #include <string.h>
@@ -24,6 +24,7 @@ static uint8_t file[FELDRIME_PAGE_FILE + 1], out[2][ROOM];
 static uint16_t cells[2][FELDRIME_CELLS + 8];
 static unsigned long compared, refused, failed;
 static unsigned latching; /* pages of version 2 in field mode */
+static unsigned sheets;   /* pages without a row table */
 
 static void expect(int holds, const char *what)
 {
@@ -79,6 +80,18 @@ static uint32_t read_font(size_t count)
     return theirs.refusal;
 }
 
+static void same_pages(const char *what)
+{
+    same(page.numbers, numbers, sizeof numbers, what);
+    same(page.chars, chars, sizeof chars, what);
+    same(page.attrs, attrs, sizeof attrs, what);
+}
+
+static void set_number(int place, uint8_t byte)
+{
+    page.numbers[place] = numbers[place] = byte;
+}
+
 static uint32_t read_page(size_t count)
 {
     feldrime_answer ours = feldrime_read_page(&page, file, count);
@@ -86,9 +99,7 @@ static uint32_t read_page(size_t count)
                                                 attrs, FELDRIME_MEMORY);
 
     answers(&ours, &theirs, sizeof ours, theirs.refusal, "feldrime_read_page answers otherwise");
-    same(page.numbers, numbers, sizeof numbers, "feldrime_read_page: numbers");
-    same(page.chars, chars, sizeof chars, "feldrime_read_page: chars");
-    same(page.attrs, attrs, sizeof attrs, "feldrime_read_page: attrs");
+    same_pages("feldrime_read_page: the page");
     return theirs.refusal;
 }
 
@@ -207,10 +218,131 @@ static void short_line(void)
 {
     uint32_t ec = (numbers[2] & 127u) + 1, hsync = 2 * (numbers[3] >> 3 & 15u) + 2, hbp = 4 * (numbers[3] & 7u) - 1;
 
-    page.numbers[6] = numbers[6] = 255;
+    set_number(6, 255);
     feldrime_size size = size_of_page();
     expect(size.refusal == FELDRIME_REFUSED_LINE_SHORT, "a line that is too short is not refused 14");
     expect(size.beside == 256 + hsync + hbp + 2 - 2 * (ec + 2 * hsync), "14 does not tell how many clocks are missing");
+}
+
+static uint32_t to_table(void)
+{
+    feldrime_answer ours = feldrime_page_to_table(&page);
+    feldrime_answer theirs = feldrime_to_table(numbers, FELDRIME_NUMBERS, chars, FELDRIME_MEMORY);
+
+    answers(&ours, &theirs, sizeof ours, theirs.refusal, "feldrime_page_to_table answers otherwise");
+    same_pages("feldrime_page_to_table: the page");
+    return theirs.refusal;
+}
+
+static uint32_t to_sheet(void)
+{
+    feldrime_answer ours = feldrime_page_to_sheet(&page);
+    feldrime_answer theirs = feldrime_to_sheet(numbers, FELDRIME_NUMBERS, chars, FELDRIME_MEMORY);
+
+    answers(&ours, &theirs, sizeof ours, theirs.refusal, "feldrime_page_to_sheet answers otherwise");
+    same_pages("feldrime_page_to_sheet: the page");
+    return theirs.refusal;
+}
+
+/* A move that has to answer so; refused, it has to leave the page. */
+static void move(uint32_t (*move_one)(void), uint32_t refusal, const char *what)
+{
+    static feldrime_page before;
+
+    before = page;
+    expect(move_one() == refusal, what);
+    if (refusal != FELDRIME_DONE)
+        same(&page, &before, sizeof page, "a move that is refused changes the page");
+}
+
+/* The fields are those of which the header says that they show all looks. */
+static void same_looks(const feldrime_page *other, size_t dots)
+{
+    for (int field = 0; field < 128; field += 16) {
+        feldrime_draw(&page, &font, (uint8_t)field, out[0], dots);
+        feldrime_draw(other, &font, (uint8_t)field, out[1], dots);
+        same(out[0], out[1], dots, "a page that was moved looks otherwise");
+    }
+}
+
+/* A sheet goes there and comes back, but for screen start 2 and the table's cells. The numbers that are not used stay too. */
+static void there_and_back(size_t dots)
+{
+    static feldrime_page first;
+
+    memset(page.numbers + 25, 0xA5, 7);
+    memset(numbers + 25, 0xA5, 7);
+    first = page;
+    move(to_sheet, FELDRIME_REFUSED_KIND, "a sheet is not refused 16 on the way back");
+    move(to_table, FELDRIME_DONE, "a sheet cannot be moved");
+    same_looks(&first, dots);
+    move(to_table, FELDRIME_REFUSED_KIND, "a page with a row table is not refused 16 on the way there");
+    move(to_sheet, FELDRIME_DONE, "a sheet that was moved cannot be moved back");
+    same_looks(&first, dots);
+
+    size_t table = numbers[20] * 256u + numbers[21], count = 2 * ((numbers[5] & 127u) + 1);
+    memcpy(page.numbers + 20, first.numbers + 20, 2);
+    memcpy(page.chars + table, first.chars + table, count);
+    same(&page, &first, sizeof page, "a sheet that was moved does not come back");
+    memcpy(numbers, page.numbers, sizeof numbers);
+    memcpy(chars, page.chars, sizeof chars);
+}
+
+/* As the header says it: there or back, whichever the board's page is not yet. */
+static void move_board(feldrime_board *board)
+{
+    feldrime_numbers_of(*board, numbers, FELDRIME_NUMBERS);
+    feldrime_answer answer = numbers[3] >> 7 ? feldrime_to_sheet(numbers, FELDRIME_NUMBERS, chars, FELDRIME_MEMORY)
+                                             : feldrime_to_table(numbers, FELDRIME_NUMBERS, chars, FELDRIME_MEMORY);
+    expect(answer.refusal == FELDRIME_DONE, "a board's page cannot be moved");
+    board->page = feldrime_board_of(numbers, FELDRIME_NUMBERS).board.page;
+}
+
+/* A sheet's board, moved there and back in the middle of its steps, beside one that is not. */
+static void step_moved(void)
+{
+    feldrime_board ours = feldrime_board_of(numbers, FELDRIME_NUMBERS).board, theirs = ours;
+
+    for (int i = 0; i < STEPS; i++) {
+        if (i == STEPS / 3 || i == STEPS / 2)
+            move_board(&ours);
+        feldrime_step_answer a = feldrime_step(&ours, chars, FELDRIME_MEMORY, attrs, FELDRIME_MEMORY,
+                                               words, FELDRIME_WORDS, flags, FELDRIME_FLAGS,
+                                               unshifted, FELDRIME_LIST, shifted, FELDRIME_LIST);
+        feldrime_step_answer b = feldrime_tick(&theirs, &page, &font);
+
+        same(&a, &b, sizeof a, "a board that was moved shows something else");
+    }
+    memcpy(numbers, page.numbers, sizeof numbers);
+    memcpy(chars, page.chars, sizeof chars);
+}
+
+/* What a move refuses, by a page of 113 rows of 143 cells in all of memory: 225 cells are left, and a table needs 226. With a row table both
+   its first two rows begin at cell 0. */
+static void refused_moves(void)
+{
+    static const uint8_t irs[15] = { 0, 127, 9, 0, 112, 142, 0, 0, 0, 0xF0 };
+
+    for (int i = 0; i < 15; i++)
+        set_number(1 + i, irs[i]);
+    for (int i = 16; i < 22; i++)
+        set_number(i, 0);
+    set_number(23, 8);
+    memset(page.chars, 0, 4);
+    memset(chars, 0, 4);
+    move(to_table, FELDRIME_REFUSED_STRETCH, "a sheet without room for a table is not refused 17");
+    move(to_sheet, FELDRIME_REFUSED_KIND, "it is not refused 16");
+    set_number(3, 128 | 9);
+    move(to_table, FELDRIME_REFUSED_KIND, "a page with a row table is not refused 16");
+    move(to_sheet, FELDRIME_REFUSED_APART, "rows that do not follow are not refused 18");
+    set_number(1, 128);
+    move(to_sheet, FELDRIME_REFUSED_CODED, "a page with row codes is not refused 19");
+    set_number(2, 0);
+    move(to_table, FELDRIME_REFUSED_LINE_SHORT, "14 does not come before 16");
+    move(to_sheet, FELDRIME_REFUSED_LINE_SHORT, "14 does not come before 19");
+    set_number(0, 255);
+    move(to_table, FELDRIME_REFUSED_SIZE, "an unknown version is not refused 3");
+    move(to_sheet, FELDRIME_REFUSED_SIZE, "an unknown version is not refused 3 on the way back");
 }
 
 static unsigned compare_page(size_t count)
@@ -233,24 +365,30 @@ static unsigned compare_page(size_t count)
     cells_of_row(0, FELDRIME_CELLS - 1);
     tick();
 
+    if (numbers[3] < 128) {
+        sheets++;
+        there_and_back(dots);
+        step_moved();
+    }
     unsigned different = changes(dots);
-    page.numbers[23] = numbers[23] = 13;
+    set_number(23, 13);
     size_of_page();
     short_line();
+    refused_moves();
     return different;
 }
 
 /* 5 was split, and 11 never was one. */
 static int no_refusal(uint32_t number)
 {
-    return number == 5 || number == 11 || number > FELDRIME_REFUSED_FRONT_PORCH;
+    return number == 5 || number == 11 || number > FELDRIME_REFUSED_CODED;
 }
 
 /* No two refusals have the same words, and the numbers that are none have words in common. */
 static void meanings(void)
 {
-    for (uint32_t i = 0; i <= FELDRIME_REFUSED_FRONT_PORCH; i++)
-        for (uint32_t j = i + 1; j <= FELDRIME_REFUSED_FRONT_PORCH + 1; j++)
+    for (uint32_t i = 0; i <= FELDRIME_REFUSED_CODED; i++)
+        for (uint32_t j = i + 1; j <= FELDRIME_REFUSED_CODED + 1; j++)
             expect((strcmp(feldrime_meaning(i), feldrime_meaning(j)) == 0) == (no_refusal(i) && no_refusal(j)),
                    "words of a refusal");
 }
@@ -269,7 +407,8 @@ int main(int count, char *arguments[])
     meanings();
     expect(different > 0, "no page blinks, so that fields were compared in vain");
     expect(latching > 0 && latching < (unsigned)count - 2, "not both attribute modes were met");
-    printf("helpers: %lu answers compared, %lu of them refused, %lu differ; %u looks of blinking pages; %u in field mode\n",
-           compared, refused, failed, different, latching);
+    expect(sheets > 0 && sheets < (unsigned)count - 2, "not both sheets and pages with a row table were met");
+    printf("helpers: %lu answers compared, %lu of them refused, %lu differ; %u looks of blinking pages; %u in field mode; %u sheets\n",
+           compared, refused, failed, different, latching, sheets);
     return failed == 0 ? 0 : 1;
 }

@@ -90,10 +90,15 @@ def typed_rows(name):
     return [letters.rstrip() for rows, letters, _ in marked(ini("pages.ini")[name]) for _ in range(rows)]
 
 
+def after(page, at):
+    """The cell that is fetched after another."""
+    first, last = page[13] | (page[14] & 15) << 8, 1024 * ((page[14] >> 4) + 1) - 1
+    return first if at == last else (at + 1) % MEMORY
+
+
 def walk(page):
     """For each row of a page file where it is from, its code (02, R-4) and the cells that it shows, one after the other."""
     irs, chars = page[5:20], page[29:29 + MEMORY]
-    first, last = irs[8] | (irs[9] & 15) << 8, 1024 * ((irs[9] >> 4) + 1) - 1
     start1, start2 = int.from_bytes(page[20:22], "big"), int.from_bytes(page[24:26], "big")
     at = start1
     for row in range((irs[4] & 127) + 1):
@@ -106,7 +111,7 @@ def walk(page):
         cells = []
         for _ in range((irs[5] + 2) // 2 if code else irs[5] + 1):
             cells.append(at)
-            at = first if at == last else (at + 1) % MEMORY
+            at = after(page, at)
         yield origin, code, cells
 
 

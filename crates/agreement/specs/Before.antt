@@ -29,7 +29,7 @@ use Rattle.board.specs.declared.Place.{Place}
 use Rattle.board.specs.declared.Board.{Board}
 use Rattle.board.specs.Modes.{fieldMode}
 use Rattle.board.specs.Range.{startsRefused, addressRefused}
-use Rattle.timing.specs.Fields.{codedOf, hactOf, linesOf, visibleOf}
+use Rattle.timing.specs.Fields.{codedOf, hactOf, linesOf, visibleOf, countsOf}
 use Rattle.latch.specs.Laws.{held-plain}
 use Rattle.shape.specs.Font.{Font, wordOf}
 use Rattle.video.specs.Scene.{sceneOf, cursorAt}
@@ -86,10 +86,10 @@ module _ (p : Page) (plain : codedOf (p .irs) ≡ false) (chars attrs : List ℕ
       ∙ step-part addressOnly (countsIn p) (λ (x : Beam). Unit {0}) (beamPlain p chars attrs) (carrier (feedPlain p chars)) (λ r x. refl) (λ r x. tt) (λ r c x k. refl) (placeBeam (settledIn p q)) tt tt
 
   pub states-as-before : (n : ℕ) → placeThen (placeAt p chars attrs n) ≡ scanAt (countsIn p) (cellRows (feedPlain p chars) (tallyPlain p)) (cell 0) n
-  unfolding cellPlain
+  unfolding cellPlain countsOf
   states-as-before n =
       ap (inScan addressOnly) (plain-state p plain chars attrs n)
-      ∙ scan-part addressOnly (countsIn p) (rowsPlain p chars attrs) (cellRows (feedPlain p chars) (tallyPlain p)) (λ r. refl) (λ r c. refl) (beam 0 0) n
+      ∙ scan-part addressOnly (countsIn p) (omega arith) (omega arith) (rowsPlain p chars attrs) (cellRows (feedPlain p chars) (tallyPlain p)) (λ r _. refl) (λ r c _. refl) (beam 0 0) n
 
 -- ---- a page of version 1
 

@@ -9,6 +9,7 @@ use borrow.Author.Tests.{eq-eqb}
 use lib.Arith.{digits-lt}
 use lib.Dec.{ltb, leb}
 use lib.ListN.{length, getD, take, drop}
+use Rattle.lists.specs.Choice.{pick}
 use Rattle.lists.specs.Join.{joined, same-joined}
 use Rattle.lists.specs.Tab.{tab, same-tab}
 use Rattle.refusal.specs.declared.Refusal.{Refusal}
@@ -16,6 +17,7 @@ use Rattle.refusal.specs.declared.Refusal.the-variants.{Done, Size}
 use Rattle.refusal.specs.Number.{numberOf, doneOf}
 use Rattle.refusal.specs.Laws.{done-is, passed}
 use Rattle.board.specs.declared.Board.{Board}
+use Rattle.board.specs.State.{clockZero, powerOf}
 use Rattle.timing.specs.Fields.{hactOf, linesOf, rowsOf, visibleOf, tableOf}
 use Rattle.timing.specs.Check.{pageCheck, sizeOf}
 use Rattle.timing.specs.Laws.{call-passed}
@@ -29,7 +31,7 @@ use Rattle.line.specs.Line.{rowFor, lineLength, drawCheck, drawnOf}
 use Rattle.picture.specs.Picture.{picturedOf}
 use Rattle.video.specs.At.{lentRefused}
 use Rattle.step.specs.Step.{steppedOf, stepCheck, stepOf}
-use Rattle.place.specs.State.{stateOf}
+use Rattle.place.specs.State.{withPlace, stateOf}
 use Rattle.files.specs.Page.{pageAt}
 use Rattle.numbers.specs.Numbers.{numbersRefused, numbersBoard, numbersCheck}
 use Rattle.numbers.specs.Laws.{numbers-passed}
@@ -73,6 +75,16 @@ module _ (numbers chars attrs words flags unshifted shifted : List ℕ) where
   unfoldable pub afterC : ℕ → Board
   afterC zero = boardFor numbers .board
   afterC (suc n) = stepNumbers (afterC n) chars attrs words flags unshifted shifted .board
+
+  -- accepted or not, the board that is made stands at clock 0, where the steps begin
+  pub steps-made : (n : ℕ) → afterC n ≡ after (boardFor numbers .board) chars attrs f n
+  unfolding afterC after boardFor
+  steps-made zero = go (doneOf (numbersCheck numbers))
+    where
+      go : (t : Bool) → pick t b powerOf ≡ withPlace (pick t b powerOf) clockZero
+      go true = refl
+      go false = refl
+  steps-made (suc n) = ap (λ (x : Board). stepOf x chars attrs f .board) (steps-made n)
 
   -- what the next feldrime_step answers
   abbrev pub stepC : ℕ → StepAnswer
@@ -138,9 +150,7 @@ module _ (numbers chars attrs words flags unshifted shifted : List ℕ) where
 
     -- the steps for C are the steps, so all that holds of these holds of those
     pub steps-from-c : (n : ℕ) → afterC n ≡ after b chars attrs f n
-    unfolding afterC after
-    steps-from-c zero = board-is
-    steps-from-c (suc n) = ap (λ (x : Board). stepOf x chars attrs f .board) (steps-from-c n)
+    steps-from-c n = steps-made n ∙ ap (λ (x : Board). after x chars attrs f n) board-is
 
     -- then no step is refused
     pub steps-answer : (n : ℕ) → stepC n .refusal ≡ 0

@@ -13,8 +13,14 @@ pub mod Plain
 pub mod Before
 pub mod Porches
 pub mod Pictures
+pub mod Alike
+pub mod AlikeSteps
+pub mod AlikeShown
+pub mod Catalogue
+pub mod Moved
 pub mod Tall
 pub mod FromC
+pub mod CatalogueFromC
 pub mod FilesFromC
 pub mod Numbers
 pub mod Worked

@@ -72,7 +72,7 @@ loaded-visible p chars attrs q s h =
 
 module _ (b : Board) (chars attrs : List ℕ) (f : Font) (ok : stepCheck b chars attrs f ≡ Done) where
   -- what the step at clock n works on in a visible line
-  beam-at : (n : ℕ) → n / htOf (b .page .irs) % vtOf (b .page .irs) < visibleOf (b .page .irs) .0
+  pub beam-at : (n : ℕ) → n / htOf (b .page .irs) % vtOf (b .page .irs) < visibleOf (b .page .irs) .0
       → loadedIn (b .page) chars (placeAt (b .page) chars attrs n) .beam
       ≡ row (cellAt (b .page) chars (n / htOf (b .page .irs) % vtOf (b .page .irs) / linesOf (b .page .irs)) (n % htOf (b .page .irs)))
       (heldAt (b .page) chars attrs (n / htOf (b .page .irs) % vtOf (b .page .irs) / linesOf (b .page .irs)) (n % htOf (b .page .irs)))

@@ -5,7 +5,7 @@ use mathlib.Core.Bool.{not}
 use mathlib.Core.List.{List}
 use lib.Dec.{eqb}
 use lib.ListN.{length}
-use Rattle.lists.specs.Answer.{OneAnswer, only, only-both, only-four}
+use Rattle.lists.specs.Answer.{OneAnswer, only, only-both, only-three, only-four}
 use Rattle.units.specs.Units.{dots}
 use Rattle.board.specs.declared.Board.{Board}
 use Rattle.registers.specs.Write.{writeOf}
@@ -25,6 +25,7 @@ use Rattle.feldrime.specs.Pages.{sizeFor, runFor, boardFor}
 use Rattle.feldrime.specs.LineDraw.{lineDrawCheck, lineDrawn}
 use Rattle.feldrime.specs.PictureDraw.{pictureDrawCheck, pictureDrawn}
 use Rattle.feldrime.specs.RowCells.{cellsFor, cellsPutFor}
+use Rattle.feldrime.specs.Catalogue.{toTableCheck, toTableNumbers, toTableChars, toSheetCheck, toSheetNumbers}
 use Rattle.feldrime.specs.Step.{stepNumbers}
 
 pub page-check-for-c-one : (numbers : List ℕ) → OneAnswer (λ r. r ≡ answerOf (numbersCheck numbers))
@@ -73,6 +74,15 @@ row-run-for-c-one numbers chars row = only (runFor numbers chars row)
 pub row-cells-for-c-one : (numbers chars : List ℕ) (row : ℕ) (cells : List ℕ)
     → OneAnswer (λ (r : CellsAnswer × List ℕ). (r .0 ≡ cellsFor numbers chars row (length cells)) × (r .1 ≡ cellsPutFor numbers chars row cells))
 row-cells-for-c-one numbers chars row cells = only-both (cellsFor numbers chars row (length cells)) (cellsPutFor numbers chars row cells)
+
+-- the answer, the numbers and character memory
+pub to-table-for-c-one : (numbers chars : List ℕ)
+    → OneAnswer (λ (r : Answer × List ℕ × List ℕ). (r .0 ≡ answerOf (toTableCheck numbers chars)) × (r .1 ≡ toTableNumbers numbers chars) × (r .2 ≡ toTableChars numbers chars))
+to-table-for-c-one numbers chars = only-three (answerOf (toTableCheck numbers chars)) (toTableNumbers numbers chars) (toTableChars numbers chars)
+
+pub to-sheet-for-c-one : (numbers chars : List ℕ)
+    → OneAnswer (λ (r : Answer × List ℕ). (r .0 ≡ answerOf (toSheetCheck numbers chars)) × (r .1 ≡ toSheetNumbers numbers chars))
+to-sheet-for-c-one numbers chars = only-both (answerOf (toSheetCheck numbers chars)) (toSheetNumbers numbers chars)
 
 pub board-of-one : (numbers : List ℕ) → OneAnswer (λ r. r ≡ boardFor numbers)
 board-of-one numbers = only (boardFor numbers)

@@ -1,4 +1,4 @@
--- No second answer meets the contract of a public function of `fetch`, `shape`, `video`, `dots`, `tables`, `line`, `picture`, `place` or `step`: it names its answer,
+-- No second answer meets the contract of a public function of `fetch`, `catalogue`, `shape`, `video`, `dots`, `tables`, `line`, `picture`, `place` or `step`: it names its answer,
 -- so each of these is `only`.
 use Prim.Native.Nat.{ℕ, _+_, _*_}
 use mathlib.Core.Path.{_≡_}
@@ -25,6 +25,9 @@ use Rattle.fetch.specs.Run.{runCheck, spanOf, runOf}
 use Rattle.fetch.specs.RowCells.{cellsGiven, cellsPut}
 use Rattle.fetch.specs.Laws.{span-fits}
 use Rattle.fetch.specs.Rows.{entryOf, codeAt, rowStart, cellAt, fetchedOf, begunOf}
+use Rattle.catalogue.specs.declared.Moved.{Moved}
+use Rattle.catalogue.specs.There.{thereOf, thereLeft}
+use Rattle.catalogue.specs.Back.{backOf}
 use Rattle.latch.specs.Held.{heldAt}
 use Rattle.shape.specs.Font.{Font, fontRefused, positionOf, wordBy, wordOf}
 use Rattle.video.specs.declared.Scene.{Scene}
@@ -86,6 +89,15 @@ row-start-one p chars row = only (cell (rowStart p chars row))
 
 pub cell-at-one : (p : Page) (chars : List ℕ) (row column : ℕ) → OneAnswer (λ r. r ≡ cell (cellAt p chars row column))
 cell-at-one p chars row column = only (cell (cellAt p chars row column))
+
+-- ---- `catalogue`
+
+-- the answer and character memory
+pub to-table-one : (b : Board) (chars : List ℕ) → OneAnswer (λ (r : Moved × List ℕ). (r .0 ≡ thereOf b chars) × (r .1 ≡ thereLeft b chars))
+to-table-one b chars = only-both (thereOf b chars) (thereLeft b chars)
+
+pub to-sheet-one : (b : Board) (chars : List ℕ) → OneAnswer (λ r. r ≡ backOf b chars)
+to-sheet-one b chars = only (backOf b chars)
 
 -- ---- `latch`
 

@@ -4,8 +4,10 @@ use mathlib.Core.Path.{_≡_}
 use mathlib.Core.Bool.{Bool}
 use mathlib.Core.List.{List}
 use lib.ListN.{length, take, drop}
+use Rattle.lists.specs.Choice.{pick}
 use Rattle.lists.specs.Answer.{OneAnswer, only, only-both, only-three, only-four}
 use Rattle.refusal.specs.declared.Refusal.{Refusal}
+use Rattle.refusal.specs.Number.{doneOf}
 use Rattle.board.specs.declared.Page.{Page}
 use Rattle.board.specs.declared.Board.{Board}
 use Rattle.board.specs.Range.{memoriesRefused}
@@ -16,7 +18,7 @@ use Rattle.files.specs.declared.PageRead.{PageRead}
 use Rattle.files.specs.File.{versionRefused, readCheck, readPageOf, charsRead, attrsRead, writeCheck, written}
 use Rattle.files.specs.FontFile.{fontCheck, fontRead, fontWriteCheck, fontWritten}
 use Rattle.files.specs.Page.{pageAt, boardAt, pageBytes}
-use Rattle.numbers.specs.Numbers.{numbersRefused, numbersCheck, numbersOfCheck, numbersOf}
+use Rattle.numbers.specs.Numbers.{numbersRefused, numbersCheck, pageIn, numbersOfCheck, numbersOf}
 use Rattle.numbers.specs.Files.{pageReadSize, numbersRead, pageWriteCheck, pageWritten}
 use Rattle.listing.specs.declared.Listed.{Listed}
 use Rattle.listing.specs.Listing.{listingHead, listingLine, headCheck, lineCheck, listedOf, listedIn}
@@ -90,6 +92,10 @@ read-file-one file numbers chars attrs =
 pub write-file-one : (numbers chars attrs out : List ℕ)
     → OneAnswer (λ (r : Refusal × List ℕ). (r .0 ≡ pageWriteCheck numbers (length chars) (length attrs) (length out)) × (r .1 ≡ pageWritten numbers chars attrs out))
 write-file-one numbers chars attrs out = only-both (pageWriteCheck numbers (length chars) (length attrs) (length out)) (pageWritten numbers chars attrs out)
+
+-- the numbers
+pub put-page-one : (x : Refusal) (p : Page) (numbers : List ℕ) → OneAnswer (λ r. r ≡ pick (doneOf x) (pageIn p numbers) numbers)
+put-page-one x p numbers = only (pick (doneOf x) (pageIn p numbers) numbers)
 
 -- the refusal and the numbers
 pub numbers-of-one : (b : Board) (numbers : List ℕ)

@@ -8,11 +8,11 @@
 --     plain-place      a step's place, and
 --     plain-state      the place worked out at once: the beam moves on at every active clock, and no code is left
 --     plain-dots       a step's dots
-use Prim.Native.Nat.{ℕ, zero, suc, min, _+_, _*_, _/_, _%_, _<_}
+use Prim.Native.Nat.{ℕ, zero, suc, pred, min, _+_, _*_, _/_, _%_, _<_}
 use mathlib.Core.Path.{_≡_, refl, sym, ap, ap₂, _∙_}
 use mathlib.Core.Bool.{Bool, true, false, _&&_, _||_}
 use mathlib.Core.List.{List}
-use native.Mathlib.Nat.{mod-lt}
+use native.Mathlib.Nat.{mod-lt, div-lt-iff-lt-mul}
 use native.Mathlib.Decide.{decLt}
 use native.Mathlib.Omega.{arith}
 use borrow.Author.Tests.{lt-ltb, le-ltb}
@@ -168,18 +168,27 @@ module _ {A B : Type 0} (h : A → B) where
         turn-part (s .field) (s .line) (s .clock) (onward g m (s .line) (s .clock) (s .carried))
         ∙ ap (turn g (s .field) (s .line) (s .clock)) (onward-part (s .line) (s .clock) (s .carried) pb pr)
 
-  module _ (g : Counts) (v : Rows A) (w : Rows B) (start-is : (r : ℕ) → h (v .start r) ≡ w .start r) (walk-is : (r c : ℕ) → h (v .walk r c) ≡ w .walk r c) where
+  module _ (g : Counts) (rows : 0 < R g) (lines : 0 < L g) (v : Rows A) (w : Rows B) (start-is : (r : ℕ) → r < R g → h (v .start r) ≡ w .start r)
+      (walk-is : (r c : ℕ) → r < R g → h (v .walk r c) ≡ w .walk r c) where
+    last : (n : ℕ) → 0 < n → pred n < n
+    last zero l = absurd (omega (arith, l))
+    last (suc n) l = omega arith
+
     tail-part : inPair (tail g v) ≡ tail g w
     unfolding tail
-    tail-part = ap₂ (λ (x y : B). pair x y) (walk-is _ _) (start-is _)
+    tail-part = ap₂ (λ (x y : B). pair x y) (walk-is _ _ (last (R g) rows)) (start-is _ (last (R g) rows))
 
     line-part : (c line : ℕ) → inPair (inLine g v c line) ≡ inLine g w c line
     unfolding inLine
-    line-part c line = go (ltb line (R g * L g))
+    line-part c line = go (decLt line (R g * L g))
       where
-        go : (u : Bool) → inPair (pick u (pair (v .walk (line / L g) c) (v .start (line / L g))) (tail g v)) ≡ pick u (pair (w .walk (line / L g) c) (w .start (line / L g))) (tail g w)
-        go true = ap₂ (λ (x y : B). pair x y) (walk-is _ _) (start-is _)
-        go false = tail-part
+        go : Dec (line < R g * L g)
+            → inPair (pick (ltb line (R g * L g)) (pair (v .walk (line / L g) c) (v .start (line / L g))) (tail g v))
+            ≡ pick (ltb line (R g * L g)) (pair (w .walk (line / L g) c) (w .start (line / L g))) (tail g w)
+        go (yes l) =
+            let r = div-lt-iff-lt-mul lines .1 l in
+            rw (lt-ltb line (R g * L g) l) (ap₂ (λ (x y : B). pair x y) (walk-is _ _ r) (start-is _ r))
+        go (no f) = rw (le-ltb line (R g * L g) (omega (arith, f))) tail-part
 
     carried-part : (z : A) (c line frame : ℕ) → inPair (carriedAt g v z c line frame) ≡ carriedAt g w (h z) c line frame
     unfolding carriedAt
@@ -256,9 +265,9 @@ module _ (p : Page) (plain : codedOf (p .irs) ≡ false) where
       pub plain-state : (n : ℕ) → placeBeam (placeAt p chars attrs n) ≡ scanAt (countsIn p) (rowsPlain p chars attrs) (beam 0 0) n
       unfolding placeAt startOf cellAt countsOf
       plain-state n =
-          scan-part beamOf (countsIn p) (rowsIn p chars attrs) (rowsPlain p chars attrs)
-          (λ r. ap (beam (startOf (feedPlain p chars) (tallyPlain p) r)) (sym (held-valid p chars attrs r 0) ∙ plain-held r 0))
-          (λ r c. ap₂ beam (plain-cell r c) (sym (held-valid p chars attrs r c) ∙ plain-held r c))
+          scan-part beamOf (countsIn p) (omega arith) (omega arith) (rowsIn p chars attrs) (rowsPlain p chars attrs)
+          (λ r _. ap (beam (startOf (feedPlain p chars) (tallyPlain p) r)) (sym (held-valid p chars attrs r 0) ∙ plain-held r 0))
+          (λ r c _. ap₂ beam (plain-cell r c) (sym (held-valid p chars attrs r c) ∙ plain-held r c))
           (row 0 0 0) n
 
 module _ (b : Board) (plain : codedOf (b .page .irs) ≡ false) (chars attrs : List ℕ) (f : Font) where

@@ -10,7 +10,7 @@ use lib.Dec.{eqb, ltb}
 use Rattle.lists.specs.Choice.{pick, firstOf, both}
 use Rattle.units.specs.declared.Clocks.{Clocks}
 use Rattle.refusal.specs.declared.Refusal.{Refusal}
-use Rattle.refusal.specs.declared.Refusal.the-variants.{Done, Version, Length, Size, Reserved, BackPorch, LineShort, FrontPorch, Width, Range, Room, Register, Command, Address}
+use Rattle.refusal.specs.declared.Refusal.the-variants.{Done, Version, Length, Size, Reserved, BackPorch, LineShort, FrontPorch, Width, Range, Room, Register, Command, Address, Kind, Stretch, Apart, Coded}
 use Rattle.refusal.specs.Number.{numberOf, besideOf, doneOf}
 use Rattle.board.specs.declared.Page.{Page}
 use Rattle.board.specs.Range.{addressRefused}
@@ -113,5 +113,9 @@ beside-none Room s f = refl
 beside-none Register s f = refl
 beside-none Command s f = refl
 beside-none Address s f = refl
+beside-none Kind s f = refl
+beside-none Stretch s f = refl
+beside-none Apart s f = refl
+beside-none Coded s f = refl
 beside-none (LineShort n) s f = absurd (s refl)
 beside-none (FrontPorch n) s f = absurd (f refl)

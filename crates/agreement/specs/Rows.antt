@@ -56,7 +56,7 @@ column-in b chars r i = go (isWide (codeOf (codeAt (b .page) chars r)))
     go true h = (omega (arith, h), omega arith)
     go false h = (h, refl)
 
-cell-in : (b : Board) (chars : List ℕ) (r c : ℕ) → c < hactOf (b .page .irs) → nthCell b chars r c < fetchedOf (b .page) chars r
+pub cell-in : (b : Board) (chars : List ℕ) (r c : ℕ) → c < hactOf (b .page .irs) → nthCell b chars r c < fetchedOf (b .page) chars r
 unfolding fetchedOf countsOf
 cell-in b chars r c h = go (isWide (codeOf (codeAt (b .page) chars r)))
   where

@@ -4,5 +4,6 @@ pub mod Pages
 pub mod LineDraw
 pub mod PictureDraw
 pub mod RowCells
+pub mod Catalogue
 pub mod Laws
 pub mod Step

@@ -20,6 +20,7 @@ ghost use Rattle.feldrime.specs.Pages.{sizeFor, runFor, boardFor};
 ghost use Rattle.feldrime.specs.LineDraw.{lineDrawCheck, lineDrawn};
 ghost use Rattle.feldrime.specs.PictureDraw.{pictureDrawCheck, pictureDrawn};
 ghost use Rattle.feldrime.specs.RowCells.{cellsFor, cellsPutFor};
+ghost use Rattle.feldrime.specs.Catalogue.{toTableCheck, toTableNumbers, toTableChars, toSheetCheck, toSheetNumbers};
 ghost use Rattle.feldrime.specs.Step.{numbered, stepNumbers};
 
 // The refusal's number, and the number beside it.
@@ -263,6 +264,39 @@ pub extern "C" fn feldrime_row_cells(
         beside: refusal::beside(refused),
         count: given.count as u32,
     }
+}
+
+// A sheet becomes a page with a row table: its numbers and character memory are altered where they stand.
+#[no_mangle]
+pub extern "C" fn feldrime_to_table(numbers: &mut [u8], chars: &mut [u8]) -> Answer
+    ensures { λ r. ⌜ (r ≡ answerOf (toTableCheck (now (numbers .entry)) (now (chars .entry))))
+        × (now (numbers .exit) ≡ toTableNumbers (now (numbers .entry)) (now (chars .entry)))
+        × (now (chars .exit) ≡ toTableChars (now (numbers .entry)) (now (chars .entry))) ⌝ }
+{
+    if numbers::numbers_refused(numbers) {
+        return answered(refusal::Refusal::Size);
+    }
+    let moved = catalogue::to_table(files::board_at(numbers, 1), chars);
+    let refused = moved.refusal;
+    let board = moved.board;
+    numbers::put_page(refused, board.page, numbers);
+    answered(refused)
+}
+
+// A page whose rows follow one another becomes a sheet: its numbers are altered where they stand.
+#[no_mangle]
+pub extern "C" fn feldrime_to_sheet(numbers: &mut [u8], chars: &[u8]) -> Answer
+    ensures { λ r. ⌜ (r ≡ answerOf (toSheetCheck (now (numbers .entry)) (now (chars .entry))))
+        × (now (numbers .exit) ≡ toSheetNumbers (now (numbers .entry)) (now (chars .entry))) ⌝ }
+{
+    if numbers::numbers_refused(numbers) {
+        return answered(refusal::Refusal::Size);
+    }
+    let moved = catalogue::to_sheet(files::board_at(numbers, 1), chars);
+    let refused = moved.refusal;
+    let board = moved.board;
+    numbers::put_page(refused, board.page, numbers);
+    answered(refused)
 }
 
 // An answer that carries a board.

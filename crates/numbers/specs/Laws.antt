@@ -1,17 +1,18 @@
 -- A page's numbers. Assumes nothing.
---     numbers-put    version, page and zeros, put into a buffer part by part
+--     front-put, numbers-put    version, page and zeros, put into a buffer part by part
 --     numbers-page   the numbers of a file are the file's page
 --     file-read, numbers-kept        what a read leaves
 --     saved-page, saved-numbers      a page as numbers is the page that is kept, and numbers come back
-use Prim.Native.Nat.{ℕ, _+_, _*_, _<_, _≤_}
+--     put-fine, put-page, put-rest   numbers with a page in the place of their own
+use Prim.Native.Nat.{ℕ, suc, _+_, _*_, _<_, _≤_}
 use mathlib.Core.Path.{_≡_, refl, sym, ap, ap₂, _∙_}
 use mathlib.Core.Bool.{Bool, true, false, not}
 use mathlib.Core.List.{List, [], _∷_, _++_}
 use native.Mathlib.Omega.{arith}
 use borrow.Author.Tests.{eqb-true, ne-eqb, not-false}
 use lib.Dec.{eqb}
-use lib.ListN.{length, getD, take, drop, replicate, length-append, List·getD-append}
-use lib.Seq.{take-append-le, take-take, drop-cons, getD-take, getD-drop}
+use lib.ListN.{length, getD, take, drop, replicate, length-append, length-drop, List·getD-append}
+use lib.Seq.{take-append-le, take-take, drop-cons, drop-at, getD-take, getD-drop}
 use Rattle.lists.specs.Choice.{neither}
 use Rattle.units.specs.Units.{dots}
 use Rattle.refusal.specs.declared.Refusal.{Refusal}
@@ -25,9 +26,9 @@ use Rattle.timing.specs.Check.{pageCheck}
 use Rattle.copies.specs.Put.{length-part, putAt, laid-none, put-on, laid-all}
 use Rattle.files.specs.Page.{wordAt, pageAt, pageBytes, keptPage}
 use Rattle.files.specs.File.{versionRefused, readCheck, charsRead, attrsRead}
-use Rattle.files.specs.Laws.{file-sized, FilePassed, file-passed, bytes-all}
-use Rattle.files.specs.Round.{Bytes, bytes-again, version-again, written-known, page-kept}
-use Rattle.numbers.specs.Numbers.{numbersRefused, numbersCheck, numbersWith, numbersIn, pageNumbers, numbersOfCheck, numbersOf}
+use Rattle.files.specs.Laws.{version-known, file-sized, FilePassed, file-passed, bytes-all}
+use Rattle.files.specs.Round.{Bytes, bytes-again, version-again, written-known, page-kept, kept-same}
+use Rattle.numbers.specs.Numbers.{numbersRefused, numbersCheck, numbersFront, numbersWith, numbersIn, pageNumbers, pageIn, numbersOfCheck, numbersOf}
 use Rattle.numbers.specs.Files.{pageReadSize, numbersRead}
 
 pub numbers-all : (numbers : List ℕ) → numbersRefused numbers ≡ false → length numbers ≡ 32
@@ -38,12 +39,13 @@ pub numbers-passed : (numbers : List ℕ) → numbersCheck numbers ≡ Done → 
 unfolding numbersCheck
 numbers-passed numbers e = passed (numbersRefused numbers) Size _ refl e .0
 
-pub numbers-put : (v : ℕ) (page out : List ℕ) → length page ≡ 24 → length out ≡ 32 → {one two three : List ℕ}
-    → one ≡ putAt 0 (v ∷ []) out → two ≡ putAt 1 page one → three ≡ putAt 25 (replicate 7 0) two → three ≡ numbersWith v page
-numbers-put v page out n all e₁ e₂ e₃ =
-    let l₁ = put-on [] (v ∷ []) out 0 1 (laid-none out) refl e₁ in
-    let l₂ = put-on (v ∷ []) page out 1 24 l₁ n e₂ in
-    laid-all (numbersWith v page) out 32 (put-on (v ∷ page) (replicate 7 0) out 25 7 l₂ refl e₃) all
+pub front-put : (v : ℕ) (page out : List ℕ) → length page ≡ 24 → {one two : List ℕ} → one ≡ putAt 0 (v ∷ []) out → two ≡ putAt 1 page one → two ≡ numbersFront v page (drop 25 out)
+front-put v page out n e₁ e₂ = put-on (v ∷ []) page out 1 24 (put-on [] (v ∷ []) out 0 1 (laid-none out) refl e₁) n e₂ .1
+
+pub numbers-put : (v : ℕ) (page out : List ℕ) → length page ≡ 24 → length out ≡ 32 → {front all : List ℕ}
+    → front ≡ numbersFront v page (drop 25 out) → all ≡ putAt 25 (replicate 7 0) front → all ≡ numbersWith v page
+numbers-put v page out n room e₁ e₂ =
+    laid-all (numbersWith v page) out 32 (put-on (v ∷ page) (replicate 7 0) out 25 7 (ap suc n, e₁) refl e₂) room
 
 pub numbers-page : (file : List ℕ) → 29 ≤ length file → pageAt (numbersIn file) 1 ≡ pageAt file 5
 unfolding pageAt wordAt
@@ -111,6 +113,21 @@ module _ (p : Page) (n : length (p .irs) ≡ 15) where
 
   pub saved-page : pageAt (pageNumbers p) 1 ≡ keptPage p
   saved-page = page-kept p (replicate 7 0) n (pageNumbers p) 1 refl refl
+
+-- numbers with a page in the place of their own: refused by nothing, and that page
+module _ (numbers : List ℕ) (fine : numbersRefused numbers ≡ false) (p : Page) (n : length (p .irs) ≡ 15) where
+  pub put-fine : numbersRefused (pageIn p numbers) ≡ false
+  unfolding numbersRefused
+  put-fine = rw (length-append (pageBytes p) (drop 25 numbers), bytes-all p n, length-drop 25 numbers, numbers-all numbers fine) (written-known p)
+
+  pub put-page : p .version ≡ getD numbers 0 0 → pageAt (pageIn p numbers) 1 ≡ p
+  put-page e =
+      let known = version-known numbers 2 (numbers-version numbers fine) in
+      page-kept p (drop 25 numbers) n (pageIn p numbers) 1 refl refl ∙ kept-same p (omega (arith, e, known .0)) (omega (arith, e, known .1))
+
+  -- the bytes that are ignored stay
+  pub put-rest : drop 25 (pageIn p numbers) ≡ drop 25 numbers
+  put-rest = drop-at (pageBytes p) (drop 25 numbers) 24 (bytes-all p n)
 
 -- the page of numbers, as numbers: those, with zeros where numbers are ignored
 pub saved-numbers : (numbers : List ℕ) → Bytes numbers → length numbers ≡ 32 → versionRefused numbers 2 ≡ false → pageNumbers (pageAt numbers 1) ≡ take 25 numbers ++ replicate 7 0

@@ -27,9 +27,13 @@ numbersCheck numbers = pick (numbersRefused numbers) Size (pageCheck (pageAt num
 abbrev pub numbersBoard : List ℕ → Board
 numbersBoard numbers = boardAt numbers 1
 
--- the numbers of a version and a page's 24 bytes
+-- the numbers of a version and a page's 24 bytes, with what stands behind them
+abbrev pub numbersFront : (version : ℕ) → (page rest : List ℕ) → List ℕ
+numbersFront version page rest = version ∷ (page ++ rest)
+
+-- which are zeros
 abbrev pub numbersWith : (version : ℕ) → List ℕ → List ℕ
-numbersWith version page = version ∷ (page ++ replicate 7 0)
+numbersWith version page = numbersFront version page (replicate 7 0)
 
 -- those of a page file
 abbrev pub numbersIn : List ℕ → List ℕ
@@ -38,6 +42,10 @@ numbersIn file = numbersWith (getD file 0 0) (take 24 (drop 5 file))
 -- those of a page: its version, IR0 to IR14, screen start 1, cursor and screen start 2 high byte first, switches, dots, strike line, seven zeros
 abbrev pub pageNumbers : Page → List ℕ
 pageNumbers p = numbersWith (versionOf p) (pageBytes p)
+
+-- numbers with a page in the place of their own; the bytes that are ignored stay
+abbrev pub pageIn : Page → List ℕ → List ℕ
+pageIn p numbers = numbersFront (versionOf p) (pageBytes p) (drop 25 numbers)
 
 -- ---- a board's page as numbers
 

@@ -1,8 +1,12 @@
 // A page's numbers as C has them: 32 bytes, the version first.
 ghost use mathlib.Core.Path.{_≡_};
-ghost use lib.ListN.{length};
+ghost use mathlib.Core.Bool.{true};
+ghost use Prim.Native.Nat.{_≤_};
+ghost use lib.ListN.{length, drop};
+ghost use Rattle.lists.specs.Choice.{pick};
+ghost use Rattle.refusal.specs.Number.{doneOf};
 ghost use Rattle.files.specs.File.{readCheck, charsRead, attrsRead};
-ghost use Rattle.numbers.specs.Numbers.{numbersRefused, numbersCheck, numbersWith, numbersOfCheck, numbersOf};
+ghost use Rattle.numbers.specs.Numbers.{numbersRefused, numbersCheck, numbersFront, numbersWith, pageIn, numbersOfCheck, numbersOf};
 ghost use Rattle.numbers.specs.Files.{pageReadSize, numbersRead, pageWriteCheck, pageWritten};
 
 // 3, for a page's numbers.
@@ -22,16 +26,35 @@ pub fn numbers_check(numbers: &[u8]) -> refusal::Refusal
     timing::page_check(files::page_at(numbers, 1))
 }
 
+// The version and a page's 24 bytes; what stands behind them stays.
+fn put_front(version: u8, page: &[u8], numbers: &mut [u8])
+    requires { ⌜ (length (now page) ≡ 24) × (length (now numbers) ≡ 32) ⌝ }
+    ensures { λ _. ⌜ now (numbers .exit) ≡ numbersFront version (now (page .entry)) (drop 25 (now (numbers .entry))) ⌝ }
+{
+    let front = [version];
+    copies::put(&front, 0, numbers);
+    copies::put(page, 1, numbers);
+}
+
 // The version, a page's 24 bytes, and zeros.
 fn put_numbers(version: u8, page: &[u8], numbers: &mut [u8])
     requires { ⌜ (length (now page) ≡ 24) × (length (now numbers) ≡ 32) ⌝ }
     ensures { λ _. ⌜ now (numbers .exit) ≡ numbersWith version (now (page .entry)) ⌝ }
 {
-    let front = [version];
     let rest = [0u8; 7];
-    copies::put(&front, 0, numbers);
-    copies::put(page, 1, numbers);
+    put_front(version, page, numbers);
     copies::put(&rest, 25, numbers);
+}
+
+// Puts a page in the place of the numbers' own where nothing is refused. The bytes that are not looked at stay.
+pub fn put_page(r: refusal::Refusal, p: board::Page, numbers: &mut [u8])
+    requires { ⌜ (length (now numbers) ≡ 32) × (doneOf r ≡ true → p .video .dots .0 ≤ 12) ⌝ }
+    ensures { λ _. ⌜ now (numbers .exit) ≡ pick (doneOf r) (pageIn p (now (numbers .entry))) (now (numbers .entry)) ⌝ }
+{
+    if refusal::is_done(r) {
+        let bytes = files::page_bytes(p);
+        put_front(board::version_of(p), &bytes, numbers);
+    }
 }
 
 // Takes a page file apart: its numbers and the two memories. A refusal leaves them as they were.

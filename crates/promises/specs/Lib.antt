@@ -6,3 +6,4 @@ pub mod Runs
 pub mod Texts
 pub mod Numbers
 pub mod Saved
+pub mod Moved

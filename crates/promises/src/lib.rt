@@ -2,6 +2,7 @@
 // Here those about files, a page's numbers and registers; `promises_stepped` has those about stepping.
 pub mod again;
 pub mod kept;
+pub mod moved;
 pub mod runs;
 pub mod saved;
 pub mod sizes;

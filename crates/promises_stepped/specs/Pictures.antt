@@ -76,16 +76,16 @@ module _ (numbers chars attrs words flags unshifted shifted : List ℕ) (field :
   roomy : pictureLength (b .page) ≤ length out₀
   roomy = picture-passed b chars attrs f (length out₀) (taken .1) .roomy
 
-  pictured : pictureDrawn numbers chars attrs f field out₀ ≡ pictureDots b chars attrs f field ++ drop (pictureLength (b .page)) out₀
+  pub pictured : pictureDrawn numbers chars attrs f field out₀ ≡ pictureDots b chars attrs f field ++ drop (pictureLength (b .page)) out₀
   unfolding pictureDrawn picturedOf
   pictured = rw (taken .0, taken .1)
 
-  same-length : (xs : List ℕ) → xs ≡ pictureDots b chars attrs f field ++ drop (pictureLength (b .page)) out₀ → length xs ≡ length out₀
+  pub dots-long : length (pictureDots b chars attrs f field) ≡ pictureLength (b .page)
   unfolding pictureDots
-  same-length xs e =
-      ap length e
-      ∙ rw (length-append, length-joined (λ (l : ℕ). lineDots b chars attrs f l field) (lineLength b) (λ l. length-line b chars attrs f l field page) 0 (visibleOf (b .page .irs) .0), length-drop)
-      (omega (arith, roomy))
+  dots-long = length-joined (λ (l : ℕ). lineDots b chars attrs f l field) (lineLength b) (λ l. length-line b chars attrs f l field page) 0 (visibleOf (b .page .irs) .0)
+
+  pub same-length : (xs : List ℕ) → xs ≡ pictureDots b chars attrs f field ++ drop (pictureLength (b .page)) out₀ → length xs ≡ length out₀
+  same-length xs e = ap length e ∙ rw (length-append, dots-long, length-drop) (omega (arith, roomy))
 
   -- where a line stands in the buffer
   module _ (size : SizeAnswer) (sized : size ≡ sizeFor numbers) (line : ℕ) (h : line < size .lines) where

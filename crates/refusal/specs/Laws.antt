@@ -3,7 +3,7 @@ use mathlib.Core.Path.{_≡_, refl, sym, ap, _∙_}
 use mathlib.Core.Bool.{Bool, true, false, not, true≢false}
 use Rattle.lists.specs.Choice.{pick}
 use Rattle.refusal.specs.declared.Refusal.{Refusal}
-use Rattle.refusal.specs.declared.Refusal.the-variants.{Done, Version, Length, Size, Reserved, BackPorch, LineShort, FrontPorch, Width, Range, Room, Register, Command, Address}
+use Rattle.refusal.specs.declared.Refusal.the-variants.{Done, Version, Length, Size, Reserved, BackPorch, LineShort, FrontPorch, Width, Range, Room, Register, Command, Address, Kind, Stretch, Apart, Coded}
 use Rattle.refusal.specs.Number.{doneOf}
 
 pub done-is : (r : Refusal) → doneOf r ≡ true → r ≡ Done
@@ -21,6 +21,10 @@ done-is Room e = absurd (true≢false (sym e))
 done-is Register e = absurd (true≢false (sym e))
 done-is Command e = absurd (true≢false (sym e))
 done-is Address e = absurd (true≢false (sym e))
+done-is Kind e = absurd (true≢false (sym e))
+done-is Stretch e = absurd (true≢false (sym e))
+done-is Apart e = absurd (true≢false (sym e))
+done-is Coded e = absurd (true≢false (sym e))
 
 -- a choice of a refusal x, which came out as Done, was not taken; so a list of tests is gone through one by one
 pub passed : (t : Bool) (x r : Refusal) → doneOf x ≡ false → pick t x r ≡ Done → (t ≡ false) × (r ≡ Done)

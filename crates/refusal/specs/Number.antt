@@ -1,9 +1,9 @@
--- 01, "Refusal numbers", and 02, R-2: the number of each row, what stands beside it, and which row says that it is done.
+-- 01, "Refusal numbers", and 02, R-2 and R-5: the number of each row, what stands beside it, and which row says that it is done.
 use Prim.Native.Nat.{ℕ}
 use lib.Dec.{eqb}
 use mathlib.Core.Bool.{Bool}
 use Rattle.refusal.specs.declared.Refusal.{Refusal}
-use Rattle.refusal.specs.declared.Refusal.the-variants.{Done, Version, Length, Size, Reserved, BackPorch, LineShort, FrontPorch, Width, Range, Room, Register, Command, Address}
+use Rattle.refusal.specs.declared.Refusal.the-variants.{Done, Version, Length, Size, Reserved, BackPorch, LineShort, FrontPorch, Width, Range, Room, Register, Command, Address, Kind, Stretch, Apart, Coded}
 
 abbrev pub numberOf : Refusal → ℕ
 numberOf Done = 0
@@ -20,6 +20,10 @@ numberOf Room = 8
 numberOf Register = 9
 numberOf Command = 10
 numberOf Address = 12
+numberOf Kind = 16
+numberOf Stretch = 17
+numberOf Apart = 18
+numberOf Coded = 19
 
 -- by how many clocks the front porch misses 2; no other refusal has a number beside it
 abbrev pub besideOf : Refusal → ℕ
@@ -37,6 +41,10 @@ besideOf Room = 0
 besideOf Register = 0
 besideOf Command = 0
 besideOf Address = 0
+besideOf Kind = 0
+besideOf Stretch = 0
+besideOf Apart = 0
+besideOf Coded = 0
 
 -- nothing is refused
 abbrev pub doneOf : Refusal → Bool

@@ -18,6 +18,10 @@ pub enum Refusal {
     Register,
     Command,
     Address,
+    Kind,
+    Stretch,
+    Apart,
+    Coded,
 }
 
 pub fn number(r: Refusal) -> u32
@@ -38,6 +42,10 @@ pub fn number(r: Refusal) -> u32
         Refusal::Register => 9,
         Refusal::Command => 10,
         Refusal::Address => 12,
+        Refusal::Kind => 16,
+        Refusal::Stretch => 17,
+        Refusal::Apart => 18,
+        Refusal::Coded => 19,
     }
 }
 
@@ -60,6 +68,10 @@ pub fn beside(r: Refusal) -> u32
         Refusal::Register => 0,
         Refusal::Command => 0,
         Refusal::Address => 0,
+        Refusal::Kind => 0,
+        Refusal::Stretch => 0,
+        Refusal::Apart => 0,
+        Refusal::Coded => 0,
     }
 }
 

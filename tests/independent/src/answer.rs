@@ -7,8 +7,9 @@ use crate::calls;
 use crate::files::{page_of_head, page_of_numbers};
 use crate::judge::Refusal;
 use crate::machine::Shown;
+use crate::moved::{add_shown, Look, Movable};
 use crate::registers;
-use crate::script::{board_of_text, board_text, hex, number, small, Buffers, Sum};
+use crate::script::{board_of_text, board_text, elements, hex, number, small, Buffers, Sum, Sums};
 
 /// "a frame at most 826,752 clocks"
 const LONGEST_FRAME: u32 = 826_752;
@@ -96,6 +97,7 @@ fn shown_text(shown: &Shown) -> String {
 struct Desk<'a> {
     output: &'a mut dyn Write,
     buffers: Buffers,
+    sums: Sums,
     board: Board,
     given: Board,
     every: u32,
@@ -162,7 +164,8 @@ impl Counts {
 
 impl<'a> Desk<'a> {
     fn new(output: &'a mut dyn Write) -> Desk<'a> {
-        Desk { output, buffers: Buffers::default(), board: Board::default(), given: Board::default(), every: 0 }
+        let (buffers, sums) = (Buffers::default(), Sums::default());
+        Desk { output, buffers, sums, board: Board::default(), given: Board::default(), every: 0 }
     }
 
     fn say(&mut self, text: &str) -> Result<(), String> {
@@ -182,6 +185,7 @@ impl<'a> Desk<'a> {
             ["board", digits] => self.place_board(board_of_text(digits)?),
             ["every", steps] => number(steps).map(|steps| self.every = steps),
             ["frame"] => self.frame(),
+            ["moves", fields] => self.moves(&elements(fields)?),
             ["call", ref call @ ..] => self.call(call),
             _ => Err(format!("not understood: {}", line)),
         }
@@ -212,6 +216,8 @@ impl<'a> Desk<'a> {
             ["picture_draw", field] => self.picture_draw(small(field)?).map(|_| ()),
             ["row_run", row] => self.row_run(number(row)?),
             ["row_cells", row] => self.row_cells(number(row)?),
+            ["to_table"] => self.to_table().map(|_| ()),
+            ["to_sheet"] => self.to_sheet().map(|_| ()),
             ["power"] => self.power(),
             ["board_of"] => self.board_of(),
             ["numbers_of"] => self.numbers_of(),
@@ -236,7 +242,7 @@ impl<'a> Desk<'a> {
         results: &str,
         lent: &[&str],
     ) -> Result<(), String> {
-        let buffers = self.buffers.report(lent)?;
+        let buffers = self.sums.report(&mut self.buffers, lent)?;
         let space = if results.is_empty() { "" } else { " " };
         let Handed { power, mode } = handed;
         let Refusal { number, beside } = refusal;
@@ -330,6 +336,20 @@ impl<'a> Desk<'a> {
         self.report("row_run", self.numbers_handed(), 1, refusal, &results, &["numbers", "chars"])
     }
 
+    fn to_table(&mut self) -> Result<Refusal, String> {
+        let handed = self.numbers_handed();
+        let refusal = calls::to_table(&mut self.buffers.numbers, &mut self.buffers.chars);
+        self.report("to_table", handed, 1, refusal, "", &["numbers", "chars"])?;
+        Ok(refusal)
+    }
+
+    fn to_sheet(&mut self) -> Result<Refusal, String> {
+        let handed = self.numbers_handed();
+        let refusal = calls::to_sheet(&mut self.buffers.numbers, &self.buffers.chars);
+        self.report("to_sheet", handed, 1, refusal, "", &["numbers", "chars"])?;
+        Ok(refusal)
+    }
+
     fn power(&mut self) -> Result<(), String> {
         self.board = Board::power();
         self.report_board("power", Handed::NO_PAGE, Refusal::NONE, &[])
@@ -416,10 +436,10 @@ impl<'a> Desk<'a> {
         let picture = self.frame_as_picture(lines, width, field)?;
         let cells = self.frame_by_rows(lines, &mut stepped.counts)?;
         let agree = stepped.dots == drawn && stepped.dots == picture && stepped.addresses == cells;
-        let agree = if agree { "agree" } else { "differ" };
         let page = self.board.page;
         let shape = format!("dots {} columns {} lines {}", page.dots, page.hact(), page.lines_per_row());
-        self.say(&format!("frame {} {} {} {}{}", stepped.clocks, agree, mode(page), shape, stepped.counts.text()))
+        let found = format!("{} {} {}", agreed(agree), mode(page), shape);
+        self.say(&format!("frame {} {}{}", stepped.clocks, found, stepped.counts.text()))
     }
 
     fn frame_by_steps(&mut self, lines: u32, width: u32) -> Result<Frame, String> {
@@ -494,18 +514,55 @@ impl<'a> Desk<'a> {
         self.report_cells(count, refusal, &format!("sum {:016x}", sum.0))?;
         Ok(found)
     }
+
+    /// A move, its refusal, and whether it changed nothing that it must not.
+    fn moved(&mut self, there: bool) -> Result<(Refusal, bool), String> {
+        let before = Movable::of(&self.buffers);
+        let refusal = if there { self.to_table()? } else { self.to_sheet()? };
+        let now = Movable::of(&self.buffers);
+        let alone = if refusal.refused() { before == now } else { before.changed_alone(there, &now) };
+        Ok((refusal, alone))
+    }
+
+    fn look(&self, fields: &[u8]) -> Look {
+        Look::at(&Movable::of(&self.buffers), self.buffers.lent(), fields)
+    }
+
+    /// The page is moved to the other kind, and back to its own, and has to show the same each time. Then all is put as it was.
+    fn moves(&mut self, fields: &[u8]) -> Result<(), String> {
+        if self.page_size()?.0.refused() {
+            return Ok(());
+        }
+        let (given, mode) = (Movable::of(&self.buffers), self.numbers_handed().mode);
+        let there = given.is_sheet();
+        let [out, home] = if there { ["there", "back"] } else { ["back", "there"] };
+        let (first, mut agree) = self.moved(there)?;
+        if first.refused() {
+            return self.say(&format!("moves {} {} {} {}", out, first.number, agreed(agree), mode));
+        }
+        let look = Look::at(&given, self.buffers.lent(), fields);
+        agree &= !look.refusal.refused() && look == self.look(fields);
+        let (second, alone) = self.moved(!there)?;
+        let now = Movable::of(&self.buffers);
+        agree &= alone && given.came_home(&now, second) && look == self.look(fields);
+        let (place, rows) = now.table();
+        self.buffers.numbers = given.numbers;
+        self.buffers.chars = given.chars;
+        let answers = format!("{} {} {} {} {} {}", out, first.number, home, second.number, agreed(agree), mode);
+        self.say(&format!("moves {} table {} rows {} {}", answers, place, rows, look.text()))
+    }
+}
+
+fn agreed(agree: bool) -> &'static str {
+    if agree {
+        "agree"
+    } else {
+        "differ"
+    }
 }
 
 fn add_step(sum: &mut Sum, shown: &Shown, board: &Board) {
-    let signals = shown.signals;
-    // refusal and the number beside it
-    sum.add(0);
-    sum.add(0);
-    for signal in [signals.hsync, signals.vsync, signals.blank, signals.cursor, signals.blink] {
-        sum.add(u32::from(signal));
-    }
-    sum.add(u32::from(shown.address));
-    shown.dots.iter().for_each(|&dot| sum.add(u32::from(dot)));
+    add_shown(sum, shown);
     sum.add(u32::from(board.place.field));
     sum.add(board.place.line);
     sum.add(board.place.clock);

@@ -1,11 +1,11 @@
 //! The calls of the C boundary, answered from 01. Each gives its refusal first. "A refusal returns zeros beside its
 //! number (an empty part for a run) and the old state"; what was lent stays as it was.
 
-use crate::board::{Board, Font, Lent};
+use crate::board::{Board, Font, Lent, Page};
 use crate::files::{self, page_of_numbers};
 use crate::judge::{self, fault, Fault, Refusal};
 use crate::machine::{self, Shown};
-use crate::sheet;
+use crate::{sheet, tables};
 
 pub fn page_check(numbers: &[u8]) -> Refusal {
     match page_of_numbers(numbers) {
@@ -152,6 +152,58 @@ pub fn row_cells(numbers: &[u8], chars: &[u8], row: u32, cells: &mut [u16]) -> (
     let found = sheet::row_cells(&page, chars, row);
     cells[..found.len()].copy_from_slice(&found);
     (Refusal::NONE, found.len() as u32)
+}
+
+/// The page that is to be moved, or "the page's own" refusal.
+fn page_to_move(numbers: &[u8], chars: &[u8]) -> Result<Page, Refusal> {
+    let page = page_of_numbers(numbers).ok_or(Refusal::plain(3))?;
+    let mut faults = judge::page(&page);
+    faults.push(judge::memory(chars));
+    match judge::first(&faults) {
+        Refusal::NONE => Ok(page),
+        refusal => Err(refusal),
+    }
+}
+
+/// The page in the place of the one that the numbers held; the bytes after it stay.
+fn put_page(numbers: &mut [u8], page: &Page) {
+    numbers[1..1 + files::PAGE_BYTES].copy_from_slice(&files::bytes_of(page));
+}
+
+/// R-5: "The move writes a table [..]; it sets screen start 2 and IR2[7] and nothing else."
+pub fn to_table(numbers: &mut [u8], chars: &mut [u8]) -> Refusal {
+    let mut page = match page_to_move(numbers, chars) {
+        Ok(page) => page,
+        Err(refusal) => return refusal,
+    };
+    let stretch = tables::lowest_stretch(&page);
+    let faults = [fault(16, page.row_table_on()), fault(19, page.rows_have_codes()), fault(17, stretch.is_none())];
+    let refusal = judge::first(&faults);
+    if let (Refusal::NONE, Some(place)) = (refusal, stretch) {
+        let table = tables::table_of(&page);
+        chars[place..place + table.len()].copy_from_slice(&table);
+        page.start2 = place as u16;
+        page.irs[2] |= 0x80;
+        put_page(numbers, &page);
+    }
+    refusal
+}
+
+/// R-5: "it clears IR2[7], sets screen start 1 to the first entry, and leaves memory"
+pub fn to_sheet(numbers: &mut [u8], chars: &[u8]) -> Refusal {
+    let mut page = match page_to_move(numbers, chars) {
+        Ok(page) => page,
+        Err(refusal) => return refusal,
+    };
+    let apart = !tables::entries_follow(&page, chars);
+    let faults = [fault(16, !page.row_table_on()), fault(19, page.rows_have_codes()), fault(18, apart)];
+    let refusal = judge::first(&faults);
+    if !refusal.refused() {
+        page.start1 = sheet::row_start(&page, chars, 0);
+        page.irs[2] &= 0x7F;
+        put_page(numbers, &page);
+    }
+    refusal
 }
 
 /// A refused page gives the board that power gives.

@@ -1,8 +1,9 @@
-//! 01 "Numbers on both sides": cases A1 to A10, A2 as R-2 has it, and the listing, in both ways of this program; and pages
-//! for, drawn by hand.
+//! 01 "Numbers on both sides": cases A1 to A10, A2 as R-2 has it, and the listing, in both ways of this program; pages
+//! for, drawn by hand; and row tables for R-5, worked out by hand.
 
 use crate::board::{Board, Font, Lent, Page};
-use crate::files::{self, numbers_of};
+use crate::dice::in_buffer;
+use crate::files::{self, numbers_of, page_of_numbers};
 use crate::judge::Refusal;
 use crate::listing::listing;
 use crate::{calls, machine, sheet};
@@ -21,11 +22,7 @@ pub fn page(hact: u32, ec: u32) -> Page {
 
 /// A1's page with a display buffer and screen start 1.
 pub fn page_in_buffer(first: u16, last: u16, start1: u16) -> Page {
-    let mut page = page(80, 35);
-    page.irs[8] = (first % 256) as u8;
-    page.irs[9] = (last / 1024) as u8 * 16 + (first / 256) as u8;
-    page.start1 = start1;
-    page
+    in_buffer(page(80, 35), first, last, start1)
 }
 
 /// "One row of one cell, two lines, HSYNC 2, HBP 3, EC 1, 8 dots, display on"
@@ -119,6 +116,8 @@ pub fn all() -> Vec<(&'static str, bool)> {
     cases.extend(listing_cases());
     cases.extend(field_cases());
     cases.extend(code_cases());
+    cases.extend(there_cases());
+    cases.extend(back_cases());
     cases
 }
 
@@ -367,6 +366,83 @@ fn code_cases() -> Vec<(&'static str, bool)> {
         ("R-4 cells fetched", [1, 2, 3, 4, 5].map(|hact| fetches(2, hact).0) == [1, 1, 2, 2, 3]),
         ("R-4 first runs", [1, 2, 3, 4, 5].map(|hact| fetches(3, hact).1) == [1, 1, 2, 2, 3]),
         ("R-4 plain rows", [1, 2, 5].map(|hact| fetches(0, hact)) == [(1, 1), (2, 2), (5, 5)]),
+    ]
+}
+
+/// The refusal of a move there or, as 0, where the table stands, and the entries of these two rows.
+fn there(page: &Page, rows: [usize; 2]) -> (u32, u16, [u16; 2]) {
+    let (mut numbers, mut chars) = (numbers_of(page), vec![0; 16384]);
+    let refusal = calls::to_table(&mut numbers, &mut chars);
+    let moved = page_of_numbers(&numbers).expect("a page stays one");
+    let entry = |row: usize| {
+        let at = usize::from(moved.start2) + 2 * row;
+        u16::from_le_bytes([chars[at], chars[at + 1]])
+    };
+    let mut expected = Page { start2: moved.start2, ..*page };
+    expected.irs[2] |= 0x80;
+    match refusal.number {
+        0 if moved == expected => (0, moved.start2, rows.map(entry)),
+        number => (number, 0, [0, 0]),
+    }
+}
+
+/// So many rows of HACT cells in a buffer that holds all of memory.
+fn large(rows: u8, hact: u32, start1: u16) -> Page {
+    let mut page = in_buffer(page(hact, 64), 0, 16383, start1);
+    page.irs[4] = rows - 1;
+    page
+}
+
+fn there_cases() -> Vec<(&'static str, bool)> {
+    let in_buffer = |first, last, start1, rows| there(&page_in_buffer(first, last, start1), rows);
+    let refused = |page: &Page| there(page, [0, 1]).0;
+    let one = |start1: u16| there(&Page { start1, ..example_page() }, [0, 0]);
+    let (six, _) = six_cells(1, 0);
+    let (coded, _) = four_rows(1, 0, 3, 8);
+    vec![
+        ("R-5 two rows", there(&six, [0, 1]) == (0, 6, [0, 3])),
+        ("R-5 one cell", one(0) == (0, 1, [0, 0]) && one(1) == (0, 2, [1, 1]) && one(2) == (0, 0, [2, 2])),
+        ("R-5 A6", in_buffer(0, 1023, 1000, [0, 1]) == (0, 1024, [1000, 56])),
+        ("R-5 A7", in_buffer(2048, 3071, 0, [1, 23]) == (0, 1920, [80, 1840])),
+        ("R-5 A8", in_buffer(4095, 1023, 16383, [1, 13]) == (0, 1024, [79, 4110])),
+        ("R-5 just enough cells", there(&large(128, 126, 0), [1, 127]) == (0, 16128, [126, 16002])),
+        ("R-5 a cell too few", refused(&large(113, 143, 0)) == 17),
+        ("R-5 enough over 16383", refused(&large(128, 126, 100)) == 17),
+        ("R-5 there already", refused(&coded) == 16),
+    ]
+}
+
+/// The refusal of a move back, or as 0 the screen start 1 of two rows with these entries. Bytes after the page's own are kept.
+fn back(row_0: u16, row_1: u16, ir0: u8) -> (u32, u16) {
+    let (mut page, cells) = six_cells(1, 0);
+    page.irs[0] |= ir0;
+    page.irs[2] |= 0x80;
+    page.start2 = 16381;
+    let (mut numbers, mut chars) = (numbers_of(&page), cells.chars);
+    numbers[31] = 77;
+    for (at, byte) in [row_0.to_le_bytes(), row_1.to_le_bytes()].concat().into_iter().enumerate() {
+        chars[(16381 + at) % 16384] = byte;
+    }
+    let refusal = calls::to_sheet(&mut numbers, &chars);
+    let moved = page_of_numbers(&numbers).expect("a page stays one");
+    let mut expected = Page { start1: moved.start1, ..page };
+    expected.irs[2] &= 0x7F;
+    match refusal.number {
+        0 if moved == expected && numbers[31] == 77 => (0, moved.start1),
+        number => (number, 0),
+    }
+}
+
+fn back_cases() -> Vec<(&'static str, bool)> {
+    let (sheet, _) = six_cells(1, 0);
+    let already = calls::to_sheet(&mut numbers_of(&sheet), &[0; 16384]) == Refusal::plain(16);
+    vec![
+        ("R-5 back", back(500, 503, 0) == (0, 500)),
+        ("R-5 back over 1023", back(1022, 1, 0) == (0, 1022)),
+        ("R-5 back with upper bits", back(0xC000 | 500, 0x4000 | 503, 0) == (0, 500)),
+        ("R-5 an entry apart", [502, 504, 0x2000 | 503].map(|row_1| back(500, row_1, 0)) == [(18, 0); 3]),
+        ("R-5 codes", back(500, 503, 0x80) == (19, 0) && back(500, 504, 0x80) == (19, 0)),
+        ("R-5 back already", already),
     ]
 }
 

@@ -1,13 +1,13 @@
 //! Compares two streams of answers script by script and counts call by answer number by power state and mode, and what was
-//! met of R-4 (`met`). A case counts only where its whole script was the same on both sides.
+//! met of R-4 and R-5 (`met`). A case counts only where its whole script was the same on both sides.
 
 use std::collections::BTreeMap;
 use std::io::BufRead;
 
 use crate::met::Met;
 
-/// "Lowest number first, except that 12 precedes 4", and R-2's three in the place of 5: the table's columns.
-const NUMBERS: [u32; 14] = [0, 1, 2, 3, 12, 4, 13, 14, 15, 6, 7, 8, 9, 10];
+/// "Lowest number first, except that 12 precedes 4", R-2's three in the place of 5, and R-5's after these: the table's columns.
+const NUMBERS: [u32; 18] = [0, 1, 2, 3, 12, 4, 13, 14, 15, 6, 7, 8, 9, 10, 16, 19, 17, 18];
 
 const NO_BOARD: &[&str] = &["-"];
 const INACTIVE: &[&str] = &["inactive-0", "inactive-1"];
@@ -16,10 +16,12 @@ const EVERY_POWER: &[&str] = &["inactive-0", "inactive-1", "active"];
 
 const NO_PAGE: &[&str] = &["-"];
 const ANY: &[&str] = &["character", "field", "character+codes", "field+codes"];
+const PLAIN: &[&str] = &["character", "field"];
+const CODED: &[&str] = &["character+codes", "field+codes"];
 const NO_TABLE: &[&str] = &["no-table"];
 const ANY_AND_NO_TABLE: &[&str] = &["character", "field", "character+codes", "field+codes", "no-table"];
 
-/// Which answers a call may give in a power state and a mode, and 01's words for it, with R-2's numbers.
+/// Which answers a call may give in a power state and a mode, and 01's words for it, with R-2's numbers, or 02's.
 struct Allowed {
     call: &'static str,
     powers: &'static [&'static str],
@@ -42,6 +44,9 @@ const FILES: &str = "Files give 1, 2 (reading only), 3, 12, 4, 13, 14, 15, 6";
 const DRAWING: &str = "Drawing, stepping, states and runs give 3, 4, 6 to 8 and 12 to 15";
 const REGISTERS: &str = "Register calls give 12, 7 (for the pointer only), 9, 10";
 const RESERVED: &str = "4 now means interlace, or IR0[7] without the row table";
+const MOVES: &str = "after the page's own, in this order: 16, 19, 17 (there only), 18 (back only)";
+const KIND: &str = "16 page already of the kind asked for";
+const CODES: &str = "19 IR0[7] set";
 
 /// Every cell of the table that 01 allows. A page's numbers hold no place and no pointer, so that calls which
 /// take them have no 7 but for an asked line or row; 8 needs a buffer for dots. Numbers that are no page are 3.
@@ -71,6 +76,14 @@ const ALLOWED: &[Allowed] = &[
     allowed("row_cells", NO_BOARD, NO_PAGE, &[3], DRAWING),
     allowed("row_cells", NO_BOARD, ANY, &[0, 3, 12, 4, 13, 14, 15, 6, 7], DRAWING),
     allowed("row_cells", NO_BOARD, NO_TABLE, &[3, 12, 4], RESERVED),
+    allowed("to_table", NO_BOARD, NO_PAGE, &[3], MOVES),
+    allowed("to_table", NO_BOARD, PLAIN, &[0, 3, 12, 4, 13, 14, 15, 6, 16, 17], MOVES),
+    allowed("to_table", NO_BOARD, CODED, &[3, 12, 4, 13, 14, 15, 6, 16], KIND),
+    allowed("to_table", NO_BOARD, NO_TABLE, &[3, 12, 4], RESERVED),
+    allowed("to_sheet", NO_BOARD, NO_PAGE, &[3], MOVES),
+    allowed("to_sheet", NO_BOARD, PLAIN, &[0, 3, 12, 4, 13, 14, 15, 6, 16, 18], MOVES),
+    allowed("to_sheet", NO_BOARD, CODED, &[3, 12, 4, 13, 14, 15, 6, 19], CODES),
+    allowed("to_sheet", NO_BOARD, NO_TABLE, &[3, 12, 4], RESERVED),
     allowed("power", NO_BOARD, NO_PAGE, &[0], "Power gives zeros throughout"),
     allowed("board_of", NO_BOARD, NO_PAGE, &[3], FILES),
     allowed("board_of", NO_BOARD, ANY, &[0, 12, 4, 13, 14, 15, 6], FILES),
@@ -177,7 +190,7 @@ pub fn compare(asked: u64, ours: &mut dyn BufRead, theirs: &mut dyn BufRead) -> 
 
 impl Outcome {
     fn judge(&mut self, ours: &Block, theirs: &Block) {
-        let apart = first_difference(ours, theirs).or_else(|| frame_that_differs(ours));
+        let apart = first_difference(ours, theirs).or_else(|| order_that_differs(ours));
         match apart {
             None => {
                 self.compared += 1;
@@ -208,10 +221,12 @@ fn first_difference(ours: &Block, theirs: &Block) -> Option<String> {
     Some(format!("answer {} differs\n  first:  {}\n  second: {}", at + 1, a, b))
 }
 
-/// Both sides may agree that steps, lines and picture show different dots, or steps and rows other cells: that is no agreement.
-fn frame_that_differs(block: &Block) -> Option<String> {
-    let line = block.lines.iter().find(|line| line.starts_with("frame ") && line.contains(" differ "))?;
-    Some(format!("steps, lines, picture and cells differ on both sides: {}", line))
+/// Both sides may agree that steps, lines and picture show different dots, steps and rows other cells, or that a page shows
+/// something else where it was moved: that is no agreement.
+fn order_that_differs(block: &Block) -> Option<String> {
+    let orders = ["frame ", "moves "];
+    let differs = |line: &&String| line.contains(" differ ") && orders.iter().any(|order| line.starts_with(order));
+    block.lines.iter().find(differs).map(|line| format!("not the same in itself, on both sides: {}", line))
 }
 
 /// An answer's line begins "CALL POWER MODE COUNT REFUSAL".

@@ -1,6 +1,6 @@
 //! The fixed scripts for 01's corners: each command byte, each width, the smallest and largest pages, its
 //! cases, phrases, wraps, tables at the end of memory, fields past 255, the last clocks, rooms of every size, saved boards,
-//! files, and nothing at all. Those for R-1 are in `latches`, those for R-4 in `headlines`.
+//! files, and nothing at all. Those for R-1 are in `latches`, those for R-4 in `headlines`, those for R-5 in `moves`.
 
 use crate::board::{Board, Page};
 use crate::cases;
@@ -214,9 +214,10 @@ fn dot_cases(script: &mut Script, _: &mut Dice) {
     script.say("fill shifted 9 0");
     script.say("fill attrs 16384 0");
     for dots in 6..=12 {
-        script.numbers(&Page { dots, ..cases::example_page() });
+        let page = Page { dots, ..cases::example_page() };
+        script.numbers(&page);
         script.say("call board_of");
-        script.say("frame");
+        script.frame(&page);
     }
     for mode in [0x00, 0x10, 0x30] {
         let version = if mode == 0 { 1 } else { 2 };
@@ -401,7 +402,7 @@ fn last_clocks(script: &mut Script, dice: &mut Dice) {
             script.say(format!("call step {}", page.ht()));
         }
         script.say(format!("call state_at {}", last_whole));
-        script.say("frame");
+        script.frame(&page);
     }
 }
 
@@ -483,7 +484,7 @@ fn font_files(script: &mut Script, dice: &mut Dice) {
     script.attrs(dice);
     script.numbers(&page);
     script.say("call board_of");
-    script.say("frame");
+    script.frame(&page);
     lines(script, dice, &page);
 }
 
@@ -525,6 +526,8 @@ fn nothing(script: &mut Script, dice: &mut Dice) {
         "row_run 4294967295",
         "row_cells 0",
         "row_cells 4294967295",
+        "to_table",
+        "to_sheet",
         "board_of",
         "numbers_of",
         "state_at 0",

@@ -90,6 +90,14 @@ pub fn in_field_mode(page: Page, acd: bool) -> Page {
     Page { version: 2, switches, ..page }
 }
 
+/// Character mode in both versions, field mode without and with ACD.
+pub const MODES: [fn(Page) -> Page; 4] = [
+    in_version_1,
+    |page| Page { version: 2, switches: page.switches & 0x0F | 0x20, ..page },
+    |page| in_field_mode(page, false),
+    |page| in_field_mode(page, true),
+];
+
 /// Row table on, and its entries have codes.
 pub fn with_codes(mut page: Page) -> Page {
     page.irs[0] |= 0x80;
@@ -138,6 +146,13 @@ pub fn any_place(dice: &mut Dice, page: &Page) -> Place {
         row_latch: dice.byte(),
         row_code: dice.byte(),
     }
+}
+
+/// The page with these buffer bounds and screen start 1.
+pub fn in_buffer(mut page: Page, first: u16, last: u16, start1: u16) -> Page {
+    page.irs[8] = (first % 256) as u8;
+    page.irs[9] = (last / 1024) as u8 * 16 + (first / 256) as u8;
+    Page { start1, ..page }
 }
 
 /// Where a page's cells lie: buffer bounds and screen start 1.

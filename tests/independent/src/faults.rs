@@ -10,7 +10,7 @@ const BUFFERS: [&str; 10] =
     ["numbers", "chars", "attrs", "words", "flags", "unshifted", "shifted", "file", "out", "cells"];
 
 /// The calls that take no board, and those that do.
-const ALONE: [&str; 10] = [
+const ALONE: [&str; 12] = [
     "page_check",
     "page_size",
     "board_of",
@@ -21,6 +21,8 @@ const ALONE: [&str; 10] = [
     "picture_draw",
     "row_run",
     "row_cells",
+    "to_table",
+    "to_sheet",
 ];
 const WITH_BOARD: [&str; 6] = ["numbers_of", "set_video", "write", "read", "state_at", "step"];
 
@@ -38,6 +40,8 @@ pub struct Case {
     byte: u8,
     dots: u8,
     strike: u8,
+    /// For `to_sheet`, the row table at cell 0.
+    entries: [u16; 2],
 }
 
 /// Something wrong, or something that a call does not judge.
@@ -50,11 +54,14 @@ struct Base {
     codes: bool,
 }
 
-/// HFP 3; 2 rows of 3 lines of 6 cells, 8 dots.
+/// HFP 3; 2 rows of 3 lines of 6 cells, 8 dots. It is a sheet, but for `to_sheet`.
 fn base(call: &str, resets: u8, Base { version, codes }: Base) -> Case {
     let switches = if version == 2 { 0x1B } else { 0x0B };
     let mut page = Page { version, switches, dots: 8, strike: 1, start1: 1020, ..Page::default() };
     page.irs = [0x10, 2, 0x01, 0, 1, 5, 0x02, 0x42, 0, 0, 9, 9, 9, 9, 9];
+    if call == "to_sheet" {
+        page.irs[2] |= 0x80;
+    }
     if codes {
         page = with_codes(page);
     }
@@ -77,6 +84,8 @@ fn base(call: &str, resets: u8, Base { version, codes }: Base) -> Case {
         byte: 0x29,
         dots: 9,
         strike: 15,
+        // six cells from 1020 on: after 1023 comes 0
+        entries: [1020, 2],
     }
 }
 
@@ -266,6 +275,28 @@ fn asked_faults(call: &str) -> Vec<Fault> {
     }
 }
 
+/// 17: every cell is fetched, with a front porch of 3 and with one of 1. Of the porches that come after, some leave it so.
+fn stretch_faults() -> Vec<Fault> {
+    let full = |case: &mut Case, ec: u8, hfp: i32| {
+        case.board.page.irs[4] = 127;
+        case.board.page.irs[9] = 0xF0;
+        set_porch(&mut case.board.page, (0, ec, 0, 1, hfp));
+    };
+    vec![fault(move |case| full(case, 128, 3)), fault(move |case| full(case, 127, 1))]
+}
+
+/// 18, and upper bits that do not count.
+fn entry_faults() -> Vec<Fault> {
+    vec![
+        fault(|case| case.entries[1] += 1),
+        fault(|case| case.entries[1] ^= 0x2000),
+        fault(|case| case.entries[0] ^= 1),
+        // as if there were no last buffer address
+        fault(|case| case.entries[1] = 1026),
+        fault(|case| case.entries = case.entries.map(|entry| entry ^ 0xC000)),
+    ]
+}
+
 fn faults_of(call: &str) -> Vec<Fault> {
     let parts: Vec<Vec<Fault>> = match call {
         "page_check" | "page_size" | "board_of" => vec![numbers_faults(), page_faults()],
@@ -285,6 +316,8 @@ fn faults_of(call: &str) -> Vec<Fault> {
             let lent = vec![numbers_faults(), sizes("chars", 16384), sizes("cells", 256)];
             lent.into_iter().chain([page_faults(), asked_faults(call)]).collect()
         }
+        "to_table" => vec![numbers_faults(), sizes("chars", 16384), stretch_faults(), page_faults()],
+        "to_sheet" => vec![numbers_faults(), sizes("chars", 16384), entry_faults(), page_faults()],
         // it judges neither place nor pointer, nor what the numbers held before
         "numbers_of" => vec![numbers_faults(), page_faults(), pointer_faults(), place_faults()],
         // what these three do not judge stands here too: the place, 4, 13 to 15, and for the first the pointer
@@ -312,7 +345,7 @@ fn lent_to(call: &str) -> &'static [&'static str] {
         "page_write" => &["numbers", "chars", "attrs", "out"],
         "font_read" => &["file", "words", "flags", "unshifted", "shifted"],
         "line_draw" | "picture_draw" => &["numbers", "chars", "attrs", "words", "flags", "unshifted", "shifted", "out"],
-        "row_run" => &BUFFERS[..2],
+        "row_run" | "to_table" | "to_sheet" => &BUFFERS[..2],
         "row_cells" => &["numbers", "chars", "cells"],
         "state_at" => &BUFFERS[1..3],
         "step" => &BUFFERS[1..7],
@@ -327,7 +360,8 @@ fn written_by(call: &str) -> &'static [&'static str] {
         "font_read" => &["words", "flags", "unshifted", "shifted"],
         "page_write" | "line_draw" | "picture_draw" => &["out"],
         "row_cells" => &["cells"],
-        "numbers_of" => &["numbers"],
+        "numbers_of" | "to_sheet" => &["numbers"],
+        "to_table" => &["numbers", "chars"],
         _ => &[],
     }
 }
@@ -362,9 +396,11 @@ fn buffer_lines(name: &str, call: &str, case: &Case) -> Vec<String> {
     };
     let mut lines = vec![format!("fill {} {} {}", name, size, 1_000_000_007 + index)];
     let head = match name {
-        "numbers" if !written_by(call).contains(&name) => {
+        // these two only write them
+        "numbers" if call != "page_read" && call != "numbers_of" => {
             [vec![case.board.page.version], bytes_of(&case.board.page)].concat()
         }
+        "chars" if call == "to_sheet" => case.entries.iter().flat_map(|entry| entry.to_le_bytes()).collect(),
         "file" => file_head(call, case),
         _ => Vec::new(),
     };

@@ -2,7 +2,7 @@
 //! middle of a cell too, with any byte as their row's code.
 
 use crate::board::{Board, Page, Place};
-use crate::dice::{any_place, in_field_mode, in_version_1, page, with_codes, Dice, Shape};
+use crate::dice::{any_place, in_field_mode, page, with_codes, Dice, Shape, MODES};
 use crate::files::bytes_of;
 use crate::make::{Maker, Script};
 use crate::script::hex;
@@ -19,14 +19,6 @@ const EVERY_CODE: [u8; 13] = [PLAIN, WIDE, TOP, BOTTOM, WIDE, PLAIN, TOP, WIDE, 
 
 /// Where the row table stands: away from the cells.
 const TABLE: u16 = 9000;
-
-/// Character mode in both versions, field mode without and with ACD.
-const MODES: [fn(Page) -> Page; 4] = [
-    in_version_1,
-    |page| Page { version: 2, switches: page.switches & 0x0F | 0x20, ..page },
-    |page| in_field_mode(page, false),
-    |page| in_field_mode(page, true),
-];
 
 fn named(name: impl Into<String>, write: impl Fn(&mut Script, &mut Dice) + 'static) -> Maker {
     (name.into(), Box::new(write))
@@ -318,7 +310,7 @@ fn every_byte(script: &mut Script, dice: &mut Dice) {
         }
         for row_code in BYTES {
             script.board(&Board { place: Place { row_code, ..Place::default() }, ..Board::of_page(page) });
-            script.say("frame");
+            script.frame(&page);
         }
     }
 }
@@ -345,7 +337,7 @@ fn from_the_middle(script: &mut Script, dice: &mut Dice) {
                 script.board(&Board { place, ..Board::of_page(page) });
                 script.say(format!("call step {}", page.frame_clocks() - passed));
             }
-            script.say("frame");
+            script.frame(&page);
         }
     }
 }
@@ -400,7 +392,7 @@ fn written(script: &mut Script, dice: &mut Dice) {
         }
         script.say("call write 1 0");
         script.say("call write 1 41");
-        script.say("frame");
+        script.frame(&page);
     }
 }
 
@@ -421,7 +413,7 @@ fn saved(script: &mut Script, dice: &mut Dice) {
             script.say("call step 1");
         }
         script.say("call board_of");
-        script.say("frame");
+        script.frame(&page);
     }
 }
 

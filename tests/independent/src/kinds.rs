@@ -1,15 +1,15 @@
 //! The random scripts, one kind after another.
 
 use crate::board::{Board, Page};
-use crate::dice::{any_place, page, place_cells, some_with_codes, Dice, Shape};
+use crate::dice::{any_place, in_buffer, page, place_cells, some_with_codes, Dice, Shape};
 use crate::files::{page_head, FONT_FILE, PAGE_FILE};
 use crate::make::Script;
 use crate::script::hex;
-use crate::stage::{cells, cursor_in_sight, lines, pictures, set_up, show, states, table};
+use crate::stage::{cells, cursor_in_sight, following, lines, pictures, set_up, show, states, table};
 
 pub type Kind = fn(&mut Script, &mut Dice);
 
-pub const KINDS: [(&str, Kind); 13] = [
+pub const KINDS: [(&str, Kind); 15] = [
     ("sheet", sheet),
     ("catalogue", catalogue),
     ("boards", boards),
@@ -23,6 +23,8 @@ pub const KINDS: [(&str, Kind); 13] = [
     ("sizes", sizes),
     ("live", live),
     ("screen", screen),
+    ("follow", follow),
+    ("full", full),
 ];
 
 fn drawn(script: &mut Script, dice: &mut Dice, shape: Shape, resets: u8) {
@@ -87,6 +89,48 @@ pub fn catalogue(script: &mut Script, dice: &mut Dice) {
     show(script, dice, &page);
 }
 
+/// Rows whose entries follow one another, as a sheet's do; sometimes one does not.
+fn follow(script: &mut Script, dice: &mut Dice) {
+    let shape = Shape::small(dice);
+    let mut page = page(dice, shape);
+    place_cells(dice, &mut page);
+    let mut starts = following(&page);
+    if dice.one_in(4) {
+        let row = dice.between(0, page.rows() - 1) as usize;
+        starts[row] ^= 1 << dice.between(0, 13);
+    }
+    page.irs[2] |= 0x80;
+    page.start1 = dice.between(0, 16383) as u16;
+    page.start2 = dice.pick(&[page.start2, page.start2, 16383, 16380, starts[0]]);
+    let mut chars = script.chars(dice);
+    table(script, dice, &page, &mut chars, &starts);
+    cursor_in_sight(dice, &mut page, &chars);
+    set_up(script, dice, &page, &chars, 2);
+    show(script, dice, &page);
+}
+
+/// Sheets that leave as many cells as their tables have, or a few more or less, in one stretch or in several.
+fn full(script: &mut Script, dice: &mut Dice) {
+    let chars = script.chars(dice);
+    for turn in 0..4 {
+        let rows = dice.between(64, 128);
+        let hact = 16384 / rows - dice.pick(&[1, 2, 2, 2, 3]);
+        let shape = Shape { hact, rows, lines: 1, dots: dice.between(6, 8) };
+        let (low, any) = (dice.between(0, 300) as u16, dice.between(0, 16383) as u16);
+        // from behind the buffer's last address all of memory is shown before the buffer begins again
+        let (last, behind) = dice.pick(&[(16383, 0), (16383, 0), (1023, 1024), (8191, 8192)]);
+        let (first, start1) = (dice.pick(&[0, 0, low]), dice.pick(&[behind, behind, low, any]));
+        let page = in_buffer(page(dice, shape), first, last, start1);
+        if turn == 0 {
+            set_up(script, dice, &page, &chars, 2);
+            script.moves(&page);
+        }
+        script.numbers(&page);
+        script.say("call to_table");
+        script.say("call to_sheet");
+    }
+}
+
 /// Boards of any bytes: mended ones with a few bytes disturbed, and some of pure chance.
 fn boards(script: &mut Script, dice: &mut Dice) {
     script.chars(dice);
@@ -97,6 +141,8 @@ fn boards(script: &mut Script, dice: &mut Dice) {
         script.board(&board);
         script.say(format!("fill numbers 32 {}", dice.seed()));
         script.say("call numbers_of");
+        script.say("call to_table");
+        script.say("call to_sheet");
         script.say(format!("call read {}", dice.between(0, 9)));
         script.say(format!("call write {} {}", dice.between(0, 9), dice.byte()));
         script.say("board");
@@ -182,7 +228,7 @@ fn by_registers(script: &mut Script, dice: &mut Dice) {
     script.say("call read 3");
     script.say("call write 1 0");
     bring(script, dice, &page);
-    script.say("frame");
+    script.frame(&page);
     states(script, dice, &page);
 }
 
@@ -223,7 +269,7 @@ fn live(script: &mut Script, dice: &mut Dice) {
     place_cells(dice, &mut page);
     let chars = script.chars(dice);
     set_up(script, dice, &page, &chars, 2);
-    script.say("frame");
+    script.frame(&page);
     for _ in 0..25 {
         match dice.between(0, 7) {
             0 => script.say(format!("call write {} {}", dice.between(2, 7), dice.byte())),
@@ -247,9 +293,10 @@ fn live(script: &mut Script, dice: &mut Dice) {
         }
         script.say(format!("call step {}", dice.between(1, page.ht() * 3)));
     }
-    // what the editor shows is saved and drawn
+    // what the editor shows is saved, moved and drawn
     script.say(format!("fill numbers 32 {}", dice.seed()));
     script.say("call numbers_of");
+    script.moves(&page);
     script.say(format!("fill out {} {}", page.picture_dots(), dice.seed()));
     script.say(format!("call picture_draw {}", dice.byte()));
 }
@@ -280,7 +327,7 @@ fn files(script: &mut Script, dice: &mut Dice) {
         script.say("call page_read");
     }
     script.say("call board_of");
-    script.say("frame");
+    script.frame(&page);
     script.say(format!("fill out {} {}", PAGE_FILE + dice.between(0, 9) as usize, dice.seed()));
     script.say("call page_write");
 }
@@ -293,7 +340,7 @@ fn sizes(script: &mut Script, dice: &mut Dice) {
     let board = Board { resets: dice.pick(&[0, 1, 2, 200]), ..Board::of_page(page) };
     let chars = script.chars(dice);
     set_up(script, dice, &page, &chars, board.resets);
-    script.say("frame");
+    script.frame(&page);
     script.board(&board);
     let right = [("chars", 16384), ("attrs", 16384), ("words", 1152), ("flags", 128), ("unshifted", 9), ("shifted", 9)];
     for _ in 0..8 {
@@ -304,6 +351,8 @@ fn sizes(script: &mut Script, dice: &mut Dice) {
         script.say(format!("call state_at {}", dice.seed()));
         script.say(format!("call row_run {}", dice.between(0, page.rows())));
         cells(script, dice, &page);
+        script.say("call to_table");
+        script.say("call to_sheet");
         lines(script, dice, &page);
         pictures(script, dice, &page);
         script.say(format!("fill {} {} {}", buffer, size, dice.seed()));

@@ -63,7 +63,7 @@ fn show_set(script: &mut Script, dice: &mut Dice, page: &mut Page, chars: &[u8],
     show(script, dice, page);
     script.numbers(page);
     script.frame_of(page, dice.between(0, 3));
-    script.say("frame");
+    script.frame(page);
 }
 
 fn none_set(script: &mut Script, dice: &mut Dice, acd: bool) {
@@ -138,8 +138,8 @@ fn wraps(script: &mut Script, dice: &mut Dice, acd: bool) {
             script.attrs(dice);
             script.set_only(set);
             prepare(script, dice, &page, 2);
-            script.say("frame");
-            script.say("frame");
+            script.frame(&page);
+            script.frame(&page);
         }
     }
 }
@@ -152,9 +152,10 @@ fn modes(script: &mut Script, dice: &mut Dice, acd: bool) {
     script.font(dice);
     let plain = fields.switches & 0x0F;
     for (version, upper) in [(1, 0), (2, 0), (2, 0x20), (2, fields.switches & 0x30)] {
-        script.numbers(&Page { version, switches: plain | upper, ..fields });
+        let page = Page { version, switches: plain | upper, ..fields };
+        script.numbers(&page);
         script.say("call board_of");
-        script.say("frame");
+        script.frame(&page);
     }
 }
 
@@ -222,7 +223,7 @@ fn every_byte(script: &mut Script, dice: &mut Dice) {
         for (latch, row_latch) in [(0xFF, 0xFF), (0x81, 0x00), (0x00, 0x81), (0x7F, 0x7F)] {
             let place = Place { latch, row_latch, ..Place::default() };
             script.board(&Board { place, ..Board::of_page(page) });
-            script.say("frame");
+            script.frame(&page);
         }
     }
 }
@@ -239,10 +240,10 @@ fn from_the_middle(script: &mut Script, dice: &mut Dice) {
             let passed = line * page.ht() + clock;
             script.say(format!("call state_at {}", passed));
             script.say(format!("call step {}", page.frame_clocks() - passed));
-            script.say("frame");
+            script.frame(&page);
             script.board(&Board { place: Place { line, clock, ..any_place(dice, &page) }, ..Board::of_page(page) });
             script.say(format!("call step {}", page.frame_clocks() - passed));
-            script.say("frame");
+            script.frame(&page);
         }
     }
 }

@@ -1,5 +1,5 @@
-//! A second reading of 01, of 02's R-1, R-2 and R-4 and of the papers, for comparing with the library. It shares nothing with it.
-//! Start with `board`, then `machine` (the first way of drawing) and `sheet` (the second).
+//! A second reading of 01, of 02's R-1, R-2, R-4 and R-5 and of the papers, for comparing with the library. It shares nothing
+//! with it. Start with `board`, then `machine` (the first way of drawing) and `sheet` (the second).
 
 mod answer;
 mod board;
@@ -19,10 +19,13 @@ mod listing;
 mod machine;
 mod make;
 mod met;
+mod moved;
+mod moves;
 mod registers;
 mod script;
 mod sheet;
 mod stage;
+mod tables;
 mod twoways;
 
 use std::fs::{self, File};
@@ -30,7 +33,7 @@ use std::io::{self, BufReader, BufWriter, Read, Write};
 use std::process::exit;
 
 const USAGE: &str = "usage: independent COMMAND
-  self SEED PAGES            compares its own two ways, 01's cases, and those of R-1, R-2 and R-4
+  self SEED PAGES            compares its own two ways, 01's cases, and those of R-1, R-2, R-4 and R-5
   make SEED COUNT [FIRST]    prints COUNT scripts, from number FIRST on; without FIRST the whole fixed list at least
   answer < SCRIPTS           prints its own answers
   cells COUNT OURS THEIRS    compares two streams of answers, prints the tables of what was met
@@ -94,10 +97,11 @@ fn compare_own(seed: u64, pages: u64) -> Result<(), String> {
         }
     }
     let compared = twoways::compare(seed, pages)?;
-    println!("{} cases of 01, R-1, R-2 and R-4 come out", cases::all().len());
+    println!("{} cases of 01, R-1, R-2, R-4 and R-5 come out", cases::all().len());
     let (field, wide) = (compared.in_field_mode, compared.wide_rows);
     let modes = format!("{} pages, {} of them in field mode, with {} rows of double width", pages, field, wide);
     println!("{}: {} clocks, {} lines, {} states agree", modes, compared.clocks, compared.lines, compared.states);
+    println!("{} sheets moved there and back", compared.moved);
     Ok(())
 }
 

@@ -7,10 +7,13 @@ use crate::board::{Board, Page};
 use crate::dice::Dice;
 use crate::files::numbers_of;
 use crate::script::{board_text, filled, hex};
-use crate::{corners, faults, kinds};
+use crate::{corners, faults, kinds, moves};
 
+#[derive(Default)]
 pub struct Script {
     pub text: String,
+    /// The pages that were moved since a memory was last changed.
+    moved: Vec<Page>,
 }
 
 /// A script's name and what writes it.
@@ -39,12 +42,13 @@ pub fn fixed_count() -> u64 {
 
 fn fixed() -> Vec<Maker> {
     let mut all = corners::all();
+    all.extend(moves::all());
     all.extend(faults::all());
     all
 }
 
 pub fn written(name: &str, dice: &mut Dice, maker: &dyn Fn(&mut Script, &mut Dice)) -> Script {
-    let mut script = Script { text: String::new() };
+    let mut script = Script::default();
     script.say(format!("script {}", name));
     maker(&mut script, dice);
     script
@@ -52,7 +56,11 @@ pub fn written(name: &str, dice: &mut Dice, maker: &dyn Fn(&mut Script, &mut Dic
 
 impl Script {
     pub fn say(&mut self, line: impl AsRef<str>) {
-        self.text.push_str(line.as_ref());
+        let line = line.as_ref();
+        if line.contains(" chars ") || line.contains(" attrs ") || line == "call page_read" {
+            self.moved.clear();
+        }
+        self.text.push_str(line);
         self.text.push('\n');
     }
 
@@ -101,9 +109,42 @@ impl Script {
         }
     }
 
-    /// One frame by steps, lines, picture and rows, beginning with this field of all since clock 0.
+    /// One frame by steps, lines, picture and rows. A page that has frames is also moved to its other kind and back, once.
+    pub fn frame(&mut self, page: &Page) {
+        self.say("frame");
+        if !self.moved.contains(page) {
+            self.moves(page);
+        }
+    }
+
+    /// The frame that begins with this field of all since clock 0.
     pub fn frame_of(&mut self, page: &Page, field: u32) {
         self.say(format!("call state_at {}", field * page.frame_clocks()));
-        self.say("frame");
+        self.frame(page);
     }
+
+    /// The page of the numbers to its other kind and back.
+    pub fn moves(&mut self, page: &Page) {
+        self.say(format!("moves {}", hex(&phases(page))));
+        self.moved.push(*page);
+    }
+}
+
+/// The first field of each phase, of what blinks and of the cursor; of a large picture only field 0, since it takes long to draw.
+fn phases(page: &Page) -> Vec<u8> {
+    if page.picture_dots() > 50_000 {
+        return vec![0];
+    }
+    let blink = |field: u32| field * 4 / page.blink_fields() % 4 == 3;
+    let cursor = |field: u32| page.cursor_blinks() && field * 2 / page.cursor_fields() % 2 == 1;
+    let mut met = Vec::new();
+    let mut fields = Vec::new();
+    for field in (0..128).step_by(16) {
+        let phase = (blink(field), cursor(field));
+        if !met.contains(&phase) {
+            met.push(phase);
+            fields.push(field as u8);
+        }
+    }
+    fields
 }

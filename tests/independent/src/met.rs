@@ -1,5 +1,5 @@
-//! What the scripts met of R-4: whole frames by the codes of their rows, and where runs of steps began. A number that no
-//! script meets is as empty as an answer that none gets.
+//! What the scripts met of R-4: whole frames by the codes of their rows, and where runs of steps began; and of R-5: which pages
+//! were moved. A number that no script meets is as empty as an answer that none gets.
 
 use std::collections::BTreeMap;
 
@@ -30,16 +30,24 @@ const HEADS: [&str; 16] = [
 const PLACES: [&str; 6] = ["off", "load", "plain", "left", "right", "last"];
 const BYTES: [&str; 5] = ["0", "1", "2", "3", "above 3"];
 
+/// The ways of a page: a sheet's, and those of a page with a table, for which there may be no room again.
+const WAYS: [&str; 3] = ["there 0 back 0", "back 0 there 0", "back 0 there 17"];
+
+/// Where a move wrote its table: at the beginning of memory, at its end, and between; and for how many rows.
+const TABLES: [&str; 7] = ["at 0", "at odd", "at even", "to 16383", "rows 1", "rows 128", "other rows"];
+
 #[derive(Default)]
 pub struct Met {
     /// By mode and head, for each code.
     frames: BTreeMap<(String, String), [u64; 4]>,
     /// By mode and place, for each kind of code byte.
     begun: BTreeMap<(String, String), [u64; 5]>,
+    /// By way and head, for each mode without codes.
+    moved: BTreeMap<(String, String), [u64; 2]>,
 }
 
 impl Met {
-    /// An answer's line: a frame, or a run of steps that was not refused.
+    /// An answer's line: a frame, a run of steps that was not refused, or a page that was moved.
     pub fn count(&mut self, line: &str) {
         let words: Vec<&str> = line.split(' ').collect();
         match words[..] {
@@ -50,6 +58,9 @@ impl Met {
             ["step", _, mode, _, "0", _, "from", place, code, ..] => {
                 let kind = code.parse().map_or(4, |code: usize| code.min(4));
                 self.begun.entry((mode.to_string(), place.to_string())).or_default()[kind] += 1;
+            }
+            ["moves", out, a, home, b, "agree", mode, "table", place, "rows", rows, ..] => {
+                self.moved_page(&format!("{} {} {} {}", out, a, home, b), mode, place, rows);
             }
             _ => (),
         }
@@ -67,7 +78,21 @@ impl Met {
         }
     }
 
-    /// Prints two tables and gives how many of their allowed cells are empty.
+    /// Where no table was written, only the way counts.
+    fn moved_page(&mut self, way: &str, mode: &str, place: &str, rows: &str) {
+        let (place, rows) = (place.parse().unwrap_or(0), rows.parse().unwrap_or(0));
+        let mut heads = vec!["all"];
+        if way != WAYS[2] {
+            heads.extend(table_heads(place, rows));
+        }
+        let column = UNCODED.iter().position(|&one| one == mode);
+        for head in heads {
+            let counts = self.moved.entry((way.to_string(), head.to_string())).or_default();
+            column.into_iter().for_each(|column| counts[column] += 1);
+        }
+    }
+
+    /// Prints three tables and gives how many of their allowed cells are empty.
     pub fn print(&self) -> u64 {
         println!("\n{:<16}{:<16}{:>12}{:>12}{:>12}{:>12}", "frames: rows", "mode", "00", "01", "10", "11");
         let mut empty = 0;
@@ -86,6 +111,19 @@ impl Met {
                 empty += print_row(place, mode, &counts, |byte| may_begin(mode, place, byte));
             }
         }
+        empty + self.print_moved()
+    }
+
+    fn print_moved(&self) -> u64 {
+        println!("\n{:<16}{:<16}{:>12}{:>12}", "moves", "table", UNCODED[0], UNCODED[1]);
+        let mut empty = 0;
+        for way in WAYS {
+            let heads: &[&str] = if way == WAYS[2] { &[] } else { &TABLES };
+            for head in ["all"].iter().chain(heads) {
+                let counts = self.moved.get(&(way.to_string(), head.to_string())).copied().unwrap_or_default();
+                empty += print_row(way, head, &counts, |_| true);
+            }
+        }
         empty
     }
 
@@ -97,6 +135,22 @@ impl Met {
         });
         cells.collect()
     }
+}
+
+/// Under which heads a table counts.
+fn table_heads(place: u32, rows: u32) -> [&'static str; 2] {
+    let (end, odd) = (place + 2 * rows, place % 2 == 1);
+    let at = match place {
+        0 => TABLES[0],
+        _ if end == 16384 => TABLES[3],
+        _ => TABLES[if odd { 1 } else { 2 }],
+    };
+    let size = match rows {
+        1 => TABLES[4],
+        128 => TABLES[5],
+        _ => TABLES[6],
+    };
+    [at, size]
 }
 
 fn size(name: &str, number: &str) -> String {

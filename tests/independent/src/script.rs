@@ -1,5 +1,7 @@
 //! tests/SCRIPTS.md: the generator, sums, a board as text, and the buffers that a script lends.
 
+use std::collections::BTreeMap;
+
 use crate::board::{Board, Font, Lent, Page, Place};
 
 /// xorshift32; seed 0 gives zeros for ever.
@@ -79,7 +81,7 @@ pub fn small(text: &str) -> Result<u8, String> {
 }
 
 /// As many hex digits as an element has are one element.
-fn elements<E: Element>(text: &str) -> Result<Vec<E>, String> {
+pub fn elements<E: Element>(text: &str) -> Result<Vec<E>, String> {
     let digits = (E::BITS / 4) as usize;
     if !text.is_ascii() || text.len() % digits != 0 {
         return Err(format!("no hex elements: {}", text));
@@ -226,21 +228,41 @@ impl Buffers {
         *self.bytes(name)? = taken.ok_or_else(|| format!("{} is shorter than {}", from, count))?;
         Ok(())
     }
+}
 
+/// The last sum of each buffer, and what it was taken of: most calls leave most buffers as they were.
+#[derive(Default)]
+pub struct Sums {
+    bytes: BTreeMap<String, (Vec<u8>, Sum)>,
+    wide: BTreeMap<String, (Vec<u16>, Sum)>,
+}
+
+impl Sums {
     /// "NAME COUNT SUM" for each buffer named.
-    pub fn report(&mut self, names: &[&str]) -> Result<String, String> {
+    pub fn report(&mut self, buffers: &mut Buffers, names: &[&str]) -> Result<String, String> {
         let mut text = String::new();
         for &name in names {
-            let (count, sum) = match self.wide(name) {
-                Some(elements) => (elements.len(), Sum::of(elements)),
+            let (count, sum) = match buffers.wide(name) {
+                Some(elements) => (elements.len(), sum_of(&mut self.wide, name, elements)),
                 None => {
-                    let bytes = self.bytes(name)?;
-                    (bytes.len(), Sum::of(bytes))
+                    let bytes = buffers.bytes(name)?;
+                    (bytes.len(), sum_of(&mut self.bytes, name, bytes))
                 }
             };
             text += &format!(" {} {} {:016x}", name, count, sum.0);
         }
         Ok(text)
+    }
+}
+
+fn sum_of<E: Element + PartialEq>(last: &mut BTreeMap<String, (Vec<E>, Sum)>, name: &str, elements: &[E]) -> Sum {
+    match last.get(name) {
+        Some((taken_of, sum)) if taken_of == elements => *sum,
+        _ => {
+            let sum = Sum::of(elements);
+            last.insert(name.to_string(), (elements.to_vec(), sum));
+            sum
+        }
     }
 }
 

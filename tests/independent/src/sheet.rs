@@ -85,6 +85,11 @@ pub fn row_start(page: &Page, chars: &[u8], row: u32) -> u16 {
     }
 }
 
+/// Where a row ends: the address after its last cell.
+pub fn row_end(page: &Page, chars: &[u8], row: u32) -> u16 {
+    moved(page, row_start(page, chars, row), cells_in_row(page, chars, row))
+}
+
 /// "the row's first run of cells [..]: from the row start to the row's end, the last buffer address or
 /// 16383, whichever is first met"; R-4: "its first run counts the cells fetched". Where it begins and how many cells it has.
 pub fn run(page: &Page, chars: &[u8], row: u32) -> (u16, u32) {
@@ -111,7 +116,7 @@ fn cells_in_row(page: &Page, chars: &[u8], row: u32) -> u32 {
     }
 }
 
-fn cells_from(page: &Page, first: u16, count: u32) -> Vec<u16> {
+pub fn cells_from(page: &Page, first: u16, count: u32) -> Vec<u16> {
     successors(Some(first), |&address| Some(moved(page, address, 1))).take(count as usize).collect()
 }
 

@@ -28,6 +28,13 @@ pub fn coded_table(script: &mut Script, page: &Page, chars: &mut [u8], rows: &[(
     }
 }
 
+/// The row starts of a sheet, from screen start 1 on, whatever table the page has.
+pub fn following(page: &Page) -> Vec<u16> {
+    let mut plain = *page;
+    plain.irs[2] &= 0x7F;
+    (0..page.rows()).map(|row| sheet::row_start(&plain, &[], row)).collect()
+}
+
 /// Puts the cursor on a cell that is shown.
 pub fn cursor_in_sight(dice: &mut Dice, page: &mut Page, chars: &[u8]) {
     let row = dice.between(0, page.rows() - 1);
@@ -128,14 +135,14 @@ pub fn rows(script: &mut Script, dice: &mut Dice, page: &Page) {
 pub fn framed(script: &mut Script, dice: &mut Dice, page: &Page) {
     script.numbers(page);
     script.say("call board_of");
-    script.say("frame");
+    script.frame(page);
     rows(script, dice, page);
 }
 
 /// From a board of this power state: a frame, then steps between which the display goes on and off, and a line clock by clock.
 pub fn on_and_off(script: &mut Script, dice: &mut Dice, page: &Page, resets: u8) {
     script.board(&Board { resets, ..Board::of_page(*page) });
-    script.say("frame");
+    script.frame(page);
     for _ in 0..12 {
         script.say(format!("call write 1 {}", dice.pick(&[0x28, 0x29, 0x29])));
         script.say(format!("call step {}", dice.between(1, page.frame_clocks() / 8)));

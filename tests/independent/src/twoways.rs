@@ -1,11 +1,11 @@
-//! Compares this program's two ways with each other: every clock of a frame, every line, states far away, and boards
-//! handed over anywhere, which the next frame brings back.
+//! Compares this program's two ways with each other: every clock of a frame, every line, states far away, boards
+//! handed over anywhere, which the next frame brings back, and sheets that are moved there and back.
 
 use crate::board::{Board, Font, Lent, Page, Place};
 use crate::dice::{any_place, page, place_cells, some_with_codes, Dice, Shape};
 use crate::files::{numbers_of, page_of_numbers};
 use crate::script::filled;
-use crate::{machine, sheet};
+use crate::{calls, machine, sheet};
 
 #[derive(Default)]
 pub struct Compared {
@@ -15,6 +15,8 @@ pub struct Compared {
     pub in_field_mode: u64,
     /// Of pages whose rows have codes, the rows of double width.
     pub wide_rows: u64,
+    /// Sheets.
+    pub moved: u64,
 }
 
 pub fn compare(seed: u64, pages: u64) -> Result<Compared, String> {
@@ -49,7 +51,12 @@ fn one_page(dice: &mut Dice, compared: &mut Compared) -> Result<(), String> {
     compared.wide_rows += wide_rows(&page, &chars);
     whole_frame(dice, &board, &lent, compared)?;
     far_states(dice, &board, &lent, compared)?;
-    brought_back(dice, &board, &lent)
+    brought_back(dice, &board, &lent)?;
+    if !page.row_table_on() {
+        compared.moved += 1;
+        there_and_back(&page, &lent)?;
+    }
+    Ok(())
 }
 
 fn wide_rows(page: &Page, chars: &[u8]) -> u64 {
@@ -152,4 +159,51 @@ fn brought_back(dice: &mut Dice, board: &Board, lent: &Lent) -> Result<(), Strin
     } else {
         Err("a board handed over".to_string())
     }
+}
+
+/// Every clock of a sheet is the same where it was moved, and its table stands in the lowest gap that the clocks leave. Moved
+/// back it "differs only in screen start 2 and the table's cells".
+fn there_and_back(page: &Page, lent: &Lent) -> Result<(), String> {
+    let (mut numbers, mut chars) = (numbers_of(page), lent.chars.to_vec());
+    if calls::to_table(&mut numbers, &mut chars).refused() {
+        return Err("a sheet that is not moved".to_string());
+    }
+    let table = page_of_numbers(&numbers).ok_or("a page that is none where it was moved")?;
+    let (mut old, mut new) = (Board::of_page(*page), Board::of_page(table));
+    let mut fetched = Vec::new();
+    for n in 0..page.frame_clocks() {
+        let Place { line, clock, .. } = old.place;
+        let shown = machine::step(&mut old, lent);
+        if shown != machine::step(&mut new, &Lent { chars: &chars, ..*lent }) || old.place != new.place {
+            return Err(format!("clock {} of a page that was moved", n));
+        }
+        if line < page.visible_lines() && clock < page.hact() {
+            fetched.push(shown.address);
+        }
+    }
+    let size = 2 * page.rows() as u16;
+    if table.start2 != lowest_gap(fetched, size) {
+        return Err("the table's place".to_string());
+    }
+    let outside = |at: &usize| *at < table.start2.into() || *at >= (table.start2 + size).into();
+    let refused = calls::to_sheet(&mut numbers, &chars).refused();
+    let same = numbers_of(&Page { start2: table.start2, ..*page }) == numbers;
+    if !refused && same && (0..16384).filter(outside).all(|at| chars[at] == lent.chars[at]) {
+        Ok(())
+    } else {
+        Err("a sheet moved there and back".to_string())
+    }
+}
+
+/// Where so many cells are between two that are fetched, or before the first or after the last of them.
+fn lowest_gap(mut fetched: Vec<u16>, size: u16) -> u16 {
+    fetched.sort_unstable();
+    let mut free = 0;
+    for address in fetched {
+        if address >= free + size {
+            return free;
+        }
+        free = address + 1;
+    }
+    free
 }

@@ -1,0 +1,355 @@
+-- 02, R-5: a sheet that is moved to a row table, and a page that is moved back, show the same. Assumes nothing.
+--     there-alike      the table says where each row starts, and no row fetches a cell of it
+--     there-shows      so the moved page shows the same
+--     back-alike       the rows of a page that is moved back follow one another
+--     back-shows       so it shows the same, and moved there again too (back-and-there)
+--     there-and-back   only screen start 2 differs, and of memory the table's cells (memory-back)
+use Prim.Native.Nat.{ℕ, zero, suc, _+_, _-_, _*_, _/_, _%_, _≤_, _<_}
+use mathlib.Core.Path.{_≡_, refl, sym, ap, ap₂, _∙_}
+use mathlib.Core.Bool.{true, false, not, true≢false}
+use mathlib.Core.List.{List, [], _∷_, _++_}
+use native.Mathlib.Nat.{zero-mul, suc-mul}
+use native.Mathlib.Numerals.{add-one}
+use native.Mathlib.Decide.{decLt}
+use native.Mathlib.Omega.{arith}
+use borrow.Author.Tests.{not-true, not-false, eqb-true, eq-eqb, ne-eqb}
+use lib.Dec.{eqb}
+use lib.ListN.{length, getD, set, take, drop, length-set, length-append, length-drop, List·getD-append}
+use lib.Seq.{set-getD, getD-set-same, getD-set-other, getD-take, getD-drop, getD-append-add, length-take-le}
+use Rattle.lists.specs.Tab.{tab, length-tab, getD-tab}
+use Rattle.lists.specs.Search.{anyBelow, none-of, any-none, any-some, first-is}
+use Rattle.raster.specs.declared.Buffer.{Buffer}
+use Rattle.raster.specs.Moves.{advanceBy, advanceBy-zero, advanceBy-add}
+use Rattle.refusal.specs.declared.Refusal.the-variants.{Done}
+use Rattle.board.specs.declared.Page.{Page}
+use Rattle.board.specs.declared.Board.{Board}
+use Rattle.board.specs.Range.{memoryRefused}
+use Rattle.timing.specs.Check.{pageCheck}
+use Rattle.timing.specs.Fields.{ir, codedOf, rowsOf, hactOf, tableOf, bufferOf}
+use Rattle.timing.specs.Laws.{call-passed, buffer-bounded}
+use Rattle.fetch.specs.Rows.{byteAt, entryOf, rowStart, cellAt, fetchedOf}
+use Rattle.fetch.specs.Laws.{no-codes, entry-lt, row-start-lt, start-table, start-sheet, cell-shown}
+use Rattle.catalogue.specs.There.{fetchesCell, tableSize, tablePlaces, unfetchedAt, tablePlace, tableByte, therePage, thereChars, ownCheck, thereCheck, movedTo, withPage, thereOf, thereLeft}
+use Rattle.catalogue.specs.Back.{followsRow, rowsApart, backPage, backCheck, backOf}
+use Rattle.catalogue.specs.Marks.{Movable, Returnable, there-passed, back-passed}
+use Rattle.agreement.specs.Rows.{nthCell, cell-in}
+use Rattle.agreement.specs.Alike.{Same, Alike, changed, changed-accepted, same-state, same-buffer, same-hact, same-rows}
+use Rattle.agreement.specs.AlikeShown.{Shows, shows-on, alike-shows}
+use Rattle.agreement.specs.Steps.{range-ok, call-ok, call-page}
+
+set-twice : (l : List ℕ) (i a b : ℕ) → set (set l i a) i b ≡ set l i b
+set-twice [] i a b = refl
+set-twice (x ∷ l) zero a b = refl
+set-twice (x ∷ l) (suc i) a b = ap (λ (k : List ℕ). x ∷ k) (set-twice l i a b)
+
+-- a part of a list replaced
+module _ (xs ys : List ℕ) (a n : ℕ) (long : length ys ≡ n) (room : a + n ≤ length xs) where
+  abbrev put : List ℕ
+  put = take a xs ++ (ys ++ drop (a + n) xs)
+
+  front : length (take a xs) ≡ a
+  front = length-take-le a xs (omega (arith, room))
+
+  pub put-in : (i : ℕ) → i < n → getD put (a + i) 0 ≡ getD ys i 0
+  put-in i h =
+      ap (λ (k : ℕ). getD put (k + i) 0) (sym front)
+      ∙ getD-append-add (take a xs) (ys ++ drop (a + n) xs) i 0
+      ∙ List·getD-append ys (drop (a + n) xs) 0 i (rw long h)
+
+  pub put-out : (x : ℕ) → (a ≤ x → x < a + n → ⊥) → getD put x 0 ≡ getD xs x 0
+  put-out x f = go (decLt x a) (decLt x (a + n))
+    where
+      j : ℕ
+      j = x - (a + n)
+
+      go : Dec (x < a) → Dec (x < a + n) → getD put x 0 ≡ getD xs x 0
+      go (yes l) d = List·getD-append (take a xs) (ys ++ drop (a + n) xs) 0 x (rw front l) ∙ getD-take a xs x 0 l
+      go (no g) (yes l) = absurd (f (omega (arith, g)) l)
+      go (no g) (no k) =
+          let e : x ≡ length (take a xs) + (length ys + j) = omega (arith, front, long, k) in
+          let back : a + n + j ≡ x = omega (arith, k) in
+          ap (λ (i : ℕ). getD put i 0) e
+          ∙ getD-append-add (take a xs) (ys ++ drop (a + n) xs) (length ys + j) 0
+          ∙ getD-append-add ys (drop (a + n) xs) j 0
+          ∙ getD-drop (a + n) xs j 0
+          ∙ ap (λ (i : ℕ). getD xs i 0) back
+
+  pub length-put : length put ≡ length xs
+  length-put =
+      length-append (take a xs) (ys ++ drop (a + n) xs)
+      ∙ ap₂ (λ (i k : ℕ). i + k) front (length-append ys (drop (a + n) xs) ∙ ap₂ (λ (i k : ℕ). i + k) long (length-drop (a + n) xs))
+      ∙ omega (arith, room)
+
+-- ---- moving there
+
+module _ (b : Board) (chars : List ℕ) (m : Movable b chars) (registers : 2 < length (b .page .irs)) where
+  abbrev p : Page
+  p = b .page
+
+  abbrev place : ℕ
+  place = tablePlace p chars
+
+  abbrev irs′ : List ℕ
+  irs′ = set (p .irs) 2 (ir (p .irs) 2 % 128 + 128)
+
+  abbrev q : Page
+  q = changed p irs′ (p .starts .start1) place
+
+  abbrev chars′ : List ℕ
+  chars′ = thereChars p chars place
+
+  same-registers : Same (p .irs) irs′
+  same-registers = record {
+    others = λ n f. sym (getD-set-other (p .irs) 2 n (ir (p .irs) 2 % 128 + 128) 0 f);
+    low = let e = getD-set-same (p .irs) 2 (ir (p .irs) 2 % 128 + 128) 0 registers in omega (arith, e);
+  }
+
+  table-on : tableOf irs′ ≡ true
+  table-on =
+      let e = getD-set-same (p .irs) 2 (ir (p .irs) 2 % 128 + 128) 0 registers in
+      eq-eqb (ir irs′ 2 / 128 % 2) 1 (omega (arith, e))
+
+  plain : codedOf irs′ ≡ false
+  plain = ap (λ (x : ℕ). eqb (x / 128 % 2) 1) (sym (same-registers .others 0 (λ z. omega (arith, z)))) ∙ m .page .coded (m .off)
+
+  room : place + tableSize p ≤ length chars
+  room = omega (arith, m .found, m .whole)
+
+  bytes-long : length (tab (tableSize p) (tableByte p chars)) ≡ tableSize p
+  bytes-long = length-tab (tableSize p) (tableByte p chars)
+
+  -- the table's bytes
+  byte-there : (i : ℕ) → i < tableSize p → byteAt chars′ (place + i) ≡ tableByte p chars i
+  unfolding thereChars
+  byte-there i h =
+      let e : (place + i) % 16384 ≡ place + i = omega (arith, h, m .found) in
+      rw e (put-in chars (tab (tableSize p) (tableByte p chars)) place (tableSize p) bytes-long room i h ∙ getD-tab (tableSize p) (tableByte p chars) i h)
+
+  entry-there : (r : ℕ) → r < rowsOf (p .irs) → entryOf q chars′ r ≡ rowStart p chars r
+  unfolding entryOf tableByte
+  entry-there r h =
+      let x = rowStart p chars r in
+      let lt = row-start-lt p chars (m .page) r in
+      let low = byte-there (2 * r) (omega (arith, h)) in
+      let high = byte-there (2 * r + 1) (omega (arith, h)) in
+      let at-high : place + 2 * r + 1 ≡ place + (2 * r + 1) = omega arith in
+      let even : 2 * r % 2 ≡ 0 = omega arith in
+      let odd : (2 * r + 1) % 2 ≡ 1 = omega arith in
+      let half : 2 * r / 2 ≡ r = omega arith in
+      let half-too : (2 * r + 1) / 2 ≡ r = omega arith in
+      rw (at-high, low, high, even, odd, half, half-too) (omega (arith, lt))
+
+  fetches : (r c : ℕ) → r < rowsOf (p .irs) → c < hactOf (p .irs) → fetchesCell p chars (cellAt p chars r c) ≡ true
+  unfolding fetchesCell
+  fetches r c h l =
+      any-some _ (rowsOf (p .irs)) r h
+      (any-some _ (fetchedOf p chars r) (nthCell b chars r c) (cell-in b chars r c l) (eq-eqb _ _ (cell-shown p chars r c l)))
+
+  -- no row fetches a cell of the table
+  not-in-table : (r c : ℕ) → r < rowsOf (p .irs) → c < hactOf (p .irs) → place ≤ cellAt p chars r c → cellAt p chars r c < place + tableSize p → ⊥
+  unfolding tablePlace unfetchedAt
+  not-in-table r c h l low high =
+      let x = cellAt p chars r c in
+      let free : anyBelow (λ i. fetchesCell p chars (place + i)) (tableSize p) ≡ false = not-true _ (first-is (unfetchedAt p chars) (tablePlaces p) (m .found) .0) in
+      let e : place + (x - place) ≡ x = omega (arith, low) in
+      let none = none-of (λ i. fetchesCell p chars (place + i)) (tableSize p) free (x - place) (omega (arith, low, high)) in
+      true≢false (sym (fetches r c h l) ∙ ap (fetchesCell p chars) (sym e) ∙ none)
+
+  pub there-alike : (attrs : List ℕ) → Alike p irs′ (p .starts .start1) place chars attrs chars′ attrs
+  unfolding thereChars
+  there-alike attrs = record {
+    registers = same-registers;
+    code = λ r h. no-codes p chars (m .page .coded (m .off)) r ∙ sym (no-codes q chars′ plain r);
+    start = λ r h. sym (entry-there r h) ∙ start-table q chars′ r table-on;
+    letter = letter-kept;
+    byte = λ r c h l. refl;
+  }
+    where
+      letter-kept : (r c : ℕ) → r < rowsOf (p .irs) → c < hactOf (p .irs) → getD chars (cellAt p chars r c) 0 ≡ getD chars′ (cellAt p chars r c) 0
+      letter-kept r c h l = sym (put-out chars (tab (tableSize p) (tableByte p chars)) place (tableSize p) bytes-long room (cellAt p chars r c) (not-in-table r c h l))
+
+  page-ok : pageCheck p ≡ Done
+  unfolding ownCheck
+  page-ok = call-page b (memoryRefused (length chars)) false false (m .own)
+
+  -- the moved page is accepted
+  pub there-accepted : pageCheck (therePage p place) ≡ Done
+  unfolding therePage
+  there-accepted = changed-accepted p irs′ (p .starts .start1) place same-registers page-ok (m .page .start1) (omega (arith, m .found)) (rw plain)
+
+  chars-whole : length chars′ ≡ length chars
+  unfolding thereChars
+  chars-whole = length-put chars (tab (tableSize p) (tableByte p chars)) place (tableSize p) bytes-long room
+
+  -- so it shows the same
+  pub there-shown : Shows b chars (withPage b (therePage p place)) chars′
+  unfolding therePage
+  there-shown = alike-shows b irs′ (p .starts .start1) place chars chars′ there-alike chars-whole page-ok there-accepted
+
+  -- ---- there and back
+
+  row-zero : rowStart p chars 0 ≡ p .starts .start1
+  row-zero =
+      sym (start-sheet p chars 0 (m .off))
+      ∙ ap (λ (k : ℕ). advanceBy (bufferOf (p .irs)) k (p .starts .start1)) (zero-mul (hactOf (p .irs)))
+      ∙ advanceBy-zero (bufferOf (p .irs)) (p .starts .start1) (omega (arith, m .page .start1))
+
+  row-next : (r : ℕ) → rowStart p chars (r + 1) ≡ advanceBy (bufferOf (p .irs)) (hactOf (p .irs)) (rowStart p chars r)
+  row-next r =
+      let B = bufferOf (p .irs) in
+      let H = hactOf (p .irs) in
+      let more : (r + 1) * H ≡ H + r * H = omega (arith, suc-mul r H, ap (λ (k : ℕ). k * H) (add-one r)) in
+      sym (start-sheet p chars (r + 1) (m .off))
+      ∙ ap (λ (k : ℕ). advanceBy B k (p .starts .start1)) more
+      ∙ advanceBy-add B (buffer-bounded (p .irs)) H (r * H) (p .starts .start1) (omega (arith, m .page .start1))
+      ∙ ap (advanceBy B H) (start-sheet p chars r (m .off))
+
+  -- nothing refuses the way back
+  rows-follow : rowsApart q chars′ ≡ false
+  unfolding rowsApart followsRow
+  rows-follow =
+      any-none _ (rowsOf irs′ - 1) (λ r h.
+      let rows = same-rows (p .irs) irs′ same-registers in
+      let here = entry-there r (omega (arith, h, rows)) in
+      let next = entry-there (r + 1) (omega (arith, h, rows)) in
+      ap not (eq-eqb _ _ (next ∙ row-next r ∙ ap₂ (λ (u : Buffer) (w : ℕ). advanceBy u w (rowStart p chars r)) (same-buffer (p .irs) irs′ same-registers) (same-hact (p .irs) irs′ same-registers)
+      ∙ ap (advanceBy (bufferOf irs′) (hactOf irs′)) (sym here))))
+
+  own-there : ownCheck (withPage b q) (length chars′) ≡ Done
+  unfolding ownCheck therePage
+  own-there =
+      let all = call-passed b (memoryRefused (length chars)) false false (m .own) in
+      let state = sym (same-state b irs′ (p .starts .start1) place same-registers) ∙ range-ok b (all .state) in
+      let sized : memoryRefused (length chars′) ≡ false = rw chars-whole (all .sized) in
+      call-ok (withPage b q) (memoryRefused (length chars′)) sized there-accepted state
+
+  back-done : backCheck (withPage b q) chars′ ≡ Done
+  unfolding backCheck
+  back-done = rw (own-there, table-on, plain, rows-follow)
+
+  -- a register is a byte
+  module _ (byte : ir (p .irs) 2 < 256) where
+    low-bits : ir irs′ 2 % 128 ≡ ir (p .irs) 2
+    low-bits =
+        let e = getD-set-same (p .irs) 2 (ir (p .irs) 2 % 128 + 128) 0 registers in
+        let f : ir (p .irs) 2 / 128 % 2 ≡ 1 → ⊥ = λ z. true≢false (sym (eq-eqb (ir (p .irs) 2 / 128 % 2) 1 z) ∙ m .off) in
+        omega (arith, e, byte, f)
+
+    registers-back : set irs′ 2 (ir irs′ 2 % 128) ≡ p .irs
+    registers-back = set-twice (p .irs) 2 (ir (p .irs) 2 % 128 + 128) (ir irs′ 2 % 128) ∙ ap (set (p .irs) 2) low-bits ∙ set-getD (p .irs) 2 0
+
+    -- there and back: nothing but screen start 2 has changed
+    pub returned : backOf (withPage b q) chars′ ≡ movedTo Done (withPage b (changed p (p .irs) (p .starts .start1) place))
+    unfolding backOf backPage
+    returned =
+        let start = entry-there 0 (omega arith) ∙ row-zero in
+        rw back-done (ap₂ (λ (l : List ℕ) (x : ℕ). movedTo Done (withPage b (changed p l x place))) registers-back start)
+
+  -- and of memory nothing but the table's cells
+  pub kept-cells : (x : ℕ) → (place ≤ x → x < place + tableSize p → ⊥) → getD chars′ x 0 ≡ getD chars x 0
+  unfolding thereChars
+  kept-cells x f = put-out chars (tab (tableSize p) (tableByte p chars)) place (tableSize p) bytes-long room x f
+
+-- ---- moving back
+
+module _ (b : Board) (chars : List ℕ) (m : Returnable b chars) (registers : 2 < length (b .page .irs)) where
+  abbrev sheetIrs : List ℕ
+  sheetIrs = set (b .page .irs) 2 (ir (b .page .irs) 2 % 128)
+
+  abbrev first : ℕ
+  first = entryOf (b .page) chars 0
+
+  abbrev sheet : Page
+  sheet = changed (b .page) sheetIrs first (b .page .starts .start2)
+
+  sheet-registers : Same (b .page .irs) sheetIrs
+  sheet-registers = record {
+    others = λ n f. sym (getD-set-other (b .page .irs) 2 n (ir (b .page .irs) 2 % 128) 0 f);
+    low = let e = getD-set-same (b .page .irs) 2 (ir (b .page .irs) 2 % 128) 0 registers in omega (arith, e);
+  }
+
+  sheet-off : tableOf sheetIrs ≡ false
+  sheet-off =
+      let e = getD-set-same (b .page .irs) 2 (ir (b .page .irs) 2 % 128) 0 registers in
+      ne-eqb (ir sheetIrs 2 / 128 % 2) 1 (λ z. omega (arith, e, z))
+
+  sheet-plain : codedOf sheetIrs ≡ false
+  sheet-plain = ap (λ (x : ℕ). eqb (x / 128 % 2) 1) (sym (sheet-registers .others 0 (λ z. omega (arith, z)))) ∙ m .codeless
+
+  -- the rows follow one another
+  follows-on : (r : ℕ) → r < rowsOf (b .page .irs) → entryOf (b .page) chars r ≡ advanceBy (bufferOf (b .page .irs)) (r * hactOf (b .page .irs)) first
+  unfolding rowsApart followsRow
+  follows-on zero h =
+      sym (ap (λ (k : ℕ). advanceBy (bufferOf (b .page .irs)) k first) (zero-mul (hactOf (b .page .irs))) ∙ advanceBy-zero (bufferOf (b .page .irs)) first (entry-lt (b .page) chars 0))
+  follows-on (suc r) h =
+      let B = bufferOf (b .page .irs) in
+      let H = hactOf (b .page .irs) in
+      let next = none-of (λ k. not (followsRow (b .page) chars k)) (rowsOf (b .page .irs) - 1) (m .joined) r (omega (arith, h)) in
+      let is : entryOf (b .page) chars (r + 1) ≡ advanceBy B H (entryOf (b .page) chars r) = eqb-true _ _ (not-false _ next) in
+      let more : H + r * H ≡ suc r * H = omega (arith, suc-mul r H) in
+      ap (entryOf (b .page) chars) (sym (add-one r))
+      ∙ is
+      ∙ ap (advanceBy B H) (follows-on r (omega (arith, h)))
+      ∙ sym (advanceBy-add B (buffer-bounded (b .page .irs)) H (r * H) first (entry-lt (b .page) chars 0))
+      ∙ ap (λ (k : ℕ). advanceBy B k first) more
+
+  pub back-alike : (attrs : List ℕ) → Alike (b .page) sheetIrs first (b .page .starts .start2) chars attrs chars attrs
+  back-alike attrs = record {
+    registers = sheet-registers;
+    code = λ r h. no-codes (b .page) chars (m .codeless) r ∙ sym (no-codes sheet chars sheet-plain r);
+    start = λ r h.
+        sym (start-table (b .page) chars r (m .on))
+        ∙ follows-on r h
+        ∙ ap₂ (λ (u : Buffer) (n : ℕ). advanceBy u (r * n) first) (same-buffer (b .page .irs) sheetIrs sheet-registers) (same-hact (b .page .irs) sheetIrs sheet-registers)
+        ∙ start-sheet sheet chars r sheet-off;
+    letter = λ r c h l. refl;
+    byte = λ r c h l. refl;
+  }
+
+  sheet-page-ok : pageCheck (b .page) ≡ Done
+  unfolding ownCheck
+  sheet-page-ok = call-page b (memoryRefused (length chars)) false false (m .own)
+
+  pub back-accepted : pageCheck (backPage (b .page) chars) ≡ Done
+  unfolding backPage
+  back-accepted =
+      changed-accepted (b .page) sheetIrs first (b .page .starts .start2) sheet-registers sheet-page-ok (omega (arith, entry-lt (b .page) chars 0)) (m .page .start2) (rw sheet-plain)
+
+  -- so it shows the same
+  pub back-shown : Shows b chars (withPage b (backPage (b .page) chars)) chars
+  unfolding backPage
+  back-shown = alike-shows b sheetIrs first (b .page .starts .start2) chars chars back-alike refl sheet-page-ok back-accepted
+
+-- ---- as the calls answer
+
+-- a sheet that `to_table` moves shows the same: it is accepted, its pictures are the same in every field and both attribute modes, and so are signals, address and dots of every step. Here and below a
+-- board's registers reach to IR2, as those of every board in the code do
+pub there-shows : (b : Board) (chars : List ℕ) → 2 < length (b .page .irs) → thereCheck b chars ≡ Done → Shows b chars (thereOf b chars .board) (thereLeft b chars)
+unfolding thereOf thereLeft
+there-shows b chars registers ok = rw ok (there-shown b chars (there-passed b chars ok) registers)
+
+module _ (b : Board) (chars : List ℕ) (registers : 2 < length (b .page .irs)) where
+  -- so does a page that `to_sheet` moves
+  pub back-shows : backCheck b chars ≡ Done → Shows b chars (backOf b chars .board) chars
+  unfolding backOf
+  back-shows ok = rw ok (back-shown b chars (back-passed b chars ok) registers)
+
+  registers-kept : backCheck b chars ≡ Done → 2 < length (backOf b chars .board .page .irs)
+  unfolding backOf backPage
+  registers-kept ok = rw (ok, length-set (b .page .irs) 2 (ir (b .page .irs) 2 % 128)) registers
+
+  -- and one that is moved back and there again
+  pub back-and-there : backCheck b chars ≡ Done → thereCheck (backOf b chars .board) chars ≡ Done
+      → Shows b chars (thereOf (backOf b chars .board) chars .board) (thereLeft (backOf b chars .board) chars)
+  back-and-there ok again = shows-on (back-shows ok) (there-shows (backOf b chars .board) chars (registers-kept ok) again)
+
+  -- a sheet that is moved there and back has another screen start 2, and nothing else of its board has changed
+  pub there-and-back : ir (b .page .irs) 2 < 256 → thereCheck b chars ≡ Done
+      → backOf (thereOf b chars .board) (thereLeft b chars) ≡ movedTo Done (withPage b (changed (b .page) (b .page .irs) (b .page .starts .start1) (tablePlace (b .page) chars)))
+  unfolding thereOf thereLeft therePage
+  there-and-back byte ok = rw ok (returned b chars (there-passed b chars ok) registers byte)
+
+  -- and of memory the table's cells
+  pub memory-back : thereCheck b chars ≡ Done → (x : ℕ) → (tablePlace (b .page) chars ≤ x → x < tablePlace (b .page) chars + tableSize (b .page) → ⊥) → getD (thereLeft b chars) x 0 ≡ getD chars x 0
+  unfolding thereLeft
+  memory-back ok x out = rw ok (kept-cells b chars (there-passed b chars ok) registers x out)

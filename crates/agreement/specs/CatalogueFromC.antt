@@ -1,0 +1,352 @@
+-- 02, R-5, as C calls it: `feldrime_to_table` and `feldrime_to_sheet` of a page's 32 numbers. All of it speaks of the definitions that the contracts of these calls cite. Assumes nothing.
+--     table-shows, sheet-shows, table-again    what they leave shows the same
+--     sheet-again, cells-again                 there and back only screen start 2 and the table's cells differ
+--     table-refused, sheet-refused             a refusal leaves numbers and memory
+--     table-same, sheet-same                   so pictures and steps are the same, refused or not
+use Prim.Native.Nat.{ℕ, _+_, _/_, _%_, _≤_, _<_}
+use mathlib.Core.Path.{_≡_, refl, sym, ap, ap₂, _∙_}
+use mathlib.Core.Bool.{Bool, true, false}
+use mathlib.Core.List.{List, [], _∷_, _++_, append-assoc}
+use native.Mathlib.Nat.{zero-add, suc-add}
+use native.Mathlib.Omega.{arith}
+use lib.ListN.{length, getD, set, drop, length-set}
+use lib.Seq.{drop-cons, getD-take, getD-drop}
+use Rattle.lists.specs.Choice.{pick}
+use Rattle.refusal.specs.declared.Refusal.{Refusal}
+use Rattle.refusal.specs.declared.Refusal.the-variants.{Done, Size}
+use Rattle.refusal.specs.Number.{numberOf, besideOf, doneOf}
+use Rattle.refusal.specs.Laws.{done-is, passed}
+use Rattle.board.specs.declared.Page.{Page}
+use Rattle.board.specs.declared.Board.{Board}
+use Rattle.board.specs.State.{boardOf}
+use Rattle.board.specs.Modes.{versionOf}
+use Rattle.board.specs.Range.{memoryRefused}
+use Rattle.timing.specs.Fields.{ir}
+use Rattle.timing.specs.Check.{callCheck}
+use Rattle.copies.specs.Put.{length-part}
+use Rattle.shape.specs.Font.{Font, fontOf}
+use Rattle.video.specs.At.{lentRefused}
+use Rattle.step.specs.declared.Stepped.{Stepped}
+use Rattle.step.specs.Step.{stepOf}
+use Rattle.catalogue.specs.declared.Moved.{Moved}
+use Rattle.catalogue.specs.There.{tablePlace, tableSize, therePage, thereChars, ownCheck, thereCheck, movedTo, thereOf, thereLeft}
+use Rattle.catalogue.specs.Back.{backPage, backCheck, backOf}
+use Rattle.catalogue.specs.Marks.{there-passed, back-passed}
+use Rattle.files.specs.Page.{pageAt, tailOf}
+use Rattle.files.specs.Round.{Bytes, bytes-again, version-again, on}
+use Rattle.numbers.specs.Numbers.{numbersRefused, numbersBoard, numbersCheck, numbersFront, pageIn}
+use Rattle.numbers.specs.Laws.{numbers-all, numbers-passed, numbers-version, put-fine, put-page, put-rest}
+use Rattle.feldrime.specs.PictureDraw.{pictureDrawCheck, pictureDrawn}
+use Rattle.feldrime.specs.Catalogue.{movedNumbers, toTableCheck, toTableNumbers, toTableChars, toSheetCheck, toSheetNumbers}
+use Rattle.feldrime.specs.Step.{numbered}
+use Rattle.agreement.specs.Steps.{step-answers, call-page}
+use Rattle.agreement.specs.Alike.{changed}
+use Rattle.agreement.specs.AlikeShown.{Shows}
+use Rattle.agreement.specs.Catalogue.{there-shows, back-shows, there-and-back, memory-back}
+use Rattle.agreement.specs.FromC.{stepC, fit-from-c, begins-from-c, steps-from-c}
+
+-- numbers and character memory show what others show: `feldrime_picture_draw` answers and leaves the same in every field, with any attribute memory, font and buffer, and every `feldrime_step`, from the boards
+-- that `feldrime_board_of` gives, answers the same
+pub record SameC (numbers chars numbers′ chars′ : List ℕ) : Type 0 where
+  pub answered : (attrs : List ℕ) (f : Font) (room : ℕ) → pictureDrawCheck numbers chars attrs f room ≡ pictureDrawCheck numbers′ chars′ attrs f room
+  pub pictured : (attrs : List ℕ) (f : Font) (field : ℕ) (out : List ℕ) → pictureDrawn numbers chars attrs f field out ≡ pictureDrawn numbers′ chars′ attrs f field out
+  pub stepped : (attrs words flags unshifted shifted : List ℕ) (k : ℕ) → stepC numbers chars attrs words flags unshifted shifted k ≡ stepC numbers′ chars′ attrs words flags unshifted shifted k
+
+itself : (numbers chars : List ℕ) → SameC numbers chars numbers chars
+itself numbers chars = record { answered = λ attrs f room. refl; pictured = λ attrs f field out. refl; stepped = λ attrs words flags unshifted shifted k. refl }
+
+pub same-on : {n m o x y z : List ℕ} → SameC n x m y → SameC m y o z → SameC n x o z
+same-on s t = record {
+  answered = λ attrs f room. s .answered attrs f room ∙ t .answered attrs f room;
+  pictured = λ attrs f field out. s .pictured attrs f field out ∙ t .pictured attrs f field out;
+  stepped = λ attrs words flags unshifted shifted k. s .stepped attrs words flags unshifted shifted k ∙ t .stepped attrs words flags unshifted shifted k;
+}
+
+-- and those others are accepted
+pub record ShowsC (numbers chars numbers′ chars′ : List ℕ) : Type 0 where
+  pub accepted : numbersCheck numbers′ ≡ Done
+  pub same : SameC numbers chars numbers′ chars′
+
+same-numbered : (s t : Stepped) → s .refusal ≡ t .refusal → s .signals ≡ t .signals → s .address ≡ t .address → s .dots ≡ t .dots → numbered s ≡ numbered t
+unfolding numbered
+same-numbered s t r g a d = λ i. record {
+  refusal = numberOf (r i);
+  beside = besideOf (r i);
+  hsync = pick (g i .hsync) 1 0;
+  vsync = pick (g i .vsync) 1 0;
+  blank = pick (g i .blank) 1 0;
+  cursor = pick (g i .cursor) 1 0;
+  blink = pick (g i .blink) 1 0;
+  address = a i;
+  dots = d i;
+}
+
+-- where what is lent has a wrong size, a step answers 3 whatever the board is
+size-alone : (x y : Board) (chars chars′ attrs : List ℕ) (f : Font) → lentRefused chars attrs f ≡ true → lentRefused chars′ attrs f ≡ true → numbered (stepOf x chars attrs f) ≡ numbered (stepOf y chars′ attrs f)
+unfolding numbered stepOf callCheck
+size-alone x y chars chars′ attrs f e e′ = rw (e, e′)
+
+module _ (numbers chars numbers′ chars′ : List ℕ) (ok : numbersCheck numbers ≡ Done) (fine : numbersRefused numbers′ ≡ false)
+    (s : Shows (numbersBoard numbers) chars (numbersBoard numbers′) chars′) where
+  ok′ : numbersCheck numbers′ ≡ Done
+  unfolding numbersCheck
+  ok′ = rw fine (s .accepted)
+
+  -- with memories and font parts of the right sizes
+  sized-same : (attrs words flags unshifted shifted : List ℕ) → lentRefused chars attrs (fontOf words flags unshifted shifted) ≡ false
+      → (k : ℕ) → stepC numbers chars attrs words flags unshifted shifted k ≡ stepC numbers′ chars′ attrs words flags unshifted shifted k
+  sized-same attrs words flags unshifted shifted sized k =
+      let f = fontOf words flags unshifted shifted in
+      let fit = fit-from-c numbers chars attrs words flags unshifted shifted ok sized in
+      let both = s .stepped attrs f fit in
+      let begun = begins-from-c numbers chars attrs words flags unshifted shifted ok sized in
+      let begun′ = begins-from-c numbers′ chars′ attrs words flags unshifted shifted ok′ (sym (s .sized attrs f) ∙ sized) in
+      let refused = step-answers (numbersBoard numbers) chars attrs f fit k ∙ sym (step-answers (numbersBoard numbers′) chars′ attrs f (both .0) k) in
+      let shown = both .1 k in
+      rw (steps-from-c numbers chars attrs words flags unshifted shifted (begun .0) (begun .1) k, steps-from-c numbers′ chars′ attrs words flags unshifted shifted (begun′ .0) (begun′ .1) k)
+      (same-numbered _ _ refused (shown .signals) (shown .address) (shown .dots))
+
+  step-same : (attrs words flags unshifted shifted : List ℕ) (k : ℕ) → stepC numbers chars attrs words flags unshifted shifted k ≡ stepC numbers′ chars′ attrs words flags unshifted shifted k
+  step-same attrs words flags unshifted shifted k = go (lentRefused chars attrs f) refl
+    where
+      f : Font
+      f = fontOf words flags unshifted shifted
+
+      go : (t : Bool) → lentRefused chars attrs f ≡ t → stepC numbers chars attrs words flags unshifted shifted k ≡ stepC numbers′ chars′ attrs words flags unshifted shifted k
+      go true e = size-alone _ _ chars chars′ attrs f e (sym (s .sized attrs f) ∙ e)
+      go false e = sized-same attrs words flags unshifted shifted e k
+
+  shows-from-c : ShowsC numbers chars numbers′ chars′
+  unfolding pictureDrawCheck pictureDrawn
+  shows-from-c = record {
+    accepted = ok′;
+    same = record {
+      answered = λ attrs f room. rw (numbers-passed numbers ok, fine) (s .answered attrs f room);
+      pictured = λ attrs f field out. rw (numbers-passed numbers ok, fine) (s .pictured attrs f field out);
+      stepped = step-same;
+    };
+  }
+
+-- ---- a refusal leaves numbers and memory
+
+pub table-refused : (numbers chars : List ℕ) → doneOf (toTableCheck numbers chars) ≡ false → (toTableNumbers numbers chars ≡ numbers) × (toTableChars numbers chars ≡ chars)
+unfolding toTableCheck toTableNumbers toTableChars thereOf thereLeft
+table-refused numbers chars = go (numbersRefused numbers) (thereOf (numbersBoard numbers) chars .board .page) (thereCheck (numbersBoard numbers) chars)
+  where
+    go : (t : Bool) (p : Page) (r : Refusal) → doneOf (pick t Size r) ≡ false → (pick t numbers (pick (doneOf r) (pageIn p numbers) numbers) ≡ numbers)
+        × (pick t chars (pick (doneOf r) (thereChars (numbersBoard numbers .page) chars (tablePlace (numbersBoard numbers .page) chars)) chars) ≡ chars)
+    go true p r e = (refl, refl)
+    go false p r e = rw e (refl, refl)
+
+pub sheet-refused : (numbers chars : List ℕ) → doneOf (toSheetCheck numbers chars) ≡ false → toSheetNumbers numbers chars ≡ numbers
+unfolding toSheetCheck toSheetNumbers backOf
+sheet-refused numbers chars = go (numbersRefused numbers) (backOf (numbersBoard numbers) chars .board .page) (backCheck (numbersBoard numbers) chars)
+  where
+    go : (t : Bool) (p : Page) (r : Refusal) → doneOf (pick t Size r) ≡ false → pick t numbers (pick (doneOf r) (pageIn p numbers) numbers) ≡ numbers
+    go true p r e = refl
+    go false p r e = rw e
+
+-- ---- the numbers of a moved page
+
+-- a move that is done, of the board that numbers describe
+module _ (numbers : List ℕ) (fine : numbersRefused numbers ≡ false) (m : Moved) (done : m .refusal ≡ Done) (q : Page) (moved : m .board ≡ boardOf q) (n : length (q .irs) ≡ 15)
+    (version : q .version ≡ getD numbers 0 0) where
+  numbers-are : movedNumbers m numbers ≡ pageIn q numbers
+  numbers-are = rw done (ap (λ (x : Board). pageIn (x .page) numbers) moved)
+
+  board-is : numbersBoard (movedNumbers m numbers) ≡ m .board
+  board-is = ap numbersBoard numbers-are ∙ ap boardOf (put-page numbers fine q n version) ∙ sym moved
+
+  moved-fine : numbersRefused (movedNumbers m numbers) ≡ false
+  moved-fine = rw numbers-are (put-fine numbers fine q n)
+
+-- numbers with another screen start 2: bytes 20 and 21
+abbrev pub withStart2 : (numbers : List ℕ) → (start2 : ℕ) → List ℕ
+withStart2 numbers x = set (set numbers 20 (x / 256)) 21 (x % 256)
+
+set-behind : (xs ys : List ℕ) (i v : ℕ) → set (xs ++ ys) (length xs + i) v ≡ xs ++ set ys i v
+set-behind [] ys i v = ap (λ (k : ℕ). set ys k v) (zero-add i)
+set-behind (x ∷ xs) ys i v = ap (λ (k : ℕ). set (x ∷ (xs ++ ys)) k v) (suc-add (length xs) i) ∙ ap (λ (l : List ℕ). x ∷ l) (set-behind xs ys i v)
+
+-- behind a version and fifteen registers
+start-set : (irs : List ℕ) → length irs ≡ 15 → (v a b c d e f high low : ℕ) (rest : List ℕ)
+    → set (set (v ∷ (irs ++ (a ∷ b ∷ c ∷ d ∷ e ∷ f ∷ rest))) 20 high) 21 low ≡ v ∷ (irs ++ (a ∷ b ∷ c ∷ d ∷ high ∷ low ∷ rest))
+start-set irs n v a b c d e f high low rest =
+    let four : 19 ≡ length irs + 4 = omega (arith, n) in
+    let five : 20 ≡ length irs + 5 = omega (arith, n) in
+    let first = ap (λ (k : ℕ). set (irs ++ (a ∷ b ∷ c ∷ d ∷ e ∷ f ∷ rest)) k high) four ∙ set-behind irs (a ∷ b ∷ c ∷ d ∷ e ∷ f ∷ rest) 4 high in
+    let second = ap (λ (k : ℕ). set (irs ++ (a ∷ b ∷ c ∷ d ∷ high ∷ f ∷ rest)) k low) five ∙ set-behind irs (a ∷ b ∷ c ∷ d ∷ high ∷ f ∷ rest) 5 low in
+    ap (λ (l : List ℕ). v ∷ l) (ap (λ (l : List ℕ). set l 20 low) first ∙ second)
+
+irs-all : (numbers : List ℕ) → numbersRefused numbers ≡ false → length (pageAt numbers 1 .irs) ≡ 15
+unfolding pageAt
+irs-all numbers fine = length-part numbers 1 15 (omega (arith, numbers-all numbers fine))
+
+-- which are the numbers of their page with that screen start 2
+module _ (numbers : List ℕ) (fits : Bytes numbers) (fine : numbersRefused numbers ≡ false) (x : ℕ) where
+  abbrev own : Page
+  own = pageAt numbers 1
+
+  own-back : pageIn own numbers ≡ numbers
+  own-back =
+      let all = numbers-all numbers fine in
+      ap₂ (λ (v : ℕ) (l : List ℕ). numbersFront v l (drop 25 numbers)) (version-again numbers 1 (numbers-version numbers fine)) (bytes-again numbers fits 1 (omega (arith, all)))
+      ∙ ap (λ (l : List ℕ). getD numbers 0 0 ∷ l) (on numbers 1 24)
+      ∙ sym (drop-cons numbers 0 0 (omega (arith, all)))
+
+  start-put : pageIn (changed own (own .irs) (own .starts .start1) x) numbers ≡ withStart2 numbers x
+  unfolding tailOf
+  start-put =
+      ap (λ (l : List ℕ). versionOf own ∷ l) (append-assoc (own .irs) _ (drop 25 numbers))
+      ∙ sym (start-set (own .irs) (irs-all numbers fine) (versionOf own) _ _ _ _ _ _ (x / 256) (x % 256) _)
+      ∙ ap (λ (l : List ℕ). withStart2 (versionOf own ∷ l) x) (sym (append-assoc (own .irs) _ (drop 25 numbers)))
+      ∙ ap (λ (l : List ℕ). withStart2 l x) own-back
+
+-- what the page's own refusals passed
+own-ok : (numbers chars : List ℕ) → numbersRefused numbers ≡ false → ownCheck (numbersBoard numbers) (length chars) ≡ Done → numbersCheck numbers ≡ Done
+unfolding numbersCheck ownCheck
+own-ok numbers chars fine ok = rw fine (call-page (numbersBoard numbers) (memoryRefused (length chars)) false false ok)
+
+-- numbers that feldrime_to_table moves
+module _ (numbers chars : List ℕ) (done : toTableCheck numbers chars ≡ Done) where
+  abbrev b : Board
+  b = numbersBoard numbers
+
+  abbrev p : Page
+  p = b .page
+
+  abbrev place : ℕ
+  place = tablePlace p chars
+
+  abbrev m : Moved
+  m = thereOf b chars
+
+  taken : (numbersRefused numbers ≡ false) × (thereCheck b chars ≡ Done)
+  unfolding toTableCheck thereOf
+  taken = passed (numbersRefused numbers) Size _ refl done
+
+  m-done : m .refusal ≡ Done
+  unfolding thereOf
+  m-done = taken .1
+
+  moved : m .board ≡ boardOf (therePage p place)
+  unfolding thereOf
+  moved = rw (taken .1)
+
+  long : length (p .irs) ≡ 15
+  long = irs-all numbers (taken .0)
+
+  long′ : length (therePage p place .irs) ≡ 15
+  unfolding therePage
+  long′ = length-set (p .irs) 2 (ir (p .irs) 2 % 128 + 128) ∙ long
+
+  version : therePage p place .version ≡ getD numbers 0 0
+  unfolding therePage pageAt
+  version = refl
+
+  numbers-left : toTableNumbers numbers chars ≡ movedNumbers m numbers
+  unfolding toTableNumbers
+  numbers-left = rw (taken .0)
+
+  chars-left : toTableChars numbers chars ≡ thereLeft b chars
+  unfolding toTableChars
+  chars-left = rw (taken .0)
+
+  table-fine : numbersRefused (toTableNumbers numbers chars) ≡ false
+  table-fine = rw numbers-left (moved-fine numbers (taken .0) m m-done (therePage p place) moved long′ version)
+
+  table-board : numbersBoard (toTableNumbers numbers chars) ≡ m .board
+  table-board = ap numbersBoard numbers-left ∙ board-is numbers (taken .0) m m-done (therePage p place) moved long′ version
+
+  -- they and character memory show the same
+  pub table-shows : ShowsC numbers chars (toTableNumbers numbers chars) (toTableChars numbers chars)
+  table-shows =
+      shows-from-c numbers chars (toTableNumbers numbers chars) (toTableChars numbers chars) (own-ok numbers chars (taken .0) (there-passed b chars (taken .1) .own)) table-fine
+      (rw (table-board, chars-left) (there-shows b chars (omega (arith, long)) (taken .1)))
+
+  -- of memory only the table's cells have changed
+  pub cells-again : (x : ℕ) → (place ≤ x → x < place + tableSize p → ⊥) → getD (toTableChars numbers chars) x 0 ≡ getD chars x 0
+  cells-again x out = rw chars-left (memory-back b chars (omega (arith, long)) (taken .1) x out)
+
+  -- and moved back the numbers have another screen start 2, and nothing else has changed
+  module _ (fits : Bytes numbers) where
+    there-back : backOf (m .board) (thereLeft b chars) ≡ movedTo Done (boardOf (changed p (p .irs) (p .starts .start1) place))
+    unfolding pageAt
+    there-back = there-and-back b chars (omega (arith, long)) (rw (getD-take 15 (drop 1 numbers) 2 0 (omega arith), getD-drop 1 numbers 2 0) (fits 3)) (taken .1)
+
+    back-left : backOf (numbersBoard (toTableNumbers numbers chars)) (toTableChars numbers chars) ≡ movedTo Done (boardOf (changed p (p .irs) (p .starts .start1) place))
+    back-left = ap₂ backOf table-board chars-left ∙ there-back
+
+    rest-left : drop 25 (toTableNumbers numbers chars) ≡ drop 25 numbers
+    rest-left =
+        ap (drop 25) (numbers-left ∙ numbers-are numbers (taken .0) m m-done (therePage p place) moved long′ version)
+        ∙ put-rest numbers (taken .0) (therePage p place) long′
+
+    pub sheet-again : (toSheetCheck (toTableNumbers numbers chars) (toTableChars numbers chars) ≡ Done)
+        × (toSheetNumbers (toTableNumbers numbers chars) (toTableChars numbers chars) ≡ withStart2 numbers place)
+    unfolding toSheetCheck toSheetNumbers
+    sheet-again = (
+      rw (table-fine, back-left),
+      rw (table-fine, back-left, rest-left) (start-put numbers fits (taken .0) place),
+    )
+
+-- numbers that feldrime_to_sheet moves
+module _ (numbers chars : List ℕ) (done : toSheetCheck numbers chars ≡ Done) where
+  abbrev sheetPage : Page
+  sheetPage = backPage (numbersBoard numbers .page) chars
+
+  back-taken : (numbersRefused numbers ≡ false) × (backCheck (numbersBoard numbers) chars ≡ Done)
+  unfolding toSheetCheck backOf
+  back-taken = passed (numbersRefused numbers) Size _ refl done
+
+  back-moved : backOf (numbersBoard numbers) chars .board ≡ boardOf sheetPage
+  unfolding backOf
+  back-moved = rw (back-taken .1)
+
+  back-done : backOf (numbersBoard numbers) chars .refusal ≡ Done
+  unfolding backOf
+  back-done = back-taken .1
+
+  back-long : length (sheetPage .irs) ≡ 15
+  unfolding backPage
+  back-long = length-set (numbersBoard numbers .page .irs) 2 (ir (numbersBoard numbers .page .irs) 2 % 128) ∙ irs-all numbers (back-taken .0)
+
+  back-version : sheetPage .version ≡ getD numbers 0 0
+  unfolding backPage pageAt
+  back-version = refl
+
+  sheet-left : toSheetNumbers numbers chars ≡ movedNumbers (backOf (numbersBoard numbers) chars) numbers
+  unfolding toSheetNumbers
+  sheet-left = rw (back-taken .0)
+
+  -- they show the same
+  pub sheet-shows : ShowsC numbers chars (toSheetNumbers numbers chars) chars
+  sheet-shows =
+      let back = backOf (numbersBoard numbers) chars in
+      let fine = moved-fine numbers (back-taken .0) back back-done sheetPage back-moved back-long back-version in
+      let board = board-is numbers (back-taken .0) back back-done sheetPage back-moved back-long back-version in
+      shows-from-c numbers chars (toSheetNumbers numbers chars) chars (own-ok numbers chars (back-taken .0) (back-passed (numbersBoard numbers) chars (back-taken .1) .own)) (rw sheet-left fine)
+      (rw (sheet-left, board) (back-shows (numbersBoard numbers) chars (omega (arith, irs-all numbers (back-taken .0))) (back-taken .1)))
+
+  -- and so they do where they are moved there again
+  pub table-again : toTableCheck (toSheetNumbers numbers chars) chars ≡ Done
+      → ShowsC numbers chars (toTableNumbers (toSheetNumbers numbers chars) chars) (toTableChars (toSheetNumbers numbers chars) chars)
+  table-again again =
+      let second = table-shows (toSheetNumbers numbers chars) chars again in
+      record { accepted = second .accepted; same = same-on (sheet-shows .same) (second .same) }
+
+-- ---- refused or not, pictures and steps are the same
+
+pub table-same : (numbers chars : List ℕ) → SameC numbers chars (toTableNumbers numbers chars) (toTableChars numbers chars)
+table-same numbers chars = go (doneOf (toTableCheck numbers chars)) refl
+  where
+    go : (t : Bool) → doneOf (toTableCheck numbers chars) ≡ t → SameC numbers chars (toTableNumbers numbers chars) (toTableChars numbers chars)
+    go true e = table-shows numbers chars (done-is _ e) .same
+    go false e = let kept = table-refused numbers chars e in rw (kept .0, kept .1) (itself numbers chars)
+
+pub sheet-same : (numbers chars : List ℕ) → SameC numbers chars (toSheetNumbers numbers chars) chars
+sheet-same numbers chars = go (doneOf (toSheetCheck numbers chars)) refl
+  where
+    go : (t : Bool) → doneOf (toSheetCheck numbers chars) ≡ t → SameC numbers chars (toSheetNumbers numbers chars) chars
+    go true e = sheet-shows numbers chars (done-is _ e) .same
+    go false e = rw (sheet-refused numbers chars e) (itself numbers chars)

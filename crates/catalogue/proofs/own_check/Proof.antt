@@ -1,0 +1,11 @@
+use borrow.Author.Needs.{needs}
+use Rattle.catalogue.specs.There.{ownCheck}
+use Rattle.catalogue.proofs.own_check.Statement.{statement}
+use Rattle.catalogue.proofs.own_check.Tie as tie
+
+returns : tie.Need-returns
+unfolding ownCheck
+returns c = c .call-check .ensures
+
+pub own-check-spec : {M : Type 1} → statement M
+own-check-spec = tie.close (tie.spec (λ c κs. search needs) returns)

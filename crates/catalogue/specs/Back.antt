@@ -1,0 +1,50 @@
+-- 02, R-5, moving back: a page whose rows follow one another becomes a sheet.
+use Prim.Native.Nat.{ℕ, _+_, _-_, _%_}
+use mathlib.Core.Bool.{Bool, not}
+use mathlib.Core.List.{List, [], _∷_}
+use lib.Dec.{eqb}
+use lib.ListN.{length, set}
+use Rattle.lists.specs.Choice.{pick, firstOf}
+use Rattle.lists.specs.Search.{anyBelow}
+use Rattle.refusal.specs.declared.Refusal.{Refusal}
+use Rattle.refusal.specs.declared.Refusal.the-variants.{Done, Kind, Coded, Apart}
+use Rattle.refusal.specs.Number.{doneOf}
+use Rattle.raster.specs.Moves.{advanceBy}
+use Rattle.board.specs.declared.Page.{Page}
+use Rattle.board.specs.declared.Board.{Board}
+use Rattle.timing.specs.Fields.{ir, codedOf, tableOf, rowsOf, hactOf, bufferOf}
+use Rattle.fetch.specs.Rows.{entryOf}
+use Rattle.catalogue.specs.declared.Moved.{Moved}
+use Rattle.catalogue.specs.There.{ownCheck, movedTo, withPage}
+
+-- the entry of the row after row r is where row r ended; of its high byte six bits count
+unfoldable pub followsRow : Page → (chars : List ℕ) → (r : ℕ) → Bool
+followsRow p chars r = eqb (entryOf p chars (r + 1)) (advanceBy (bufferOf (p .irs)) (hactOf (p .irs)) (entryOf p chars r))
+
+-- some later entry is not
+unfoldable pub rowsApart : Page → (chars : List ℕ) → Bool
+rowsApart p chars = anyBelow (λ r. not (followsRow p chars r)) (rowsOf (p .irs) - 1)
+
+-- IR2[7] is cleared and screen start 1 is the first entry; memory stays
+abbrev pub sheetAt : Page → (first : ℕ) → Page
+sheetAt p a = record {
+  version = p .version;
+  irs = set (p .irs) 2 (ir (p .irs) 2 % 128);
+  starts = record { start1 = a; cursor = p .starts .cursor; start2 = p .starts .start2 };
+  switches = p .switches;
+  video = p .video;
+}
+
+unfoldable pub backPage : Page → (chars : List ℕ) → Page
+backPage p chars = sheetAt p (entryOf p chars 0)
+
+-- 16, 19, 18
+abbrev pub backOrder : Page → (chars : List ℕ) → Refusal
+backOrder p chars = firstOf ((not (tableOf (p .irs)), Kind) ∷ (codedOf (p .irs), Coded) ∷ (rowsApart p chars, Apart) ∷ []) Done
+
+-- after the page's own
+unfoldable pub backCheck : Board → (chars : List ℕ) → Refusal
+backCheck b chars = pick (doneOf (ownCheck b (length chars))) (backOrder (b .page) chars) (ownCheck b (length chars))
+
+unfoldable pub backOf : Board → (chars : List ℕ) → Moved
+backOf b chars = movedTo (backCheck b chars) (pick (doneOf (backCheck b chars)) (withPage b (backPage (b .page) chars)) b)

@@ -1,0 +1,82 @@
+-- 02, R-5, moving there: a sheet gets a row table, in the lowest stretch of consecutive cells that no row fetches.
+use Prim.Native.Nat.{ℕ, _+_, _-_, _*_, _/_, _%_}
+use mathlib.Core.Bool.{Bool, false, not}
+use mathlib.Core.List.{List, [], _∷_, _++_}
+use lib.Dec.{eqb}
+use lib.ListN.{length, set, take, drop}
+use Rattle.lists.specs.Choice.{pick, firstOf}
+use Rattle.lists.specs.Tab.{tab}
+use Rattle.lists.specs.Search.{anyBelow, firstBelow}
+use Rattle.refusal.specs.declared.Refusal.{Refusal}
+use Rattle.refusal.specs.declared.Refusal.the-variants.{Done, Kind, Coded, Stretch}
+use Rattle.refusal.specs.Number.{doneOf}
+use Rattle.board.specs.declared.Page.{Page}
+use Rattle.board.specs.declared.Board.{Board}
+use Rattle.board.specs.Range.{memoryRefused}
+use Rattle.timing.specs.Fields.{ir, codedOf, tableOf, rowsOf}
+use Rattle.timing.specs.Check.{callCheck}
+use Rattle.fetch.specs.Rows.{rowStart, fetchedOf, fetchAt}
+use Rattle.catalogue.specs.declared.Moved.{Moved}
+
+-- whether some row fetches the cell at an address
+unfoldable pub fetchesCell : Page → (chars : List ℕ) → (x : ℕ) → Bool
+fetchesCell p chars x = anyBelow (λ r. anyBelow (λ i. eqb (fetchAt p chars r i) x) (fetchedOf p chars r)) (rowsOf (p .irs))
+
+-- a table has two bytes a row
+abbrev pub tableSize : Page → ℕ
+tableSize p = 2 * rowsOf (p .irs)
+
+-- from 0 on, the places from which a table does not pass 16383
+abbrev pub tablePlaces : Page → ℕ
+tablePlaces p = 16385 - tableSize p
+
+-- no row fetches one of the cells that it would have there
+unfoldable pub unfetchedAt : Page → (chars : List ℕ) → (place : ℕ) → Bool
+unfetchedAt p chars a = not (anyBelow (λ i. fetchesCell p chars (a + i)) (tableSize p))
+
+-- the lowest of them, or the count of places where there is none
+unfoldable pub tablePlace : Page → (chars : List ℕ) → ℕ
+tablePlace p chars = firstBelow (unfetchedAt p chars) (tablePlaces p)
+
+-- where each row starts: low byte, then high byte, of which the upper two bits are 0
+unfoldable pub tableByte : Page → (chars : List ℕ) → (i : ℕ) → ℕ
+tableByte p chars i = pick (eqb (i % 2) 0) (rowStart p chars (i / 2) % 256) (rowStart p chars (i / 2) / 256)
+
+-- the page with it: screen start 2 is its place and IR2[7] is set, nothing else changes
+unfoldable pub therePage : Page → (place : ℕ) → Page
+therePage p a = record {
+  version = p .version;
+  irs = set (p .irs) 2 (ir (p .irs) 2 % 128 + 128);
+  starts = record { start1 = p .starts .start1; cursor = p .starts .cursor; start2 = a };
+  switches = p .switches;
+  video = p .video;
+}
+
+-- character memory with it
+unfoldable pub thereChars : Page → (chars : List ℕ) → (place : ℕ) → List ℕ
+thereChars p chars a = take a chars ++ (tab (tableSize p) (tableByte p chars) ++ drop (a + tableSize p) chars)
+
+-- the page's own: 3 for character memory, 12, 4, 13, 14, 15, 6, 7
+unfoldable pub ownCheck : Board → (n : ℕ) → Refusal
+ownCheck b n = callCheck b (memoryRefused n) false false
+
+-- then 16, 19, 17
+abbrev pub thereOrder : Page → (place : ℕ) → Refusal
+thereOrder p a = firstOf ((tableOf (p .irs), Kind) ∷ (codedOf (p .irs), Coded) ∷ (eqb a (tablePlaces p), Stretch) ∷ []) Done
+
+unfoldable pub thereCheck : Board → (chars : List ℕ) → Refusal
+thereCheck b chars = pick (doneOf (ownCheck b (length chars))) (thereOrder (b .page) (tablePlace (b .page) chars)) (ownCheck b (length chars))
+
+abbrev pub movedTo : Refusal → Board → Moved
+movedTo r b = record { refusal = r; board = b }
+
+-- pointer, place and power state stay; a refusal gives the old board and leaves memory
+abbrev pub withPage : Board → Page → Board
+withPage b p = record { page = p; place = b .place; pointer = b .pointer; resets = b .resets }
+
+unfoldable pub thereOf : Board → (chars : List ℕ) → Moved
+thereOf b chars =
+    movedTo (thereCheck b chars) (pick (doneOf (thereCheck b chars)) (withPage b (therePage (b .page) (tablePlace (b .page) chars))) b)
+
+unfoldable pub thereLeft : Board → (chars : List ℕ) → List ℕ
+thereLeft b chars = pick (doneOf (thereCheck b chars)) (thereChars (b .page) chars (tablePlace (b .page) chars)) chars

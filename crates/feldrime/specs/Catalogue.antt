@@ -1,0 +1,33 @@
+-- A page moved to a row table and back, from its numbers (02, R-5).
+use Prim.Native.Nat.{ℕ}
+use mathlib.Core.List.{List}
+use Rattle.lists.specs.Choice.{pick}
+use Rattle.refusal.specs.declared.Refusal.{Refusal}
+use Rattle.refusal.specs.declared.Refusal.the-variants.{Size}
+use Rattle.refusal.specs.Number.{doneOf}
+use Rattle.catalogue.specs.declared.Moved.{Moved}
+use Rattle.catalogue.specs.There.{thereOf, thereLeft}
+use Rattle.catalogue.specs.Back.{backOf}
+use Rattle.numbers.specs.Numbers.{numbersRefused, numbersBoard, pageIn}
+
+-- the moved page in the place of the numbers' own; a refusal leaves them
+abbrev pub movedNumbers : Moved → List ℕ → List ℕ
+movedNumbers m numbers = pick (doneOf (m .refusal)) (pageIn (m .board .page) numbers) numbers
+
+-- 3 for the numbers, then the move's own
+unfoldable pub toTableCheck : (numbers chars : List ℕ) → Refusal
+toTableCheck numbers chars = pick (numbersRefused numbers) Size (thereOf (numbersBoard numbers) chars .refusal)
+
+unfoldable pub toSheetCheck : (numbers chars : List ℕ) → Refusal
+toSheetCheck numbers chars = pick (numbersRefused numbers) Size (backOf (numbersBoard numbers) chars .refusal)
+
+-- the numbers afterwards
+unfoldable pub toTableNumbers : (numbers chars : List ℕ) → List ℕ
+toTableNumbers numbers chars = pick (numbersRefused numbers) numbers (movedNumbers (thereOf (numbersBoard numbers) chars) numbers)
+
+unfoldable pub toSheetNumbers : (numbers chars : List ℕ) → List ℕ
+toSheetNumbers numbers chars = pick (numbersRefused numbers) numbers (movedNumbers (backOf (numbersBoard numbers) chars) numbers)
+
+-- character memory afterwards
+unfoldable pub toTableChars : (numbers chars : List ℕ) → List ℕ
+toTableChars numbers chars = pick (numbersRefused numbers) chars (thereLeft (numbersBoard numbers) chars)

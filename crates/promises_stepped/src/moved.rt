@@ -1,0 +1,103 @@
+// A page moved to a row table and back, drawn over its picture and stepped.
+use feldrime::Answer;
+use feldrime::StepAnswer;
+ghost use mathlib.Core.Path.{_≡_};
+ghost use lib.ListN.{length};
+ghost use Rattle.shape.specs.Font.{lentFont};
+ghost use Rattle.feldrime.specs.Answers.{answerOf};
+ghost use Rattle.feldrime.specs.PictureDraw.{pictureDrawCheck, pictureDrawn};
+ghost use Rattle.agreement.specs.FromC.{stepC};
+
+// What either move leaves, refused or not, has the picture that stands there already: the contract is that of `feldrime_picture_draw`.
+pub fn moved_over_picture(
+    numbers: &mut [u8],
+    chars: &mut [u8],
+    attrs: &[u8],
+    words: &[u16],
+    flags: &[u8],
+    unshifted: &[u8],
+    shifted: &[u8],
+    field: u8,
+    out: &mut [u8],
+) -> Answer
+    ensures { λ r. let f = lentFont words flags unshifted shifted in
+        ⌜ (r ≡ answerOf (pictureDrawCheck (now (numbers .entry)) (now (chars .entry)) (now (attrs .entry)) f (length (now (out .entry)))))
+        × (now (out .exit) ≡ pictureDrawn (now (numbers .entry)) (now (chars .entry)) (now (attrs .entry)) f field (now (out .entry))) ⌝ }
+{
+    feldrime::feldrime_to_table(numbers, chars);
+    feldrime::feldrime_picture_draw(
+        numbers,
+        chars,
+        attrs,
+        words,
+        flags,
+        unshifted,
+        shifted,
+        field,
+        out,
+    );
+    feldrime::feldrime_to_sheet(numbers, chars);
+    feldrime::feldrime_picture_draw(
+        numbers,
+        chars,
+        attrs,
+        words,
+        flags,
+        unshifted,
+        shifted,
+        field,
+        out,
+    )
+}
+
+// What a step answers after n single steps, from the board that the numbers describe.
+fn step_after(
+    numbers: &[u8],
+    chars: &[u8],
+    attrs: &[u8],
+    words: &[u16],
+    flags: &[u8],
+    unshifted: &[u8],
+    shifted: &[u8],
+    n: u32,
+) -> StepAnswer
+    ensures { λ r. ⌜ r ≡ stepC (now (numbers .entry)) (now (chars .entry)) (now (attrs .entry)) (now (words .entry)) (now (flags .entry)) (now (unshifted .entry)) (now (shifted .entry)) n ⌝ }
+{
+    let made = feldrime::feldrime_board_of(numbers);
+    let start = made.board;
+    let reached = crate::states::stepped_to(
+        start,
+        chars,
+        attrs,
+        words,
+        flags,
+        unshifted,
+        shifted,
+        n,
+    );
+    let board = reached.board;
+    let s = feldrime::step_numbers(board, chars, attrs, words, flags, unshifted, shifted);
+    s.answer
+}
+
+// What either move leaves, refused or not, is answered the same at every step: the contract is that of the numbers and memory handed over.
+pub fn moved_step(
+    there: bool,
+    numbers: &mut [u8],
+    chars: &mut [u8],
+    attrs: &[u8],
+    words: &[u16],
+    flags: &[u8],
+    unshifted: &[u8],
+    shifted: &[u8],
+    n: u32,
+) -> StepAnswer
+    ensures { λ r. ⌜ r ≡ stepC (now (numbers .entry)) (now (chars .entry)) (now (attrs .entry)) (now (words .entry)) (now (flags .entry)) (now (unshifted .entry)) (now (shifted .entry)) n ⌝ }
+{
+    if there {
+        feldrime::feldrime_to_table(numbers, chars);
+        return step_after(numbers, chars, attrs, words, flags, unshifted, shifted, n);
+    }
+    feldrime::feldrime_to_sheet(numbers, chars);
+    step_after(numbers, chars, attrs, words, flags, unshifted, shifted, n)
+}

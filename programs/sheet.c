@@ -1,0 +1,65 @@
+/* feldrime sheet: a page of the catalogue whose rows follow one another becomes a typed sheet. */
+#include <stdio.h>
+
+#include "move.h"
+#include "words.h"
+
+const char sheet_usage[] = "feldrime sheet PAGE OUT";
+const char sheet_help[] =
+    "Makes a page of the catalogue a typed sheet, which has no row table: each row after the first begins where the\n"
+    "row before it ended. The picture is the same in every field.\n"
+    "\n"
+    "  PAGE  a page file with a row table, whose rows begin just so already\n"
+    "  OUT   the page file to make. A file of this name is replaced when the new one is whole; PAGE itself stays, and\n"
+    "        cannot be OUT\n"
+    "\n"
+    "Screen start 1 becomes where row 0 begins, and IR2[7] is cleared. Nothing else is changed, and the table stays in\n"
+    "its cells: a sheet that was moved to the catalogue comes back but for screen start 2 and these cells.\n"
+    "A page whose rows have codes (IR0[7]) or do not follow one another is refused, and so is one without a row table.\n";
+
+/* A row's first cell. */
+static uint16_t begin_of(const struct page *page, uint32_t row)
+{
+    uint16_t cells[FELDRIME_CELLS];
+
+    cells_of(page, row, cells);
+    return cells[0];
+}
+
+/* Tells the first row that does not follow. Where it should begin is the library's to know: a sheet that begins where the
+   page does has the same rows up to there, and goes on where the last of them ended. */
+static void hint_apart(const struct page *page, char text[WHY])
+{
+    static struct page sheet;
+    uint16_t first = begin_of(page, 0);
+    uint32_t row = 1;
+
+    sheet = *page;
+    sheet.parts.numbers[1 + 2] &= 0x7F;
+    sheet.parts.numbers[16] = (uint8_t)(first / 256);
+    sheet.parts.numbers[17] = (uint8_t)(first % 256);
+    while (row + 1 < page->rows && begin_of(page, row) == begin_of(&sheet, row))
+        row++;
+    snprintf(text, WHY, ": row %u begins at cell %u, not at cell %u, where row %u ended", (unsigned)row,
+             (unsigned)begin_of(page, row), (unsigned)begin_of(&sheet, row), (unsigned)row - 1);
+}
+
+static void hint(const struct page *page, uint32_t refusal, char text[WHY])
+{
+    if (refusal == FELDRIME_REFUSED_KIND)
+        snprintf(text, WHY, ": this page has no row table");
+    else if (refusal == FELDRIME_REFUSED_APART)
+        hint_apart(page, text);
+}
+
+static void tell(const char *name, const struct page *page)
+{
+    printf("%s: a typed sheet, which begins at cell %u\n", name, (unsigned)begin_of(page, 0));
+}
+
+int sheet_word(int count, char **arguments)
+{
+    static const struct move move = { sheet_usage, feldrime_page_to_sheet, hint, tell };
+
+    return move_word(&move, count, arguments);
+}
