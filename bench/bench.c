@@ -3,7 +3,7 @@
 #include <stdio.h>
 #include <time.h>
 
-#include "pages.h"
+#include "index.h"
 #include "rules.h"
 
 #define ROWS 24
@@ -14,6 +14,7 @@
 #define ON (DISPLAY | CURSOR)
 #define OFF CURSOR
 #define STATES 20000 /* calls for a state in one measurement */
+#define COMPARED 2000 /* records compared each with each in one measurement */
 #define ROUNDS 31
 
 static uint8_t picture[2048 * FELDRIME_LINE];
@@ -98,6 +99,35 @@ static void run_zero_state(const struct set *set)
     states(set, 0);
 }
 
+static void find_all(phrase_finder *find, const struct set *set)
+{
+    for (size_t p = 0; p < set->count; p++)
+        for (uint32_t row = 0; row < ROWS; row++)
+            find_phrase(find, &set->pages[p], PHRASES, row);
+}
+
+static void run_library_phrases(const struct set *set)
+{
+    find_all(feldrime_phrase_of_row, set);
+}
+
+static void run_plain_phrases(const struct set *set)
+{
+    find_all(plain_phrase_of_row, set);
+}
+
+static void run_library_differ(const struct set *set)
+{
+    (void)set;
+    feldrime_phrases_differ(phrases, COMPARED);
+}
+
+static void run_plain_differ(const struct set *set)
+{
+    (void)set;
+    plain_phrases_differ(phrases, COMPARED);
+}
+
 /* ---- timing ---- */
 
 struct contestant {
@@ -179,6 +209,17 @@ static void print_wide(const struct set *doubled, const struct set *plain)
     printf("line %s: wide/plain %.2f\n", doubled->name, ratio(run_library_lines, doubled, run_library_lines, plain));
 }
 
+/* The whole list compared each with each takes long, so it is timed once, and a part of it beside C. */
+static void print_phrases(const struct set *set)
+{
+    double begun = now();
+    feldrime_phrases_differ(phrases, PHRASES);
+    double taken = now() - begun;
+
+    printf("phrase of row: library/plain %.2f\n", ratio(run_library_phrases, set, run_plain_phrases, set));
+    printf("phrases differ: library/plain %.2f, and %u records take %.2f s\n", ratio(run_library_differ, set, run_plain_differ, set), PHRASES, taken);
+}
+
 static void print_all(const struct set *eight)
 {
     for (size_t w = 0; w < WIDTHS; w++)
@@ -199,6 +240,7 @@ static void print_all(const struct set *eight)
     printf("state: n = 2^32 - 1 / n = 0 %.2f\n", ratio(run_far_state, eight, run_zero_state, eight));
     for (size_t i = 0; i < COUNT(running); i++)
         print_modes(&running[i], &standing[i]);
+    print_phrases(eight);
 }
 
 /* ---- the pages ---- */
@@ -254,6 +296,7 @@ static void make_all(void)
     make_sheets(&latched[3], "version 2 in character mode", ROWS, COLUMNS, 8, ON | ACD);
     make_running();
     make_coded();
+    make_phrases();
 }
 
 static int all_same(const struct set *eight)
@@ -271,7 +314,7 @@ static int all_same(const struct set *eight)
         if (!same_pictures(&mixed[i]) || !same_steps(&mixed[i]))
             return 0;
     return same_pictures(&cell) && same_pictures(&off) && same_pictures(&headline) && same_pictures(&samples)
-        && same_steps(eight) && same_steps(&wide[8 - LEAST]) && states_answer(eight);
+        && same_steps(eight) && same_steps(&wide[8 - LEAST]) && states_answer(eight) && same_phrases(eight) && same_phrases(&mixed[0]);
 }
 
 int main(int count, char *arguments[])
@@ -285,7 +328,7 @@ int main(int count, char *arguments[])
     }
     if (!all_same(eight))
         return 1;
-    printf("All drawers give the same bytes, both steps the same answers and boards. Times compare as follows (below 1.00: the first is faster).\n");
+    printf("All drawers give the same bytes, both steps the same answers and boards, both searches for phrases the same records. Times compare as follows (below 1.00: the first is faster).\n");
     print_all(eight);
     return 0;
 }

@@ -450,22 +450,6 @@ static void draw_rows(const struct plan *p, uint8_t *out)
 
 /* ---- the call ---- */
 
-/* What a page's numbers are refused for: 12, 4, 13, 14, 15, 6. */
-static feldrime_answer page_refused(const uint8_t *numbers)
-{
-    const uint8_t *ir = numbers + 1;
-    struct porches porches = porches_of(ir);
-
-    if (big_endian(numbers + 16) >= MEMORY || big_endian(numbers + 18) >= MEMORY || big_endian(numbers + 20) >= MEMORY
-        || numbers[22] > most_switches(numbers[0]) || numbers[24] > 15)
-        return (feldrime_answer){ 12, 0 };
-    if (reserved_set(ir))
-        return (feldrime_answer){ 4, 0 };
-    if (porches.refusal != 0)
-        return (feldrime_answer){ porches.refusal, porches.missing };
-    return (feldrime_answer){ numbers[23] < 6 || numbers[23] > 12 ? 6 : 0, 0 };
-}
-
 static void plan_page(struct plan *p, const uint8_t *numbers, uint8_t field)
 {
     const uint8_t *ir = numbers + 1;

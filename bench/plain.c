@@ -18,28 +18,6 @@ static feldrime_answer answer(uint32_t number)
     return (feldrime_answer){ number, 0 };
 }
 
-/* The address that k moves lead to. */
-static unsigned moved(unsigned at, unsigned k, unsigned first, unsigned last)
-{
-    unsigned to_last = (last - at) % MEMORY;
-    unsigned round = (last - first) % MEMORY + 1;
-
-    if (k <= to_last)
-        return (at + k) % MEMORY;
-    return (first + (k - to_last - 1) % round) % MEMORY;
-}
-
-/* Where a row begins, and its code. */
-static struct row_entry row_begin(const uint8_t *numbers, const uint8_t *chars, unsigned row)
-{
-    const uint8_t *ir = numbers + 1;
-
-    if (ir[2] & 128)
-        return row_entry(ir, chars, big_endian(numbers + 20), row);
-    unsigned start = moved(big_endian(numbers + 16), row * (ir[5] + 1u), first_address(ir), last_address(ir));
-    return (struct row_entry){ start, PLAIN_ROW };
-}
-
 /* The attribute byte that is latched when a row begins, sought from the end of the row before it backward; 0 for none. */
 static unsigned latched_before(const uint8_t *numbers, const uint8_t *chars, const uint8_t *attrs, unsigned row)
 {

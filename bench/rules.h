@@ -1,9 +1,9 @@
-/* What the C around the library shares: sizes, the bits of switches and attributes, the levels, porches, addresses, rows and their codes, a
-   list's search. */
+/* What the C around the library shares: sizes, the bits of switches and attributes, the levels, porches, what a page is refused for, addresses,
+   rows and their codes, a list's search. */
 #ifndef RULES_H
 #define RULES_H
 
-#include <stdint.h>
+#include "feldrime.h"
 
 #define MEMORY 16384u    /* bytes in each memory */
 #define CHARACTERS 128u  /* characters in the font */
@@ -61,6 +61,28 @@ static inline int reserved_set(const uint8_t *ir)
     return ir[1] & 128 || (ir[0] & 128 && !(ir[2] & 128));
 }
 
+/* An address in a page's numbers. */
+static inline unsigned big_endian(const uint8_t *pair)
+{
+    return pair[0] * 256u + pair[1];
+}
+
+/* What a page's numbers are refused for: 12, 4, 13, 14, 15, 6. */
+static inline feldrime_answer page_refused(const uint8_t *numbers)
+{
+    const uint8_t *ir = numbers + 1;
+    struct porches porches = porches_of(ir);
+
+    if (big_endian(numbers + 16) >= MEMORY || big_endian(numbers + 18) >= MEMORY || big_endian(numbers + 20) >= MEMORY
+        || numbers[22] > most_switches(numbers[0]) || numbers[24] > 15)
+        return (feldrime_answer){ 12, 0 };
+    if (reserved_set(ir))
+        return (feldrime_answer){ 4, 0 };
+    if (porches.refusal != 0)
+        return (feldrime_answer){ porches.refusal, porches.missing };
+    return (feldrime_answer){ numbers[23] < 6 || numbers[23] > 12 ? 6 : 0, 0 };
+}
+
 /* The codes of rows: plain, double width, and its top and bottom half. */
 enum { PLAIN_ROW, WIDE_ROW, TOP_ROW, BOTTOM_ROW, CODES };
 
@@ -75,6 +97,28 @@ static inline struct row_entry row_entry(const uint8_t *ir, const uint8_t *chars
     unsigned low = chars[(table + 2 * row) % MEMORY], high = chars[(table + 2 * row + 1) % MEMORY];
 
     return (struct row_entry){ low + (high & 63) * 256, ir[0] & 128 ? high >> 6 : PLAIN_ROW };
+}
+
+/* The address that k moves lead to. */
+static inline unsigned moved(unsigned at, unsigned k, unsigned first, unsigned last)
+{
+    unsigned to_last = (last - at) % MEMORY;
+    unsigned round = (last - first) % MEMORY + 1;
+
+    if (k <= to_last)
+        return (at + k) % MEMORY;
+    return (first + (k - to_last - 1) % round) % MEMORY;
+}
+
+/* The same of any row of a page. */
+static inline struct row_entry row_begin(const uint8_t *numbers, const uint8_t *chars, unsigned row)
+{
+    const uint8_t *ir = numbers + 1;
+
+    if (ir[2] & 128)
+        return row_entry(ir, chars, big_endian(numbers + 20), row);
+    unsigned start = moved(big_endian(numbers + 16), row * (ir[5] + 1u), first_address(ir), last_address(ir));
+    return (struct row_entry){ start, PLAIN_ROW };
 }
 
 /* How many cells a row of so many columns fetches. */
@@ -97,12 +141,6 @@ static inline unsigned doubled(unsigned bits)
     bits = (bits | bits << 2) & 0x333333;
     bits = (bits | bits << 1) & 0x555555;
     return bits * 3;
-}
-
-/* An address in a page's numbers. */
-static inline unsigned big_endian(const uint8_t *pair)
-{
-    return pair[0] * 256u + pair[1];
 }
 
 /* The first position in a list that equals the scan line, or LIST for none. */

@@ -11,13 +11,15 @@
    field count, which is the frame's number modulo 256; a still picture is field 0. examples/draw.c does just this.
    feldrime_draw_line draws a single line, feldrime_cells_of tells which cells of the memories a row shows, and
    feldrime_write_page makes a page file. feldrime_page_to_table makes a typed sheet a page with a row table, as those of
-   a catalogue are, and feldrime_page_to_sheet makes it a sheet again. All these are short forms of calls over plain
-   buffers, which stand before them and say what is refused. The calls for an editor, which steps a board clock by clock,
-   come last.
+   a catalogue are, and feldrime_page_to_sheet makes it a sheet again. feldrime_phrase_in tells which phrase of a list a
+   row comes from, and feldrime_phrases_differ whether such a list contradicts itself. All but the last are short forms of
+   calls over plain buffers, which stand before them and say what is refused. The calls for an editor, which steps a board
+   clock by clock, come last.
 
    For every call:
    - A slice is a pointer and a count of elements, not of bytes. The pointer is NULL only where the count is 0; words and
-     cells are aligned as uint16_t is. Each count is checked: one that is wrong for the call is refused.
+     cells are aligned as uint16_t is, phrases as uint32_t. Each count is checked: one that is wrong for the call is
+     refused. Of phrases there may be any number.
    - A pointer without a count (board, page, font) is never NULL and points to one such struct.
    - A buffer that is written overlaps no other buffer of the call.
    - A refused call leaves every lent buffer as it was. What stands beyond a drawn picture or line, a row's cells or a
@@ -25,6 +27,7 @@
    - An answer is a struct by value. It begins with refusal, 0 where all was done, else the first that holds of the
      numbers that stand at the call, in that order. beside belongs to 14 and 15: by how many clocks the front porch misses
      2, which is HACT + HSYNC + HBP + 2 - HT; else it is 0. On a refusal the results are 0, unless the call says otherwise.
+     Compare answers field by field, since some have unused bytes between the fields.
    - The library keeps nothing between calls, and has no state of its own. Threads may call it at the same time, as long
      as a buffer that is being written is used by one call at a time. feldrime_picture_draw needs at most 80 KB of stack,
      feldrime_to_table at most 20 KB, the other calls little. */
@@ -41,7 +44,7 @@ extern "C" {
 /* The version of this header and of the archive that it belongs to. While it stays, all that is said here stays, though
    calls may be added. With another version calls, structs, sizes and refusal numbers may be others, and so may what is
    accepted and drawn: a program is then read through and compiled again. Files have versions of their own. */
-#define FELDRIME_VERSION 5
+#define FELDRIME_VERSION 6
 
 /* The sizes of buffers, in elements. */
 enum {
@@ -78,7 +81,8 @@ enum {
     FELDRIME_REFUSED_KIND = 16,
     FELDRIME_REFUSED_STRETCH = 17,
     FELDRIME_REFUSED_APART = 18,
-    FELDRIME_REFUSED_CODED = 19
+    FELDRIME_REFUSED_CODED = 19,
+    FELDRIME_REFUSED_RECORD = 20
 };
 
 /* What a refusal number means, in words that name all its causes. */
@@ -125,6 +129,8 @@ static inline const char *feldrime_meaning(uint32_t refusal)
         return "some row after the first does not begin where the row before it ended";
     case FELDRIME_REFUSED_CODED:
         return "rows have codes (IR0[7]), and the rows of a sheet have none";
+    case FELDRIME_REFUSED_RECORD:
+        return "a phrase record has length 0 or passes cell 16383";
     default:
         return "no refusal has this number";
     }
@@ -209,6 +215,25 @@ typedef struct {
     uint32_t refusal, beside;
     uint32_t count; /* cells[0] to cells[count - 1] */
 } feldrime_cells;
+
+/* A record of a list of phrases: the cells first to first + length - 1. Which number stands for which language, and for
+   which phrase in it, is the list's own affair. Any four numbers may be handed over: 20 is for a record whose length is 0
+   or whose last cell is above 16383. */
+typedef struct {
+    uint32_t language, number, first, length;
+} feldrime_phrase;
+
+typedef struct {
+    uint32_t refusal, beside;
+    uint32_t found;  /* 0 or 1 */
+    size_t position; /* phrases[position] */
+} feldrime_phrase_answer;
+
+typedef struct {
+    uint32_t refusal, beside;
+    uint32_t found;        /* 0 or 1 */
+    size_t earlier, later; /* phrases[earlier] and phrases[later] */
+} feldrime_differ_answer;
 
 /* Could such a page be drawn? Refuses 3, 12, 4, 13, 14, 15, 6. */
 feldrime_answer feldrime_page_check(
@@ -305,6 +330,23 @@ feldrime_answer feldrime_to_sheet(
     uint8_t *numbers, size_t numbers_count,
     const uint8_t *chars, size_t chars_count);
 
+/* The phrase that a row comes from: the first record in the list whose cells hold every cell that the row fetches, all
+   that feldrime_row_cells gives. Where none does, found and position are 0. Records may stand in any order, overlap and
+   stand twice, and the list may be empty. The cells of a row that runs past the last buffer address, or past 16383, do
+   not follow one another: only a record that holds all between as well holds them. Refuses 3, 12, 4, 13, 14, 15, 6, 7,
+   20; with 20 position is the first such record. */
+feldrime_phrase_answer feldrime_phrase_of_row(
+    const uint8_t *numbers, size_t numbers_count,
+    const uint8_t *chars, size_t chars_count,
+    const feldrime_phrase *phrases, size_t phrases_count,
+    uint32_t row);
+
+/* Whether two records of the same language and number differ in first or length, and which: of all such pairs the one
+   whose earlier record stands first and, of those, the one whose later record does. Where there is none, found, earlier
+   and later are 0. Refuses 20; then earlier is the first such record. */
+feldrime_differ_answer feldrime_phrases_differ(
+    const feldrime_phrase *phrases, size_t phrases_count);
+
 /* ---- short forms: a page and a font as structs ---- */
 
 /* Some 32 KB, so better static or allocated than on a small stack. The parts may be read and changed at will: typing is
@@ -387,6 +429,16 @@ static inline feldrime_cells feldrime_cells_of(
     uint16_t *cells, size_t cells_count)
 {
     return feldrime_row_cells(page->numbers, FELDRIME_NUMBERS, page->chars, FELDRIME_MEMORY, row, cells, cells_count);
+}
+
+/* feldrime_phrase_of_row */
+static inline feldrime_phrase_answer feldrime_phrase_in(
+    const feldrime_page *page,
+    const feldrime_phrase *phrases, size_t phrases_count,
+    uint32_t row)
+{
+    return feldrime_phrase_of_row(page->numbers, FELDRIME_NUMBERS, page->chars, FELDRIME_MEMORY,
+                                  phrases, phrases_count, row);
 }
 
 /* feldrime_to_table */

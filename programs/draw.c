@@ -1,8 +1,8 @@
 /* feldrime draw: a page's picture as a PNG file. */
 #include <stdio.h>
 #include <stdlib.h>
-#include <string.h>
 
+#include "decimal.h"
 #include "files.h"
 #include "page.h"
 #include "png.h"
@@ -21,25 +21,14 @@ const char draw_help[] =
 static struct page page;
 static feldrime_font font;
 
-/* -1 where the text is no field. */
-static int field_of(const char *text)
-{
-    size_t digits = strspn(text, "0123456789");
-
-    if (digits == 0 || text[digits] != '\0')
-        return -1;
-    long field = strtol(text, NULL, 10);
-    return field <= 255 ? (int)field : -1;
-}
-
 int draw_word(int count, char **arguments)
 {
     char why[WHY];
+    uint32_t field = 0;
 
     if (count != 3 && count != 4)
         return wrong_use(draw_usage);
-    int field = count == 4 ? field_of(arguments[3]) : 0;
-    if (field < 0) {
+    if (count == 4 && !decimal_of(arguments[3], 255, &field)) {
         say(arguments[3], "is no field: a field is a number from 0 to 255");
         return WRONG_USE;
     }

@@ -12,6 +12,7 @@ struct entry {
     const char *file;
     char stem[256];
     const struct language *language; /* NULL where the file's name tells none */
+    bool checked;                    /* whether it is shown only if its rows are in phrases */
     char title[FELDRIME_CELLS + 1];
     char why[WHY]; /* why it is not shown; "" where it is */
 };

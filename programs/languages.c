@@ -5,7 +5,7 @@
 
 #include "stem.h"
 
-static const struct language languages[] = {
+const struct language languages[LANGUAGES] = {
     { "en", "English", "Hold the picture still", "The picture's text", "struck out", "The picture shows no text.",
       "All pages", "The board's papers give no aspect: here a dot is a square pixel.",
       "They give no rate either: 50 fields a second are shown." },
@@ -22,14 +22,13 @@ static const struct language languages[] = {
       "Vse strani", "Listine plošče ne navajajo razmerja stranic: tu je pika kvadratna slikovna točka.",
       "Tudi hitrosti ne navajajo: prikazanih je 50 polj na sekundo." },
 };
-enum { LANGUAGES = sizeof languages / sizeof *languages };
 
 const struct language *const english = &languages[0];
 
-static const struct language *by_code(const char *part, size_t length)
+const struct language *language_named(const char *code, size_t length)
 {
     for (int i = 0; i < LANGUAGES; i++)
-        if (length == strlen(languages[i].code) && strncasecmp(part, languages[i].code, length) == 0)
+        if (length == strlen(languages[i].code) && strncasecmp(code, languages[i].code, length) == 0)
             return &languages[i];
     return NULL;
 }
@@ -42,6 +41,6 @@ const struct language *language_of(const char *file)
     size_t end = strlen(stem), begin = end;
     while (begin > 0 && strchr("-_", stem[begin - 1]) == NULL)
         begin--;
-    const struct language *first = by_code(stem, strcspn(stem, "-_"));
-    return first != NULL ? first : by_code(stem + begin, end - begin);
+    const struct language *first = language_named(stem, strcspn(stem, "-_"));
+    return first != NULL ? first : language_named(stem + begin, end - begin);
 }

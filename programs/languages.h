@@ -2,10 +2,18 @@
 #ifndef LANGUAGES_H
 #define LANGUAGES_H
 
+#include <stddef.h>
+
 struct language {
     const char *code, *name;
     const char *still, *text, *struck, *empty, *pages, *aspect, *rate;
 };
+
+enum { LANGUAGES = 5 };
+extern const struct language languages[LANGUAGES];
+
+/* The language of a code, of so many letters, small or capital. NULL where it is none's. */
+const struct language *language_named(const char *code, size_t length);
 
 /* The language of a page file, from its name: the first or the last part of the name before its ending, where parts are
    separated by - _ or a dot. "de.page", "de-61.page" and "bulletin_de.page" are German. NULL where neither is a

@@ -24,7 +24,8 @@ enum { WORDS = sizeof words / sizeof *words };
 
 static const char ends[] =
     "\n"
-    "A name may begin with '-'; only --help, as the first argument, is none: write ./--help for such a file.\n"
+    "A name may begin with '-'; only --help, as the first argument, and --phrases of site are none: write ./--help for\n"
+    "such a file.\n"
     "It ends with 0 where all was done, 1 where a file was refused or something could not be done, 2 where it was\n"
     "used wrongly.\n";
 
@@ -32,7 +33,7 @@ static void help_all(FILE *out)
 {
     fputs("Pages of an old terminal board, dot for dot.\n\n", out);
     for (int i = 0; i < WORDS; i++)
-        fprintf(out, "  %-44s %s\n", words[i].usage, words[i].summary);
+        fprintf(out, "  %-54s %s\n", words[i].usage, words[i].summary);
     fputs("\n  feldrime WORD --help says more of one of them.\n", out);
     fputs(ends, out);
 }

@@ -8,7 +8,7 @@
 #include "files.h"
 #include "say.h"
 
-static bool unread(char why[WHY])
+bool unread(char why[WHY])
 {
     snprintf(why, WHY, "cannot be read: %s", strerror(errno));
     return false;

@@ -18,6 +18,9 @@ enum code { PLAIN, WIDE, TOP, BOTTOM };
 /* Why a file was not taken, as one line of text. */
 enum { WHY = 256 };
 
+/* Why a file cannot be read becomes what errno tells. Gives false. */
+bool unread(char why[WHY]);
+
 /* Each reads a file. Where it is refused or cannot be read, why becomes the reason. */
 bool read_page(const char *name, struct page *page, char why[WHY]);
 bool read_font(const char *name, feldrime_font *font, char why[WHY]);

@@ -2,25 +2,36 @@
 #include <stdio.h>
 #include <string.h>
 
-#include "page.h"
+#include "phrases.h"
 #include "say.h"
 #include "text.h"
 #include "words.h"
 
-const char rows_usage[] = "feldrime rows PAGE";
+const char rows_usage[] = "feldrime rows PAGE [PHRASES]";
 const char rows_help[] =
     "Tells where each row of a page comes from, a line for each row:\n"
     "\n"
-    "  from   where the row's first cell is named: an entry of the row table, by the two cells that hold it, or\n"
-    "         screen start 1; or that the row goes on where the one before it ended\n"
-    "  size   only where rows have codes (IR0[7]): wide is double width, top and bottom are double width and the upper\n"
-    "         or lower half of double height. The code is the two upper bits of the row's entry. Such a row shows half\n"
-    "         as many cells, rounded up. A plain row has nothing here\n"
-    "  cells  the addresses of the cells that the row shows, in order. * marks cells that another row shows too\n"
-    "  text   what stands in these cells, also where the picture does not show it. A cell without a character is a\n"
-    "         blank, and a character that is no letter, digit or sign of ASCII is a dot\n";
+    "  from    where the row's first cell is named: an entry of the row table, by the two cells that hold it, or\n"
+    "          screen start 1; or that the row goes on where the one before it ended\n"
+    "  size    only where rows have codes (IR0[7]): wide is double width, top and bottom are double width and the upper\n"
+    "          or lower half of double height. The code is the two upper bits of the row's entry. Such a row shows half\n"
+    "          as many cells, rounded up. A plain row has nothing here\n"
+    "  cells   the addresses of the cells that the row shows, in order. * marks cells that another row shows too\n"
+    "  phrase  only with PHRASES: language and number of the first phrase there that holds all these cells, or that no\n"
+    "          phrase does\n"
+    "  text    what stands in these cells, also where the picture does not show it. A cell without a character is a\n"
+    "          blank, and a character that is no letter, digit or sign of ASCII is a dot\n"
+    "\n"
+    "PHRASES is a text, a line for each phrase: its language (de, en, fr, it or sl), its number, its first cell and its\n"
+    "length in cells, as in 'de 11 4032 48'. What stands behind a # is a comment. The cells follow one another and do\n"
+    "not pass cell 16383. So a row that runs past the last buffer address, or past 16383, is in a phrase only if that\n"
+    "holds all between as well.\n"
+    "Where phrases of the same language and number differ in first cell or length, the first two lines that disagree\n"
+    "are told after the rows, and the program ends with 1.\n";
 
 static struct page page;
+static struct phrases list;
+static bool has_list;
 static uint16_t cells[FELDRIME_CELLS];
 static uint32_t cell_count;
 
@@ -75,35 +86,73 @@ static void print_size(const char *size)
         printf("%-6s  ", size);
 }
 
+/* Likewise, where there is a list of phrases. */
+static void print_phrase(const char *phrase)
+{
+    if (has_list)
+        printf("%-9s  ", phrase);
+}
+
+static void phrase_of(uint32_t row, char text[32])
+{
+    feldrime_phrase_answer answer = feldrime_phrase_in(&page.parts, list.records, list.count, row);
+
+    strcpy(text, "no phrase");
+    if (answer.found)
+        sprintf(text, "%s %u", languages[list.records[answer.position].language].code,
+                (unsigned)list.records[answer.position].number);
+}
+
 static void print_row(uint32_t row)
 {
     static const char *const sizes[] = { [PLAIN] = "", [WIDE] = "wide", [TOP] = "top", [BOTTOM] = "bottom" };
-    char from[32], shown[FELDRIME_CELLS * 16], text[FELDRIME_CELLS + 1];
+    char from[32], shown[FELDRIME_CELLS * 16], phrase[32], text[FELDRIME_CELLS + 1];
 
     cell_count = cells_of(&page, row, cells);
     origin(row, from);
     ranges(shown);
+    phrase_of(row, phrase);
     text_of(&page, row, text);
     printf("%3u  %-17s  ", (unsigned)row, from);
     print_size(sizes[code_of(&page, row)]);
-    printf("%-23s  |%s\n", shown, text);
+    printf("%-23s  ", shown);
+    print_phrase(phrase);
+    printf("|%s\n", text);
+}
+
+static void print_rows(void)
+{
+    count_cells();
+    printf("row  from               ");
+    print_size("size");
+    printf("cells                    ");
+    print_phrase("phrase");
+    printf("text\n");
+    for (uint32_t row = 0; row < page.rows; row++)
+        print_row(row);
 }
 
 int rows_word(int count, char **arguments)
 {
     char why[WHY];
 
-    if (count != 1)
+    if (count != 1 && count != 2)
         return wrong_use(rows_usage);
     if (!read_page(arguments[0], &page, why)) {
         say(arguments[0], "%s", why);
         return COULD_NOT;
     }
-    count_cells();
-    printf("row  from               ");
-    print_size("size");
-    printf("cells                    text\n");
-    for (uint32_t row = 0; row < page.rows; row++)
-        print_row(row);
-    return DONE;
+    has_list = count == 2;
+    if (has_list && !read_phrases(arguments[1], &list, why)) {
+        say(arguments[1], "%s", why);
+        return COULD_NOT;
+    }
+    print_rows();
+    bool agreed = phrases_agree(&list, why);
+    if (!agreed) {
+        fflush(stdout);
+        say(arguments[1], "%s", why);
+    }
+    drop_phrases(&list);
+    return agreed ? DONE : COULD_NOT;
 }

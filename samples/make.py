@@ -1,5 +1,5 @@
 #!/usr/bin/env python3
-"""Makes the sample font and pages from the texts beside it.
+"""Makes the sample font, the pages and the list of phrases from the texts beside it.
 
 With --check it writes nothing, names each file that is not what it would make, and ends with 1 if there is one."""
 import configparser
@@ -49,6 +49,10 @@ class Memory:
     def __init__(self, page):
         self.chars, self.attrs = bytearray(MEMORY), bytearray(MEMORY)
         self.first, self.last = page.getint("first"), page.getint("last")
+
+    def is_stretch(self, at, count):
+        """Whether so many cells from an address on follow one another in memory."""
+        return at + count - 1 <= (self.last if at <= self.last else MEMORY - 1)
 
     def take(self, at, byte):
         if self.chars[at]:
@@ -131,14 +135,16 @@ def phrases(page, memory, catalogue):
 
 def composed(page, memory, catalogue):
     """Composes a page from the catalogue. Gives the number of rows and the cursor's address."""
-    places = phrases(page, memory, catalogue)
+    places, language = phrases(page, memory, catalogue), page.get("language", page.name)
     if "remark" in page:
         name, at = page["remark for"], page.getint("remark at")
         memory.put(at, phrase(page["remark"], page.getint("columns")), look(catalogue[name]["look"]))
-        places[page.name, name] = at
-    starts = [places[page.name, name] for name in page["rows"].split()]
+        places[language, name] = at
+    starts = [places[language, name] for name in page["rows"].split()]
+    if "late row" in page:
+        starts[page.getint("late row")] += page.getint("late by")
     memory.table(page.getint("start 2"), starts)
-    return len(starts), places.get((page.name, page.get("cursor")), 0)
+    return len(starts), places.get((language, page.get("cursor")), 0)
 
 
 def page_file(page, catalogue):
@@ -149,6 +155,29 @@ def page_file(page, catalogue):
         rows, cursor = composed(page, memory, catalogue)
     body = numbers(page, rows, cursor) + memory.chars + memory.attrs
     return bytes([page.getint("version")]) + len(body).to_bytes(4, "big") + body
+
+
+def phrase_list(page, catalogue):
+    """The phrases of a page that holds the catalogue, as a text: a record for each but for those whose cells do not follow one
+    another, which no record can hold."""
+    memory, columns = Memory(page), page.getint("columns")
+    places = phrases(page, memory, catalogue)
+    lines = ["# The phrases of catalogue.ini where the catalogue's pages hold them: language, number, first cell, length in cells."]
+    for number, name in enumerate(catalogue.sections(), 1):
+        lines.append(f"\n# {number}: {name}")
+        for language in LANGUAGES:
+            at = places[language, name]
+            record = f"{language} {number} {at} {columns}"
+            lines.append(record if memory.is_stretch(at, columns) else f"# left out, its cells do not follow one another: {record}")
+    return "\n".join(lines).encode("ascii") + b"\n"
+
+
+def catalogue_list(pages, catalogue):
+    """One list for all pages of the catalogue, which hold it in the same cells."""
+    lists = {phrase_list(pages[name], catalogue) for name in pages.sections() if "sheet" not in pages[name]}
+    if len(lists) != 1:
+        sys.exit("make: the pages do not hold the catalogue in the same cells")
+    return lists.pop()
 
 
 def font_file(deck):
@@ -169,11 +198,12 @@ def main(arguments):
     catalogue, pages = ini("catalogue.ini"), ini("pages.ini")
     made = {f"{name}.page": page_file(pages[name], catalogue) for name in pages.sections()}
     made["deck.font"] = font_file(text("deck.txt"))
+    made["catalogue.phrases"] = catalogue_list(pages, catalogue)
     if not arguments:
         for name, content in made.items():
             (HERE / name).write_bytes(content)
         return 0
-    found = {path.name: path.read_bytes() for ending in ("page", "font") for path in HERE.glob(f"*.{ending}")}
+    found = {path.name: path.read_bytes() for ending in ("page", "font", "phrases") for path in HERE.glob(f"*.{ending}")}
     wrong = sorted(name for name in made.keys() | found.keys() if made.get(name) != found.get(name))
     for name in wrong:
         print(f"make: {name} is not what make.py makes")

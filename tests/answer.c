@@ -42,10 +42,12 @@ static uint32_t generator_next(uint32_t x)
 
 /* ---- lent buffers ---- */
 
-enum { NUMBERS, CHARS, ATTRS, WORDS, FLAGS, UNSHIFTED, SHIFTED, FILE_BYTES, OUT, CELLS, BUFFERS, BOARD = BUFFERS, ALL };
+enum {
+    NUMBERS, CHARS, ATTRS, WORDS, FLAGS, UNSHIFTED, SHIFTED, FILE_BYTES, OUT, CELLS, PHRASES, BUFFERS, BOARD = BUFFERS, ALL
+};
 
 static const char *const names[ALL] = {
-    "numbers", "chars", "attrs", "words", "flags", "unshifted", "shifted", "file", "out", "cells", "board"
+    "numbers", "chars", "attrs", "words", "flags", "unshifted", "shifted", "file", "out", "cells", "phrases", "board"
 };
 
 static struct lent {
@@ -59,21 +61,27 @@ static struct lent {
 
 static enum { GUARDED, EXACT, EDGE } mode;
 
-/* The elements are uint16_t, not bytes. */
-static bool is_wide(int which)
+/* The bytes of each number of an element. */
+static size_t number_size(int which)
 {
-    return which == WORDS || which == CELLS;
+    return which == PHRASES ? sizeof(uint32_t) : which == WORDS || which == CELLS ? sizeof(uint16_t) : 1;
 }
 
-/* Odd where the elements are bytes: the header asks for alignment of words and cells alone. */
-static size_t guard_size(int which)
+/* An element is one number, but a phrase is four: language, number, first, length. */
+static size_t numbers_in_element(int which)
 {
-    return which == BOARD ? 64 : is_wide(which) ? 62 : 61;
+    return which == PHRASES ? sizeof(feldrime_phrase) / sizeof(uint32_t) : 1;
 }
 
 static size_t element_size(int which)
 {
-    return is_wide(which) ? sizeof(uint16_t) : 1;
+    return number_size(which) * numbers_in_element(which);
+}
+
+/* Aligned as the numbers have to be, and no better: odd where they are bytes. */
+static size_t guard_size(int which)
+{
+    return which == BOARD ? 64 : 60 + number_size(which) % sizeof(uint32_t);
 }
 
 static uint8_t guard_byte(size_t place)
@@ -147,26 +155,45 @@ static bool guards_stand(int which)
     return true;
 }
 
-static uint32_t element(int which, size_t place)
+/* One of the numbers of all elements, end to end. */
+static uint32_t number_at(int which, size_t place)
 {
     const uint8_t *start = lent[which].start;
 
-    return is_wide(which) ? ((const uint16_t *)(const void *)start)[place] : start[place];
+    switch (number_size(which)) {
+    case sizeof(uint32_t):
+        return ((const uint32_t *)(const void *)start)[place];
+    case sizeof(uint16_t):
+        return ((const uint16_t *)(const void *)start)[place];
+    default:
+        return start[place];
+    }
 }
 
-static void set_element(int which, size_t place, uint32_t value)
+static void set_number(int which, size_t place, uint32_t value)
 {
     uint8_t *start = lent[which].start;
 
-    if (is_wide(which))
+    switch (number_size(which)) {
+    case sizeof(uint32_t):
+        ((uint32_t *)(void *)start)[place] = value;
+        break;
+    case sizeof(uint16_t):
         ((uint16_t *)(void *)start)[place] = (uint16_t)value;
-    else
+        break;
+    default:
         start[place] = (uint8_t)value;
+    }
 }
 
 static size_t count_of(int which)
 {
     return lent[which].bytes / element_size(which);
+}
+
+static size_t all_numbers(int which)
+{
+    return lent[which].bytes / number_size(which);
 }
 
 static uint64_t sum_of(int which)
@@ -181,20 +208,20 @@ static uint64_t sum_of(int which)
         fail("no memory");
     memcpy(one->copy, one->start, one->bytes);
     one->sum = sum_start;
-    for (size_t i = 0; i < count_of(which); i++)
-        one->sum = add(one->sum, element(which, i));
+    for (size_t i = 0; i < all_numbers(which); i++)
+        one->sum = add(one->sum, number_at(which, i));
     return one->sum;
 }
 
 static void fill(int which, size_t count, uint32_t seed)
 {
-    unsigned shift = is_wide(which) ? 16 : 24;
+    size_t shift = 32 - 8 * number_size(which);
     uint32_t x = seed;
 
     allocate(which, count * element_size(which));
-    for (size_t i = 0; i < count; i++) {
+    for (size_t i = 0; i < all_numbers(which); i++) {
         x = generator_next(x);
-        set_element(which, i, x >> shift);
+        set_number(which, i, x >> shift);
     }
 }
 
@@ -244,23 +271,26 @@ static uint32_t hex_digits(const char *text, size_t digits)
 static void do_set(char **word)
 {
     int which = buffer(word[1]);
-    size_t place = number(word[2]), digits = 2 * element_size(which), count = strlen(word[3]) / digits;
+    size_t digits = 2 * number_size(which), place = number(word[2]) * numbers_in_element(which);
+    size_t count = strlen(word[3]) / digits;
 
-    if (strlen(word[3]) % digits != 0 || place + count > count_of(which))
+    if (strlen(word[3]) % (2 * element_size(which)) != 0 || place + count > all_numbers(which))
         fail("set reaches past the buffer");
     forget(which);
     for (size_t i = 0; i < count; i++)
-        set_element(which, place + i, hex_digits(word[3] + digits * i, digits));
+        set_number(which, place + i, hex_digits(word[3] + digits * i, digits));
 }
 
 static void do_mask(char **word)
 {
     int which = buffer(word[1]);
-    uint32_t bits = hex_digits(word[2], strlen(word[2]));
+    size_t digits = 2 * number_size(which), each = numbers_in_element(which);
 
+    if (strlen(word[2]) != 2 * element_size(which))
+        fail("a mask is one element");
     forget(which);
-    for (size_t i = 0; i < count_of(which); i++)
-        set_element(which, i, element(which, i) & bits);
+    for (size_t i = 0; i < all_numbers(which); i++)
+        set_number(which, i, number_at(which, i) & hex_digits(word[2] + digits * (i % each), digits));
 }
 
 static void do_take(char **word)
@@ -268,7 +298,7 @@ static void do_take(char **word)
     int which = buffer(word[1]), from = buffer(word[2]);
     size_t count = number(word[3]);
 
-    if (which == from || is_wide(which) || is_wide(from) || count > lent[from].bytes)
+    if (which == from || element_size(which) != 1 || element_size(from) != 1 || count > lent[from].bytes)
         fail("nothing to take");
     allocate(which, count);
     memcpy(lent[which].start, lent[from].start, count);
@@ -419,6 +449,8 @@ static const int of_nothing[] = { ALL };
 static const int of_numbers[] = { NUMBERS, ALL };
 static const int of_run[] = { NUMBERS, CHARS, ALL }; /* and of the moves */
 static const int of_cells[] = { NUMBERS, CHARS, CELLS, ALL };
+static const int of_row_phrase[] = { NUMBERS, CHARS, PHRASES, ALL };
+static const int of_phrases[] = { PHRASES, ALL };
 static const int of_memories[] = { CHARS, ATTRS, ALL };
 static const int of_step[] = { CHARS, ATTRS, WORDS, FLAGS, UNSHIFTED, SHIFTED, ALL };
 static const int of_drawing[] = { NUMBERS, CHARS, ATTRS, WORDS, FLAGS, UNSHIFTED, SHIFTED, OUT, ALL };
@@ -447,6 +479,7 @@ static void report(const char *call, struct handed handed, uint32_t count, uint3
 /* ---- the calls ---- */
 
 #define BYTES(which) lent[which].start, lent[which].bytes
+#define LIST (const feldrime_phrase *)(const void *)lent[PHRASES].start, count_of(PHRASES)
 #define FONT (uint16_t *)(void *)lent[WORDS].start, count_of(WORDS), BYTES(FLAGS), BYTES(UNSHIFTED), BYTES(SHIFTED)
 
 static void report_answer(const char *call, struct handed handed, feldrime_answer answer, const int *which)
@@ -536,6 +569,48 @@ static void call_row_cells(char **word)
 
     RESULTS(" count %" PRIu32, answer.count);
     report("row_cells", by_numbers(), 1, answer.refusal, answer.beside, of_cells);
+}
+
+/* Some of these cells does not follow the one before it. */
+static bool cells_wrap(const uint16_t *cells, uint32_t count)
+{
+    bool wraps = false;
+
+    for (uint32_t i = 1; i < count && i < FELDRIME_CELLS; i++)
+        wraps = wraps || cells[i] != cells[i - 1] + 1;
+    return wraps;
+}
+
+/* Of which KIND the cells are that a row fetches. */
+static const char *kind_of_row(uint32_t row)
+{
+    static const char *const kinds[2][2] = { { "plain", "wraps" }, { "wide", "wide+wraps" } };
+    uint16_t cells[FELDRIME_CELLS];
+    feldrime_cells answer = feldrime_row_cells(BYTES(NUMBERS), BYTES(CHARS), row, cells, FELDRIME_CELLS);
+    bool wide;
+
+    if (answer.refusal != 0)
+        return "-";
+    wide = answer.count < lent[NUMBERS].start[6] + 1u;
+    return kinds[wide][cells_wrap(cells, answer.count)];
+}
+
+static void call_phrase_of_row(char **word)
+{
+    uint32_t row = number(word[2]);
+    feldrime_phrase_answer answer = feldrime_phrase_of_row(BYTES(NUMBERS), BYTES(CHARS), LIST, row);
+
+    RESULTS(" found %" PRIu32 " position %zu row %s", answer.found, answer.position, kind_of_row(row));
+    report("phrase_of_row", by_numbers(), 1, answer.refusal, answer.beside, of_row_phrase);
+}
+
+static void call_phrases_differ(char **word)
+{
+    feldrime_differ_answer answer = feldrime_phrases_differ(LIST);
+
+    (void)word;
+    RESULTS(" found %" PRIu32 " earlier %zu later %zu", answer.found, answer.earlier, answer.later);
+    report("phrases_differ", no_page, 1, answer.refusal, answer.beside, of_phrases);
 }
 
 /* Which page was handed over is asked first: the call changes the numbers. */
@@ -826,18 +901,13 @@ static bool row_was_fetched(uint32_t row, uint32_t lines, uint32_t count)
 
     for (uint32_t line = row * lines; same && line < (row + 1) * lines; line++)
         for (uint32_t column = 0; same && column < frame.columns; column++)
-            same = element(CELLS, column / each) == frame.addresses[(size_t)line * frame.columns + column];
+            same = number_at(CELLS, column / each) == frame.addresses[(size_t)line * frame.columns + column];
     return same;
 }
 
-/* A row's cells, some of which may not follow one another. */
 static void count_row(uint32_t row, uint32_t count)
 {
-    bool wraps = false;
-
-    for (uint32_t i = 1; i < count && i < FELDRIME_CELLS; i++)
-        wraps = wraps || element(CELLS, i) != element(CELLS, i - 1) + 1;
-    frame.wrapped[frame.codes[row % MOST_ROWS]] += wraps;
+    frame.wrapped[frame.codes[row % MOST_ROWS]] += cells_wrap((const uint16_t *)(const void *)lent[CELLS].start, count);
 }
 
 static bool frame_by_rows(void)
@@ -850,7 +920,7 @@ static bool frame_by_rows(void)
     fill(CELLS, FELDRIME_CELLS, 1);
     while (done < rows && (answer = row_cells(done)).refusal == 0) {
         for (uint32_t i = 0; i < answer.count && i < FELDRIME_CELLS; i++)
-            sum = add(sum, element(CELLS, i));
+            sum = add(sum, number_at(CELLS, i));
         same = same && row_was_fetched(done, frame.size.lines / rows, answer.count);
         count_row(done, answer.count);
         done++;
@@ -1139,6 +1209,8 @@ static const struct {
     { "call picture_draw", 3, call_picture_draw },
     { "call row_run", 3, call_row_run },
     { "call row_cells", 3, call_row_cells },
+    { "call phrase_of_row", 3, call_phrase_of_row },
+    { "call phrases_differ", 2, call_phrases_differ },
     { "call to_table", 2, call_to_table },
     { "call to_sheet", 2, call_to_sheet },
     { "call power", 2, call_power },

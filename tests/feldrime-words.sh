@@ -10,7 +10,7 @@ ends 2 "feldrime WORD --help" "${feldrime[@]}"
 ends 2 "paint: is no word" "${feldrime[@]}" paint "$page"
 ends 2 "usage:" "${feldrime[@]}" draw "$page" "$font"
 ends 2 "usage:" "${feldrime[@]}" draw "$page" "$font" "$work/a.png" 0 0
-ends 2 "usage:" "${feldrime[@]}" rows "$page" "$page"
+ends 2 "usage:" "${feldrime[@]}" rows "$page" "$page" "$page"
 ends 2 "usage:" "${feldrime[@]}" site "$font" "$work/site"
 ends 2 "usage:" "${feldrime[@]}" check "$page" "$font" "$font"
 [ ! -e "$work/a.png" ] && [ ! -e "$work/site" ] || say "a wrong use made something"

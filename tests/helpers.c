@@ -1,7 +1,8 @@
 /* The header's short forms beside the calls that they stand for: helpers FONT PAGE..
    Each is asked with the same bytes and counts, good and bad, and both have to answer the same and to leave the same behind. The pages
-   have to be of both attribute modes, and sheets and others. Then three sentences of the header: in which fields a picture can change, what
-   a move leaves as it was, and that every refusal has words of its own. C99 and C++11. */
+   have to be of both attribute modes, and sheets and others. Then sentences of the header: in which fields a picture can change, what
+   a move leaves as it was, which record is a row's phrase and which two disagree, and that every refusal has words of its own. C99 and
+   C++11. */
 #include <stdio.h>
 #include <stdlib.h>
 #include <string.h>
@@ -172,6 +173,68 @@ static void cells_of_row(uint32_t row, size_t room)
 
     answers(&ours, &theirs, sizeof ours, theirs.refusal, "feldrime_cells_of answers otherwise");
     same(cells[0], cells[1], sizeof cells[0], "feldrime_cells_of: cells");
+}
+
+/* What both answer is expected, too. */
+static void phrase_in_row(const feldrime_phrase *list, size_t count, uint32_t row, uint32_t refusal, uint32_t found, size_t position)
+{
+    feldrime_phrase_answer ours = feldrime_phrase_in(&page, list, count, row);
+    feldrime_phrase_answer theirs = feldrime_phrase_of_row(numbers, FELDRIME_NUMBERS, chars, FELDRIME_MEMORY, list, count, row);
+
+    expect(ours.refusal == theirs.refusal && ours.beside == theirs.beside && ours.found == theirs.found
+               && ours.position == theirs.position, "feldrime_phrase_in answers otherwise");
+    expect(theirs.refusal == refusal && theirs.beside == 0 && theirs.found == found && theirs.position == position,
+           "feldrime_phrase_of_row does not answer as the header says");
+    refused += theirs.refusal != FELDRIME_DONE;
+}
+
+static void differ(const feldrime_phrase *list, size_t count, uint32_t refusal, uint32_t found, size_t earlier, size_t later)
+{
+    feldrime_differ_answer answer = feldrime_phrases_differ(list, count);
+
+    expect(answer.refusal == refusal && answer.beside == 0 && answer.found == found && answer.earlier == earlier
+               && answer.later == later, "feldrime_phrases_differ does not answer as the header says");
+}
+
+/* A row's lowest and highest cell. A row that runs past the last buffer address has others between them. */
+static void ends_of_row(uint32_t row, uint32_t ends[2])
+{
+    feldrime_cells answer = feldrime_cells_of(&page, row, cells[0], FELDRIME_CELLS);
+
+    ends[0] = FELDRIME_MEMORY;
+    ends[1] = 0;
+    for (uint32_t i = 0; i < answer.count; i++) {
+        ends[0] = cells[0][i] < ends[0] ? cells[0][i] : ends[0];
+        ends[1] = cells[0][i] > ends[1] ? cells[0][i] : ends[1];
+    }
+}
+
+/* The records one after the other: without a row's lowest cell, without its highest, from the one to the other, all of memory. */
+static void phrases_of_row(uint32_t row)
+{
+    uint32_t ends[2];
+
+    ends_of_row(row, ends);
+    uint32_t length = ends[1] - ends[0] + 1;
+    feldrime_phrase list[4] = { { 1, 7, ends[0] + 1, length - 1 }, { 1, 8, ends[0], length - 1 }, { 1, 7, ends[0], length },
+                                { 2, 7, 0, FELDRIME_MEMORY } };
+
+    phrase_in_row(NULL, 0, row, FELDRIME_DONE, 0, 0);
+    phrase_in_row(list, 2, row, FELDRIME_DONE, 0, 0);
+    phrase_in_row(list, 4, row, FELDRIME_DONE, 1, 2);
+    phrase_in_row(list + 3, 1, row, FELDRIME_DONE, 1, 0);
+    differ(list, 4, FELDRIME_DONE, 1, 0, 2);
+    differ(list + 1, 3, FELDRIME_DONE, 0, 0, 0);
+    /* then its first cell alone is not that of the record before it, and its length not that of the one behind it */
+    list[1].number = 7;
+    differ(list, 2, FELDRIME_DONE, 1, 0, 1);
+    differ(list + 1, 2, FELDRIME_DONE, 1, 0, 1);
+    list[3].length++;
+    phrase_in_row(list, 4, row, FELDRIME_REFUSED_RECORD, 0, 3);
+    list[1].length = 0;
+    phrase_in_row(list, 4, row, FELDRIME_REFUSED_RECORD, 0, 1);
+    differ(list, 4, FELDRIME_REFUSED_RECORD, 0, 1, 0);
+    phrase_in_row(list, 4, 128, FELDRIME_REFUSED_RANGE, 0, 0);
 }
 
 /* Clock by clock, and one that is refused. The numbers of the page that is lent play no part, so they are spoiled. */
@@ -363,6 +426,9 @@ static unsigned compare_page(size_t count)
     for (uint32_t row = 0; row <= 128; row++)
         cells_of_row(row, FELDRIME_CELLS);
     cells_of_row(0, FELDRIME_CELLS - 1);
+    for (uint32_t row = 0; row <= (numbers[5] & 127u); row++)
+        phrases_of_row(row);
+    differ(NULL, 0, FELDRIME_DONE, 0, 0, 0);
     tick();
 
     if (numbers[3] < 128) {
@@ -381,14 +447,14 @@ static unsigned compare_page(size_t count)
 /* 5 was split, and 11 never was one. */
 static int no_refusal(uint32_t number)
 {
-    return number == 5 || number == 11 || number > FELDRIME_REFUSED_CODED;
+    return number == 5 || number == 11 || number > FELDRIME_REFUSED_RECORD;
 }
 
 /* No two refusals have the same words, and the numbers that are none have words in common. */
 static void meanings(void)
 {
-    for (uint32_t i = 0; i <= FELDRIME_REFUSED_CODED; i++)
-        for (uint32_t j = i + 1; j <= FELDRIME_REFUSED_CODED + 1; j++)
+    for (uint32_t i = 0; i <= FELDRIME_REFUSED_RECORD; i++)
+        for (uint32_t j = i + 1; j <= FELDRIME_REFUSED_RECORD + 1; j++)
             expect((strcmp(feldrime_meaning(i), feldrime_meaning(j)) == 0) == (no_refusal(i) && no_refusal(j)),
                    "words of a refusal");
 }

@@ -10,6 +10,7 @@ import re
 SAMPLES = pathlib.Path(__file__).resolve().parent.parent / "samples"
 MEMORY = 16384
 SIZES = ["", "wide", "top", "bottom"]  # by a row's code
+LANGUAGES = ["en", "de", "fr", "it", "sl"]  # in the catalogue's order
 LABELS = {"en": "struck out", "de": "gestrichen", "fr": "barré", "it": "barrato", "sl": "prečrtano"}
 
 
@@ -70,12 +71,22 @@ def text_of(lines, opening, closing):
     return text
 
 
-def catalogue_text(language):
-    page, phrases = ini("pages.ini")[language], ini("catalogue.ini")
+def language(name):
+    """A sample's language; None where it has none."""
+    own = ini("pages.ini")[name].get("language", name)
+    return own if own in LANGUAGES else None
+
+
+def catalogue_text(name):
+    """A row is its phrase, or, where it begins late, the rest of it and what stands behind it."""
+    page, phrases = ini("pages.ini")[name], ini("catalogue.ini")
+    order, columns = [(phrase, each) for phrase in phrases.sections() for each in LANGUAGES], page.getint("columns")
+    cells = "".join(f" {phrases[phrase][each]}".ljust(columns) for phrase, each in order)
     lines = []
-    for name in page["rows"].split():
-        own = "remark" in page and page["remark for"] == name
-        lines.append((" " + (page["remark"] if own else phrases[name][language])).rstrip())
+    for row, phrase in enumerate(page["rows"].split()):
+        at = columns * order.index((phrase, language(name))) + (page.getint("late by") if page.get("late row") == str(row) else 0)
+        own = "remark" in page and page["remark for"] == phrase
+        lines.append((f" {page['remark']}" if own else cells[at:at + columns]).rstrip())
     return "\n".join(lines) + "\n"
 
 

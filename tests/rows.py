@@ -14,17 +14,22 @@ import tempfile
 import pages
 
 
-def printed(command, name):
-    done = subprocess.run([*command, "rows", name], capture_output=True, encoding="ascii", check=True)
-    head, *lines = done.stdout.splitlines()
-    sized = pathlib.Path(name).read_bytes()[5] >> 7
-    if head.split() != ["row", "from", *["size"] * sized, "cells", "text"]:
+def fields(output, sized, listed):
+    """What `rows` prints, taken apart, and beside each row its phrase, which is told where a list is handed over."""
+    head, *lines = output.splitlines()
+    if head.split() != ["row", "from", *["size"] * sized, "cells", *["phrase"] * listed, "text"]:
         sys.exit(f"rows: the head is {head}")
     for line in lines:
         place, text = line.split("|", 1)
-        cells = head.index("cells")
-        size = head.index("size") if sized else cells
-        yield int(place[:5]), place[5:size].strip(), place[size:cells].strip(), place[cells:].strip(), text
+        at = head.index("cells")
+        size = head.index("size") if sized else at
+        cells, *phrase = place[at:].split(None, 1)
+        yield (int(place[:5]), place[5:size].strip(), place[size:at].strip(), cells, text), "".join(phrase).strip()
+
+
+def printed(command, name):
+    done = subprocess.run([*command, "rows", name], capture_output=True, encoding="ascii", check=True)
+    return [row for row, phrase in fields(done.stdout, pathlib.Path(name).read_bytes()[5] >> 7, False) if not phrase]
 
 
 def dice_page(dice):
@@ -88,7 +93,7 @@ def wrong_readings(command, count=40):
 def main(command):
     wrong = wrong_readings(command)
     for path in sorted(pages.SAMPLES.glob("*.page")):
-        got, wanted = list(printed(command, path)), pages.rows_listing(path.read_bytes())
+        got, wanted = printed(command, path), pages.rows_listing(path.read_bytes())
         if got != wanted or [row[4] for row in got] != pages.typed_rows(path.stem):
             print(f"rows: {path.name} differs")
             wrong += 1
@@ -100,7 +105,7 @@ def main(command):
             file.seek(0)
             file.write(page)
             file.flush()
-            got = list(printed(command, file.name))
+            got = printed(command, file.name)
             marked += any("*" in row[3] for row in got)
             coded += page[5] >> 7
             if got != pages.rows_listing(page):

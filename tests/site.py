@@ -11,7 +11,6 @@ import pages
 
 VOID = {"meta", "img", "input"}
 FONT = pages.SAMPLES / "deck.font"
-LANGUAGES = {"de", "en", "fr", "it", "sl"}
 wrong = []
 
 
@@ -104,9 +103,9 @@ def pictures(folder, name, style, command):
 def web_page(folder, name, command):
     reader = Reader(folder / f"{name}.html")
     local(folder, reader)
-    language = name if name in LANGUAGES else "en"
+    language = pages.language(name) or "en"
     same(f"{name}: language", reader.all("html")[0], {"lang": language})
-    same(f"{name}: language of an unknown text", reader.all("div")[0].get("lang"), None if name in LANGUAGES else "")
+    same(f"{name}: language of an unknown text", reader.all("div")[0].get("lang"), None if pages.language(name) else "")
     first, *others = reader.all("img")
     same(f"{name}: the picture's text", first["alt"], pages.sample_text(name, f"[{pages.LABELS[language]}: ", "]"))
     same(f"{name}: alternatives of the same picture", {a["alt"] for a in others} - {""}, set())
@@ -126,7 +125,7 @@ def main(folder, *command):
     index = Reader(folder / "index.html")
     local(folder, index)
     same("index", [a["href"] for a in index.all("a")], [f"{name}.html" for name in names])
-    same("languages", [a["lang"] for a in index.all("a")], [name if name in LANGUAGES else "" for name in names])
+    same("languages", [a["lang"] for a in index.all("a")], [pages.language(name) or "" for name in names])
     made = {"index.html"} | {path.name for name in names for path in folder.glob(f"{name}.*")}
     same("files", {path.name for path in folder.iterdir()}, made)
     for what in wrong[:10]:

@@ -26,6 +26,9 @@ use Rattle.feldrime.specs.LineDraw.{lineDrawCheck, lineDrawn}
 use Rattle.feldrime.specs.PictureDraw.{pictureDrawCheck, pictureDrawn}
 use Rattle.feldrime.specs.RowCells.{cellsFor, cellsPutFor}
 use Rattle.feldrime.specs.Catalogue.{toTableCheck, toTableNumbers, toTableChars, toSheetCheck, toSheetNumbers}
+use Rattle.records.specs.declared.Phrase.{Phrase}
+use Rattle.records.specs.Records.{phrasesDiffer}
+use Rattle.feldrime.specs.Phrases.{phraseFor}
 use Rattle.feldrime.specs.Step.{stepNumbers}
 
 pub page-check-for-c-one : (numbers : List ℕ) → OneAnswer (λ r. r ≡ answerOf (numbersCheck numbers))
@@ -83,6 +86,12 @@ to-table-for-c-one numbers chars = only-three (answerOf (toTableCheck numbers ch
 pub to-sheet-for-c-one : (numbers chars : List ℕ)
     → OneAnswer (λ (r : Answer × List ℕ). (r .0 ≡ answerOf (toSheetCheck numbers chars)) × (r .1 ≡ toSheetNumbers numbers chars))
 to-sheet-for-c-one numbers chars = only-both (answerOf (toSheetCheck numbers chars)) (toSheetNumbers numbers chars)
+
+pub phrase-of-row-for-c-one : (numbers chars : List ℕ) (phrases : List Phrase) (row : ℕ) → OneAnswer (λ r. r ≡ phraseFor numbers chars phrases row)
+phrase-of-row-for-c-one numbers chars phrases row = only (phraseFor numbers chars phrases row)
+
+pub phrases-differ-for-c-one : (phrases : List Phrase) → OneAnswer (λ r. r ≡ phrasesDiffer phrases)
+phrases-differ-for-c-one phrases = only (phrasesDiffer phrases)
 
 pub board-of-one : (numbers : List ℕ) → OneAnswer (λ r. r ≡ boardFor numbers)
 board-of-one numbers = only (boardFor numbers)

@@ -1,4 +1,4 @@
--- No second answer meets the contract of a public function of `fetch`, `catalogue`, `shape`, `video`, `dots`, `tables`, `line`, `picture`, `place` or `step`: it names its answer,
+-- No second answer meets the contract of a public function of `fetch`, `catalogue`, `records`, `phrases`, `shape`, `video`, `dots`, `tables`, `line`, `picture`, `place` or `step`: it names its answer,
 -- so each of these is `only`.
 use Prim.Native.Nat.{ℕ, _+_, _*_}
 use mathlib.Core.Path.{_≡_}
@@ -28,6 +28,14 @@ use Rattle.fetch.specs.Rows.{entryOf, codeAt, rowStart, cellAt, fetchedOf, begu
 use Rattle.catalogue.specs.declared.Moved.{Moved}
 use Rattle.catalogue.specs.There.{thereOf, thereLeft}
 use Rattle.catalogue.specs.Back.{backOf}
+use Rattle.records.specs.declared.Phrase.{Phrase}
+use Rattle.records.specs.declared.PhraseAnswer.{PhraseAnswer}
+use Rattle.records.specs.declared.PairAnswer.{PairAnswer}
+use Rattle.records.specs.declared.Asked.{Asked}
+use Rattle.records.specs.declared.Mate.{Mate}
+use Rattle.records.specs.Records.{phraseOfRow, phrasesDiffer}
+use Rattle.records.specs.Ends.{askedOf}
+use Rattle.records.specs.Folds.{startOf, visitOf, searchOf, mateStart, mateVisit, pairStart, pairVisit}
 use Rattle.latch.specs.Held.{heldAt}
 use Rattle.shape.specs.Font.{Font, fontRefused, positionOf, wordBy, wordOf}
 use Rattle.video.specs.declared.Scene.{Scene}
@@ -98,6 +106,40 @@ to-table-one b chars = only-both (thereOf b chars) (thereLeft b chars)
 
 pub to-sheet-one : (b : Board) (chars : List ℕ) → OneAnswer (λ r. r ≡ backOf b chars)
 to-sheet-one b chars = only (backOf b chars)
+
+-- ---- `records`
+
+pub row-asked-one : (b : Board) (chars : List ℕ) (row : ℕ) → OneAnswer (λ r. r ≡ askedOf b chars row)
+row-asked-one b chars row = only (askedOf b chars row)
+
+pub start-one : (a : Asked) → OneAnswer (λ r. r ≡ startOf a)
+start-one a = only (startOf a)
+
+pub visit-one : (s : PhraseAnswer) (p : Phrase) (i : ℕ) (a : Asked) → OneAnswer (λ r. r ≡ visitOf s p i a)
+visit-one s p i a = only (visitOf s p i a)
+
+pub start-mate-one : (o : Phrase) (after : ℕ) → OneAnswer (λ r. r ≡ mateStart o after)
+start-mate-one o after = only (mateStart o after)
+
+pub visit-mate-one : (s : Mate) (p : Phrase) (i : ℕ) (o : Phrase) (after : ℕ) → OneAnswer (λ r. r ≡ mateVisit s p i o after)
+visit-mate-one s p i o after = only (mateVisit s p i o after)
+
+pub start-pair-one : OneAnswer (λ r. r ≡ pairStart)
+start-pair-one = only pairStart
+
+pub visit-pair-one : (s : PairAnswer) (m : Mate) (i : ℕ) → OneAnswer (λ r. r ≡ pairVisit s m i)
+visit-pair-one s m i = only (pairVisit s m i)
+
+-- ---- `phrases`
+
+pub search-one : (phrases : List Phrase) (a : Asked) → OneAnswer (λ r. r ≡ searchOf phrases a)
+search-one phrases a = only (searchOf phrases a)
+
+pub phrase-of-row-one : (b : Board) (chars : List ℕ) (phrases : List Phrase) (row : ℕ) → OneAnswer (λ r. r ≡ phraseOfRow b chars phrases row)
+phrase-of-row-one b chars phrases row = only (phraseOfRow b chars phrases row)
+
+pub phrases-differ-one : (phrases : List Phrase) → OneAnswer (λ r. r ≡ phrasesDiffer phrases)
+phrases-differ-one phrases = only (phrasesDiffer phrases)
 
 -- ---- `latch`
 

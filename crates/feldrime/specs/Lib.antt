@@ -5,5 +5,6 @@ pub mod LineDraw
 pub mod PictureDraw
 pub mod RowCells
 pub mod Catalogue
+pub mod Phrases
 pub mod Laws
 pub mod Step

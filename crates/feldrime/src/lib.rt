@@ -13,6 +13,7 @@ ghost use Rattle.shape.specs.Font.{lentFont, leftFont, fontRefused};
 ghost use Rattle.place.specs.State.{stateOf};
 ghost use Rattle.files.specs.File.{readCheck, charsRead, attrsRead};
 ghost use Rattle.files.specs.FontFile.{fontCheck, fontRead};
+ghost use Rattle.records.specs.Records.{phrasesDiffer};
 ghost use Rattle.numbers.specs.Numbers.{numbersCheck, numbersOfCheck, numbersOf};
 ghost use Rattle.numbers.specs.Files.{pageReadSize, numbersRead, pageWriteCheck, pageWritten};
 ghost use Rattle.feldrime.specs.Answers.{answerOf, boardAnswer, byteAnswer};
@@ -21,6 +22,7 @@ ghost use Rattle.feldrime.specs.LineDraw.{lineDrawCheck, lineDrawn};
 ghost use Rattle.feldrime.specs.PictureDraw.{pictureDrawCheck, pictureDrawn};
 ghost use Rattle.feldrime.specs.RowCells.{cellsFor, cellsPutFor};
 ghost use Rattle.feldrime.specs.Catalogue.{toTableCheck, toTableNumbers, toTableChars, toSheetCheck, toSheetNumbers};
+ghost use Rattle.feldrime.specs.Phrases.{phraseFor, askedFor};
 ghost use Rattle.feldrime.specs.Step.{numbered, stepNumbers};
 
 // The refusal's number, and the number beside it.
@@ -297,6 +299,43 @@ pub extern "C" fn feldrime_to_sheet(numbers: &mut [u8], chars: &[u8]) -> Answer
     let board = moved.board;
     numbers::put_page(refused, board.page, numbers);
     answered(refused)
+}
+
+// What a row asks of each record.
+fn numbers_asked(numbers: &[u8], chars: &[u8], row: u32) -> records::Asked
+    ensures { λ r. ⌜ r ≡ askedFor (now (numbers .entry)) (now (chars .entry)) row ⌝ }
+{
+    if numbers::numbers_refused(numbers) {
+        return records::Asked {
+            refusal: 3,
+            beside: 0,
+            low: 0,
+            high: 0,
+        };
+    }
+    records::row_asked(files::board_at(numbers, 1), chars, row)
+}
+
+// The lowest record that holds the whole of what a row fetches.
+#[no_mangle]
+pub extern "C" fn feldrime_phrase_of_row(
+    numbers: &[u8],
+    chars: &[u8],
+    phrases: &[records::Phrase],
+    row: u32,
+) -> records::PhraseAnswer
+    ensures { λ r. ⌜ r ≡ phraseFor (now (numbers .entry)) (now (chars .entry)) (now (phrases .entry)) row ⌝ }
+{
+    let asked = numbers_asked(numbers, chars, row);
+    phrases::search(phrases, asked)
+}
+
+// The first two records with the same language and number that differ in first cell or length.
+#[no_mangle]
+pub extern "C" fn feldrime_phrases_differ(phrases: &[records::Phrase]) -> records::PairAnswer
+    ensures { λ r. ⌜ r ≡ phrasesDiffer (now (phrases .entry)) ⌝ }
+{
+    phrases::phrases_differ(phrases)
 }
 
 // An answer that carries a board.

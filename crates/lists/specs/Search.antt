@@ -1,12 +1,13 @@
 -- Whether some number below n passes a test, and the lowest that does. Assumes nothing.
---     any-some, any-none, none-of     some number passes, or none does
---     first-none, first-at            where none passes it is n; else the one that passes and has none before it
---     first-is, first-not             and the reverse
---     same-any, same-first            tests that agree
---     any-all                         n times k numbers, one after the other
+--     any-some, any-none, none-of        some number passes, or none does
+--     first-none, first-at               where none passes it is n; else the one that passes and has none before it
+--     first-is, first-not                and the reverse
+--     first-lt, first-kept, first-new    where some number passes it is below n and stays with one number more, which else it may be
+--     same-any, same-first               tests that agree
+--     any-all                            n times k numbers, one after the other
 use Prim.Native.Nat.{ℕ, zero, suc, _+_, _*_, _≤_, _<_}
 use mathlib.Core.Path.{_≡_, refl, sym, ap, ap₂, _∙_}
-use mathlib.Core.Bool.{Bool, true, false, _||_}
+use mathlib.Core.Bool.{Bool, true, false, _||_, true≢false}
 use mathlib.Core.Logic.{⊎-elim}
 use native.Mathlib.Nat.{eq-or-lt-of-le, le-of-suc-le-suc, zero-mul, suc-mul, add-zero}
 use native.Mathlib.Decide.{decLt}
@@ -107,6 +108,22 @@ module _ (t : ℕ → Bool) where
       go k (yes m) u q l before none h = rw (lt-ltb k n m) (before m)
       go k (no f) true q l before none h = rw (le-ltb k n (omega (arith, f))) (q, none (omega (arith, f, h)))
       go k (no f) false q l before none h = absurd (let z : suc n < suc n = rw (le-ltb k n (omega (arith, f))) at l in omega (arith, z))
+
+-- one number more
+module _ (t : ℕ → Bool) (n : ℕ) where
+  pub first-lt : anyBelow t n ≡ true → firstBelow t n < n
+  first-lt e = go (decLt (firstBelow t n) n)
+    where
+      go : Dec (firstBelow t n < n) → firstBelow t n < n
+      go (yes l) = l
+      go (no f) = absurd (true≢false (sym e ∙ any-none t n (first-not t n (omega (arith, f, first-le t n)))))
+
+  pub first-kept : anyBelow t n ≡ true → firstBelow t (suc n) ≡ firstBelow t n
+  unfolding firstBelow
+  first-kept e = rw (lt-ltb (firstBelow t n) n (first-lt e))
+
+  pub first-new : anyBelow t n ≡ false → t n ≡ true → firstBelow t (suc n) ≡ n
+  first-new e q = first-at t (suc n) n (omega arith) q (none-of t n e)
 
 -- tests that agree
 pub same-any : (t u : ℕ → Bool) (n : ℕ) → ((i : ℕ) → i < n → t i ≡ u i) → anyBelow t n ≡ anyBelow u n

@@ -10,6 +10,7 @@ use crate::machine::Shown;
 use crate::moved::{add_shown, Look, Movable};
 use crate::registers;
 use crate::script::{board_of_text, board_text, elements, hex, number, small, Buffers, Sum, Sums};
+use crate::sheet;
 
 /// "a frame at most 826,752 clocks"
 const LONGEST_FRAME: u32 = 826_752;
@@ -149,10 +150,9 @@ impl Counts {
         self.latched[usize::from(code)] += u32::from(before.clock != 0 && before.latch != after.latch);
     }
 
-    /// A row's cells, some of which may not follow one another.
     fn row(&mut self, row: u32, cells: &[u16]) {
         let code = usize::from(self.codes.get(row as usize).copied().unwrap_or(0));
-        self.wrapped[code] += u32::from(cells.windows(2).any(|pair| pair[1] != pair[0] + 1));
+        self.wrapped[code] += u32::from(sheet::wraps(cells));
     }
 
     fn text(&self) -> String {
@@ -216,6 +216,8 @@ impl<'a> Desk<'a> {
             ["picture_draw", field] => self.picture_draw(small(field)?).map(|_| ()),
             ["row_run", row] => self.row_run(number(row)?),
             ["row_cells", row] => self.row_cells(number(row)?),
+            ["phrase_of_row", row] => self.phrase_of_row(number(row)?),
+            ["phrases_differ"] => self.phrases_differ(),
             ["to_table"] => self.to_table().map(|_| ()),
             ["to_sheet"] => self.to_sheet().map(|_| ()),
             ["power"] => self.power(),
@@ -334,6 +336,33 @@ impl<'a> Desk<'a> {
         let (refusal, first, count) = calls::row_run(&self.buffers.numbers, &self.buffers.chars, row);
         let results = format!("first {} count {}", first, count);
         self.report("row_run", self.numbers_handed(), 1, refusal, &results, &["numbers", "chars"])
+    }
+
+    /// Of which KIND the cells are that a row fetches.
+    fn row_kind(&self, row: u32) -> &'static str {
+        let mut cells = [0; 256];
+        let (refusal, count) = calls::row_cells(&self.buffers.numbers, &self.buffers.chars, row, &mut cells);
+        let hact = page_of_numbers(&self.buffers.numbers).map_or(0, |page| page.hact());
+        match (refusal, count < hact, sheet::wraps(&cells[..count as usize])) {
+            (Refusal::NONE, false, false) => "plain",
+            (Refusal::NONE, false, true) => "wraps",
+            (Refusal::NONE, true, false) => "wide",
+            (Refusal::NONE, true, true) => "wide+wraps",
+            _ => "-",
+        }
+    }
+
+    fn phrase_of_row(&mut self, row: u32) -> Result<(), String> {
+        let b = &self.buffers;
+        let (refusal, found, position) = calls::phrase_of_row(&b.numbers, &b.chars, &b.phrases, row);
+        let results = format!("found {} position {} row {}", u32::from(found), position, self.row_kind(row));
+        self.report("phrase_of_row", self.numbers_handed(), 1, refusal, &results, &["numbers", "chars", "phrases"])
+    }
+
+    fn phrases_differ(&mut self) -> Result<(), String> {
+        let (refusal, found, earlier, later) = calls::phrases_differ(&self.buffers.phrases);
+        let results = format!("found {} earlier {} later {}", u32::from(found), earlier, later);
+        self.report("phrases_differ", Handed::NO_PAGE, 1, refusal, &results, &["phrases"])
     }
 
     fn to_table(&mut self) -> Result<Refusal, String> {

@@ -5,6 +5,7 @@ use crate::board::{Board, Font, Lent, Page};
 use crate::files::{self, page_of_numbers};
 use crate::judge::{self, fault, Fault, Refusal};
 use crate::machine::{self, Shown};
+use crate::records::{self, Phrase};
 use crate::{sheet, tables};
 
 pub fn page_check(numbers: &[u8]) -> Refusal {
@@ -117,15 +118,20 @@ pub fn picture_draw(numbers: &[u8], lent: &Lent, field: u8, out: &mut [u8]) -> R
     refusal
 }
 
+/// What a call judges that is asked for a row.
+fn row_faults(page: &Page, chars: &[u8], row: u32) -> Vec<Fault> {
+    let mut faults = judge::page(page);
+    faults.extend([judge::memory(chars), fault(7, row >= page.rows())]);
+    faults
+}
+
 /// The refusal, where the run begins, how many cells it has. "A refusal shows an empty part"
 pub fn row_run(numbers: &[u8], chars: &[u8], row: u32) -> (Refusal, u32, u32) {
     let page = match page_of_numbers(numbers) {
         Some(page) => page,
         None => return (Refusal::plain(3), 0, 0),
     };
-    let mut faults = judge::page(&page);
-    faults.extend([judge::memory(chars), fault(7, row >= page.rows())]);
-    match judge::first(&faults) {
+    match judge::first(&row_faults(&page, chars, row)) {
         Refusal::NONE => {
             let (first, count) = sheet::run(&page, chars, row);
             (Refusal::NONE, u32::from(first), count)
@@ -143,8 +149,8 @@ pub fn row_cells(numbers: &[u8], chars: &[u8], row: u32, cells: &mut [u16]) -> (
         Some(page) => page,
         None => return (Refusal::plain(3), 0),
     };
-    let mut faults = judge::page(&page);
-    faults.extend([judge::memory(chars), fault(3, cells.len() < MOST_CELLS), fault(7, row >= page.rows())]);
+    let mut faults = row_faults(&page, chars, row);
+    faults.push(fault(3, cells.len() < MOST_CELLS));
     let refusal = judge::first(&faults);
     if refusal.refused() {
         return (refusal, 0);
@@ -152,6 +158,38 @@ pub fn row_cells(numbers: &[u8], chars: &[u8], row: u32, cells: &mut [u16]) -> (
     let found = sheet::row_cells(&page, chars, row);
     cells[..found.len()].copy_from_slice(&found);
     (Refusal::NONE, found.len() as u32)
+}
+
+/// The refusal, whether a record holds the row, and its position. "20 for a record of length 0 or passing 16383, with the first
+/// such position"; else a refusal and a row that no record holds give position 0.
+pub fn phrase_of_row(numbers: &[u8], chars: &[u8], phrases: &[Phrase], row: u32) -> (Refusal, bool, usize) {
+    let page = match page_of_numbers(numbers) {
+        Some(page) => page,
+        None => return (Refusal::plain(3), false, 0),
+    };
+    let bad = records::first_bad(phrases);
+    let mut faults = row_faults(&page, chars, row);
+    faults.push(fault(20, bad.is_some()));
+    match judge::first(&faults) {
+        Refusal::NONE => {
+            let holder = records::holder(phrases, &sheet::row_cells(&page, chars, row));
+            (Refusal::NONE, holder.is_some(), holder.unwrap_or(0))
+        }
+        refusal if refusal.number == 20 => (refusal, false, bad.unwrap_or(0)),
+        refusal => (refusal, false, 0),
+    }
+}
+
+/// The refusal, whether two records differ, and their positions; with 20 the position of the first record refused is the
+/// earlier one.
+pub fn phrases_differ(phrases: &[Phrase]) -> (Refusal, bool, usize, usize) {
+    if let Some(bad) = records::first_bad(phrases) {
+        return (Refusal::plain(20), false, bad, 0);
+    }
+    match records::first_pair(phrases) {
+        Some((earlier, later)) => (Refusal::NONE, true, earlier, later),
+        None => (Refusal::NONE, false, 0, 0),
+    }
 }
 
 /// The page that is to be moved, or "the page's own" refusal.

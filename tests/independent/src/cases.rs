@@ -1,11 +1,12 @@
 //! 01 "Numbers on both sides": cases A1 to A10, A2 as R-2 has it, and the listing, in both ways of this program; pages
-//! for, drawn by hand; and row tables for R-5, worked out by hand.
+//! for, drawn by hand; row tables for R-5 and phrases for R-6, worked out by hand.
 
 use crate::board::{Board, Font, Lent, Page};
 use crate::dice::in_buffer;
 use crate::files::{self, numbers_of, page_of_numbers};
 use crate::judge::Refusal;
 use crate::listing::listing;
+use crate::records::Phrase;
 use crate::{calls, machine, sheet};
 
 /// "HSYNC 8, HBP 7"; 24 rows of 10, VFP 4, VSYNC 3, VBP 20 as in A5.
@@ -118,6 +119,9 @@ pub fn all() -> Vec<(&'static str, bool)> {
     cases.extend(code_cases());
     cases.extend(there_cases());
     cases.extend(back_cases());
+    cases.extend(phrase_cases());
+    cases.extend(record_cases());
+    cases.extend(pair_cases());
     cases
 }
 
@@ -443,6 +447,82 @@ fn back_cases() -> Vec<(&'static str, bool)> {
         ("R-5 an entry apart", [502, 504, 0x2000 | 503].map(|row_1| back(500, row_1, 0)) == [(18, 0); 3]),
         ("R-5 codes", back(500, 503, 0x80) == (19, 0) && back(500, 504, 0x80) == (19, 0)),
         ("R-5 back already", already),
+    ]
+}
+
+/// The refusal for a row, or 0 with the position of the record that holds it: records of these first cells and lengths.
+fn phrase((page, chars): (&Page, &[u8]), row: u32, records: &[(u32, u32)]) -> (u32, Option<usize>, usize) {
+    let of = |&(first, length): &(u32, u32)| Phrase { language: 1, number: 1, first, length };
+    let list: Vec<Phrase> = records.iter().map(of).collect();
+    let (refusal, found, position) = calls::phrase_of_row(&numbers_of(page), chars, &list, row);
+    match (refusal.number, found) {
+        (0, true) => (0, Some(position), 0),
+        (number, _) => (number, None, position),
+    }
+}
+
+const NO_PHRASE: (u32, Option<usize>, usize) = (0, None, 0);
+
+fn phrase_cases() -> Vec<(&'static str, bool)> {
+    let in_buffer = |first, last, start1, row: u32, records: &[(u32, u32)]| {
+        phrase((&page_in_buffer(first, last, start1), &[0; 16384]), row, records)
+    };
+    let a7 = |records: &[(u32, u32)]| in_buffer(2048, 3071, 0, 0, records);
+    let a8 = |start1: u16, records: &[(u32, u32)]| in_buffer(4095, 1023, start1, 0, records);
+    let wide = |row: u32, hact: u32, records: &[(u32, u32)]| {
+        let (page, cells) = four_rows(1, 0, hact, 8);
+        phrase((&page, &cells.chars), row, records)
+    };
+    let found = |position: usize| (0, Some(position), 0);
+    // row 0 fetches 1000 to 1023 and 0 to 55
+    let a6 = [(1000, 24), (0, 56), (55, 946), (0, 1023), (1, 1023), (0, 1024)];
+    vec![
+        ("R-6 A7", a7(&[(0, 79), (1, 80), (0, 80)]) == found(2)),
+        ("R-6 the lowest of several", a7(&[(80, 5), (0, 100), (0, 80), (0, 16384)]) == found(1)),
+        ("R-6 none", a7(&[]) == NO_PHRASE && a7(&[(0, 79), (1, 79), (0, 40), (40, 40)]) == NO_PHRASE),
+        ("R-6 A6", in_buffer(0, 1023, 1000, 0, &a6) == found(5)),
+        ("R-6 A6 row 1", in_buffer(0, 1023, 1000, 1, &[(56, 79), (57, 80), (56, 80)]) == found(2)),
+        ("R-6 A8 at 1023", a8(1023, &[(1023, 3150), (1024, 3150), (1023, 3151)]) == found(2)),
+        ("R-6 A8 at 16383", a8(16383, &[(16383, 1), (0, 79), (0, 16383), (1, 16383), (0, 16384)]) == found(4)),
+        (
+            "R-6 double width",
+            [0, 1, 2, 3].map(|row| wide(row, 4, &[(0, 2)])) == [NO_PHRASE, found(0), found(0), found(0)],
+        ),
+        ("R-6 half a cell", wide(1, 5, &[(0, 2), (1, 3), (0, 3)]) == found(2)),
+    ]
+}
+
+fn record_cases() -> Vec<(&'static str, bool)> {
+    let ask = |row: u32, records: &[(u32, u32)]| phrase((&page_in_buffer(2048, 3071, 0), &[0; 16384]), row, records);
+    let refused = |record: (u32, u32)| ask(0, &[(0, 80), record, (0, 0)]) == (20, None, 1);
+    let taken = |record: (u32, u32)| ask(0, &[record, (0, 80)]) == (0, Some(1), 0);
+    vec![
+        ("R-6 length 0", refused((5, 0)) && refused((0, 0)) && refused((u32::MAX, 0))),
+        ("R-6 passing 16383", refused((0, 16385)) && refused((16383, 2)) && refused((16384, 1))),
+        ("R-6 no wrapping", refused((u32::MAX, 2)) && refused((2, u32::MAX)) && refused((u32::MAX, u32::MAX))),
+        ("R-6 up to 16383", taken((16383, 1)) && taken((1, 16383)) && ask(0, &[(0, 16384)]) == (0, Some(0), 0)),
+        ("R-6 the row first", ask(24, &[(5, 0)]) == (7, None, 0) && ask(24, &[]) == (7, None, 0)),
+    ]
+}
+
+/// Language, number, first cell and length of each record: the refusal, and the pair or the record refused.
+fn differing(records: &[[u32; 4]]) -> (u32, bool, usize, usize) {
+    let of = |&[language, number, first, length]: &[u32; 4]| Phrase { language, number, first, length };
+    let (refusal, found, earlier, later) = calls::phrases_differ(&records.iter().map(of).collect::<Vec<Phrase>>());
+    (refusal.number, found, earlier, later)
+}
+
+fn pair_cases() -> Vec<(&'static str, bool)> {
+    let none = |records: &[[u32; 4]]| differing(records) == (0, false, 0, 0);
+    let [a, b, c, d] = [[1, 1, 5, 2], [1, 1, 6, 2], [2, 2, 5, 2], [2, 2, 5, 3]];
+    vec![
+        ("R-6 no pair", none(&[]) && none(&[a]) && none(&[a, a, a]) && none(&[a, c, a, c])),
+        ("R-6 another name", none(&[a, [1, 2, 6, 3], [2, 1, 7, 4]])),
+        ("R-6 first cell", differing(&[a, b]) == (0, true, 0, 1)),
+        ("R-6 length", differing(&[c, d]) == (0, true, 0, 1)),
+        ("R-6 the earlier first", differing(&[a, c, d, b]) == (0, true, 0, 3)),
+        ("R-6 then the later", differing(&[a, a, c, b, b]) == (0, true, 0, 3)),
+        ("R-6 a record refused", differing(&[a, b, [9, 9, 0, 0], [9, 9, 16384, 1]]) == (20, false, 2, 0)),
     ]
 }
 

@@ -1,13 +1,14 @@
 //! Compares two streams of answers script by script and counts call by answer number by power state and mode, and what was
-//! met of R-4 and R-5 (`met`). A case counts only where its whole script was the same on both sides.
+//! met of and R-6 (`met`). A case counts only where its whole script was the same on both sides.
 
 use std::collections::BTreeMap;
 use std::io::BufRead;
 
 use crate::met::Met;
 
-/// "Lowest number first, except that 12 precedes 4", R-2's three in the place of 5, and R-5's after these: the table's columns.
-const NUMBERS: [u32; 18] = [0, 1, 2, 3, 12, 4, 13, 14, 15, 6, 7, 8, 9, 10, 16, 19, 17, 18];
+/// "Lowest number first, except that 12 precedes 4", R-2's three in the place of 5, and R-5's and R-6's after these: the table's
+/// columns.
+const NUMBERS: [u32; 19] = [0, 1, 2, 3, 12, 4, 13, 14, 15, 6, 7, 8, 9, 10, 16, 19, 17, 18, 20];
 
 const NO_BOARD: &[&str] = &["-"];
 const INACTIVE: &[&str] = &["inactive-0", "inactive-1"];
@@ -47,6 +48,7 @@ const RESERVED: &str = "4 now means interlace, or IR0[7] without the row table";
 const MOVES: &str = "after the page's own, in this order: 16, 19, 17 (there only), 18 (back only)";
 const KIND: &str = "16 page already of the kind asked for";
 const CODES: &str = "19 IR0[7] set";
+const PHRASES: &str = "the page's and row's own, then 20";
 
 /// Every cell of the table that 01 allows. A page's numbers hold no place and no pointer, so that calls which
 /// take them have no 7 but for an asked line or row; 8 needs a buffer for dots. Numbers that are no page are 3.
@@ -76,6 +78,10 @@ const ALLOWED: &[Allowed] = &[
     allowed("row_cells", NO_BOARD, NO_PAGE, &[3], DRAWING),
     allowed("row_cells", NO_BOARD, ANY, &[0, 3, 12, 4, 13, 14, 15, 6, 7], DRAWING),
     allowed("row_cells", NO_BOARD, NO_TABLE, &[3, 12, 4], RESERVED),
+    allowed("phrase_of_row", NO_BOARD, NO_PAGE, &[3], PHRASES),
+    allowed("phrase_of_row", NO_BOARD, ANY, &[0, 3, 12, 4, 13, 14, 15, 6, 7, 20], PHRASES),
+    allowed("phrase_of_row", NO_BOARD, NO_TABLE, &[3, 12, 4], RESERVED),
+    allowed("phrases_differ", NO_BOARD, NO_PAGE, &[0, 20], "20 for a record of length 0 or passing 16383"),
     allowed("to_table", NO_BOARD, NO_PAGE, &[3], MOVES),
     allowed("to_table", NO_BOARD, PLAIN, &[0, 3, 12, 4, 13, 14, 15, 6, 16, 17], MOVES),
     allowed("to_table", NO_BOARD, CODED, &[3, 12, 4, 13, 14, 15, 6, 16], KIND),
@@ -242,7 +248,7 @@ fn count(tally: &mut Tally, line: &str) {
 /// Gives how many allowed cells are empty.
 fn print_table(tally: &Tally) -> u64 {
     let mut empty = 0;
-    print!("{:<13}{:<11}{:<16}", "call", "power", "mode");
+    print!("{:<15}{:<11}{:<16}", "call", "power", "mode");
     NUMBERS.iter().for_each(|number| print!("{:>9}", number));
     println!();
     for row in ALLOWED {
@@ -257,7 +263,7 @@ fn print_table(tally: &Tally) -> u64 {
 
 fn print_row(tally: &Tally, row: &Allowed, power: &str, mode: &str) -> u64 {
     let mut empty = 0;
-    print!("{:<13}{:<11}{:<16}", row.call, power, mode);
+    print!("{:<15}{:<11}{:<16}", row.call, power, mode);
     for number in NUMBERS {
         let key = (row.call.to_string(), power.to_string(), mode.to_string(), number);
         let text = match (row.numbers.contains(&number), tally.get(&key)) {

@@ -1,10 +1,12 @@
 //! The fixed scripts for 01's corners: each command byte, each width, the smallest and largest pages, its
 //! cases, phrases, wraps, tables at the end of memory, fields past 255, the last clocks, rooms of every size, saved boards,
-//! files, and nothing at all. Those for R-1 are in `latches`, those for R-4 in `headlines`, those for R-5 in `moves`.
+//! files, and nothing at all. Those for R-1 are in `latches`, those for R-4 in `headlines`, those for R-5 in `moves`, those
+//! for R-6 in `phrases`.
 
 use crate::board::{Board, Page};
 use crate::cases;
 use crate::dice::{in_field_mode, in_version_1, page, Dice, Shape};
+use crate::faults::BUFFERS;
 use crate::files::{bytes_of, page_of, FONT_FILE, PAGE_FILE};
 use crate::headlines;
 use crate::latches;
@@ -526,6 +528,9 @@ fn nothing(script: &mut Script, dice: &mut Dice) {
         "row_run 4294967295",
         "row_cells 0",
         "row_cells 4294967295",
+        "phrase_of_row 0",
+        "phrase_of_row 4294967295",
+        "phrases_differ",
         "to_table",
         "to_sheet",
         "board_of",
@@ -534,9 +539,8 @@ fn nothing(script: &mut Script, dice: &mut Dice) {
         "state_at 4294967295",
         "step 1",
     ];
-    let buffers = ["numbers", "chars", "attrs", "words", "flags", "unshifted", "shifted", "file", "out", "cells"];
     calls.iter().for_each(|call| script.say(format!("call {}", call)));
-    buffers.iter().for_each(|buffer| script.say(format!("fill {} 0 1", buffer)));
+    BUFFERS.iter().for_each(|buffer| script.say(format!("fill {} 0 1", buffer)));
     calls.iter().for_each(|call| script.say(format!("call {}", call)));
     script.numbers(&some_page(dice));
     script.board(&Board::of_page(some_page(dice)));

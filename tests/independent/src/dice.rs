@@ -1,7 +1,8 @@
-//! Random numbers from a fixed seed, and random pages that a board accepts.
+//! Random numbers from a fixed seed, random pages that a board accepts, and random lists of phrases.
 
 use crate::board::{Page, Place};
 use crate::judge;
+use crate::records::Phrase;
 
 pub struct Dice(u64);
 
@@ -179,4 +180,53 @@ pub fn place_cells(dice: &mut Dice, page: &mut Page) {
     page.irs[8] = (first % 256) as u8;
     page.irs[9] = last_code << 4 | (first / 256) as u8;
     page.start1 = start as u16;
+}
+
+/// A list of phrases about the cells that a row fetches. In every second list records of one name are equal, and in every fourth
+/// one record is refused.
+pub fn phrases_about(dice: &mut Dice, cells: &[u16]) -> Vec<Phrase> {
+    let equal = dice.one_in(2);
+    let mut list: Vec<Phrase> = Vec::new();
+    for number in 0..dice.pick(&[0, 1, 1, 2, 3, 5, 8, 20, 60]) {
+        let (from, to) = stretch(dice, cells);
+        let fresh = Phrase::over(dice.between(1, 3), if equal { number } else { dice.between(0, 9) }, from, to);
+        let again = !list.is_empty() && dice.one_in(4);
+        list.push(if again { dice.pick(&list) } else { fresh });
+    }
+    if !list.is_empty() && dice.one_in(4) {
+        let at = dice.between(0, list.len() as u32 - 1) as usize;
+        let (first, length) = refused_stretch(dice);
+        list[at] = Phrase { first, length, ..list[at] };
+    }
+    list
+}
+
+/// The first and the last cell of a record: often the row's lowest and highest, or cells beside them.
+fn stretch(dice: &mut Dice, cells: &[u16]) -> (u32, u32) {
+    let low = cells.iter().copied().min().map_or(0, u32::from);
+    let high = cells.iter().copied().max().map_or(0, u32::from);
+    let beside = |dice: &mut Dice, cell: u32| (cell + dice.between(0, 4)).saturating_sub(2).min(16383);
+    let (a, b) = match dice.between(0, 6) {
+        0 | 1 => (low, high),
+        2 | 3 => (beside(dice, low), beside(dice, high)),
+        4 => (dice.between(low, high), dice.pick(&[low, high])),
+        5 => (dice.between(0, low), dice.between(high, 16383)),
+        _ => (dice.between(0, 16383), dice.between(0, 16383)),
+    };
+    (a.min(b), a.max(b))
+}
+
+/// First cell and length of a record that no list may have.
+fn refused_stretch(dice: &mut Dice) -> (u32, u32) {
+    let first = dice.between(0, 16383);
+    let any = dice.seed();
+    dice.pick(&[
+        (first, 0),
+        (first, 16384 - first + 1),
+        (first, u32::MAX),
+        (16384, 1),
+        (u32::MAX, first + 1),
+        (u32::MAX - first, first + 2),
+        (any | 0x4000, any),
+    ])
 }

@@ -4,13 +4,14 @@ use crate::board::{Board, Page};
 use crate::dice::{with_codes, Dice};
 use crate::files::{bytes_of, page_of, FONT_FILE, FONT_LENGTH, PAGE_FILE, PAGE_LENGTH};
 use crate::make::{Maker, Script};
-use crate::script::{board_text, hex};
+use crate::records::Phrase;
+use crate::script::{board_text, hex, phrases_text};
 
-const BUFFERS: [&str; 10] =
-    ["numbers", "chars", "attrs", "words", "flags", "unshifted", "shifted", "file", "out", "cells"];
+pub const BUFFERS: [&str; 11] =
+    ["numbers", "chars", "attrs", "words", "flags", "unshifted", "shifted", "file", "out", "cells", "phrases"];
 
 /// The calls that take no board, and those that do.
-const ALONE: [&str; 12] = [
+const ALONE: [&str; 14] = [
     "page_check",
     "page_size",
     "board_of",
@@ -21,6 +22,8 @@ const ALONE: [&str; 12] = [
     "picture_draw",
     "row_run",
     "row_cells",
+    "phrase_of_row",
+    "phrases_differ",
     "to_table",
     "to_sheet",
 ];
@@ -33,15 +36,16 @@ pub struct Case {
     board: Board,
     file_length: u32,
     /// Elements of each buffer; `None` is NULL.
-    sizes: [Option<usize>; 10],
+    sizes: [Option<usize>; 11],
     line: u32,
     row: u32,
     address: u8,
     byte: u8,
     dots: u8,
     strike: u8,
-    /// For `to_sheet`, the row table at cell 0.
+    /// For `to_sheet` and `phrase_of_row`, the row table at cell 0.
     entries: [u16; 2],
+    phrases: [Phrase; 5],
 }
 
 /// Something wrong, or something that a call does not judge.
@@ -73,7 +77,7 @@ fn base(call: &str, resets: u8, Base { version, codes }: Base) -> Case {
         "picture_draw" => page.picture_dots(),
         _ => page.line_dots(),
     };
-    let sizes = [32, 16384, 16384, 1152, 128, 9, 9, file, out, 256];
+    let sizes = [32, 16384, 16384, 1152, 128, 9, 9, file, out, 256, 5];
     Case {
         board: Board { page, resets, pointer: 3, ..Board::default() },
         file_length: if font_file { FONT_LENGTH } else { PAGE_LENGTH },
@@ -86,7 +90,16 @@ fn base(call: &str, resets: u8, Base { version, codes }: Base) -> Case {
         strike: 15,
         // six cells from 1020 on: after 1023 comes 0
         entries: [1020, 2],
+        phrases: base_phrases(),
     }
+}
+
+/// Cells 2 to 7, which row 1 fetches, are held by the records 1 and 3. No two differ.
+fn base_phrases() -> [Phrase; 5] {
+    let elsewhere = Phrase { language: 1, number: 1, first: 100, length: 50 };
+    let row = Phrase { language: 1, number: 2, first: 2, length: 6 };
+    let all = Phrase { language: 2, number: 1, first: 0, length: 16384 };
+    [elsewhere, row, Phrase { language: 2, number: 2, first: 16383, length: 1 }, all, elsewhere]
 }
 
 fn fault(act: impl Fn(&mut Case) + 'static) -> Fault {
@@ -297,6 +310,46 @@ fn entry_faults() -> Vec<Fault> {
     ]
 }
 
+/// What a call that is asked for a row is lent beside the page.
+fn beside_page(call: &str) -> Vec<Fault> {
+    match call {
+        "row_cells" => sizes("cells", 256),
+        "phrase_of_row" => phrase_faults().into_iter().chain(other_rows()).collect(),
+        _ => Vec::new(),
+    }
+}
+
+/// Row 1 of double width, where rows have codes; and row 0, which wraps.
+fn other_rows() -> Vec<Fault> {
+    vec![fault(|case| case.entries[1] |= 0x4000), fault(|case| case.row = 0)]
+}
+
+/// 20 at each place, by a length of 0, by one cell, by much, and by sums that 32 bits do not hold; and what is not refused: a list
+/// of no, one and four records, a row that fewer hold, and two records that differ.
+fn phrase_faults() -> Vec<Fault> {
+    let lengths = [None, Some(0), Some(1), Some(4)];
+    let mut all: Vec<Fault> = lengths.map(|size| fault(move |case| case.sizes[10] = size)).into();
+    let stretch = |at: usize, first: u32, length: u32| {
+        fault(move |case| case.phrases[at] = Phrase { first, length, ..case.phrases[at] })
+    };
+    all.extend([
+        stretch(0, 7, 0),
+        stretch(0, 16383, 2),
+        stretch(1, 2, u32::MAX),
+        stretch(2, 0, 16385),
+        stretch(3, u32::MAX, 8),
+        stretch(4, u32::MAX, u32::MAX),
+        stretch(4, 16384, 1),
+        // row 1 but for its last cell, and for its first
+        stretch(1, 2, 5),
+        stretch(3, 3, 16381),
+        // another first cell, and another length, than record 0 has
+        stretch(4, 101, 50),
+        stretch(4, 100, 49),
+    ]);
+    all
+}
+
 fn faults_of(call: &str) -> Vec<Fault> {
     let parts: Vec<Vec<Fault>> = match call {
         "page_check" | "page_size" | "board_of" => vec![numbers_faults(), page_faults()],
@@ -311,11 +364,11 @@ fn faults_of(call: &str) -> Vec<Fault> {
         "picture_draw" => {
             vec![numbers_faults(), memory_faults(), font_faults(), page_faults(), sizes("out", 288)]
         }
-        "row_run" => vec![numbers_faults(), sizes("chars", 16384), page_faults(), asked_faults(call)],
-        "row_cells" => {
-            let lent = vec![numbers_faults(), sizes("chars", 16384), sizes("cells", 256)];
+        "row_run" | "row_cells" | "phrase_of_row" => {
+            let lent = vec![numbers_faults(), sizes("chars", 16384), beside_page(call)];
             lent.into_iter().chain([page_faults(), asked_faults(call)]).collect()
         }
+        "phrases_differ" => vec![phrase_faults()],
         "to_table" => vec![numbers_faults(), sizes("chars", 16384), stretch_faults(), page_faults()],
         "to_sheet" => vec![numbers_faults(), sizes("chars", 16384), entry_faults(), page_faults()],
         // it judges neither place nor pointer, nor what the numbers held before
@@ -347,6 +400,8 @@ fn lent_to(call: &str) -> &'static [&'static str] {
         "line_draw" | "picture_draw" => &["numbers", "chars", "attrs", "words", "flags", "unshifted", "shifted", "out"],
         "row_run" | "to_table" | "to_sheet" => &BUFFERS[..2],
         "row_cells" => &["numbers", "chars", "cells"],
+        "phrase_of_row" => &["numbers", "chars", "phrases"],
+        "phrases_differ" => &["phrases"],
         "state_at" => &BUFFERS[1..3],
         "step" => &BUFFERS[1..7],
         _ => &[],
@@ -370,7 +425,7 @@ fn arguments(call: &str, case: &Case) -> String {
     match call {
         "line_draw" => format!(" {} 7", case.line),
         "picture_draw" => " 7".to_string(),
-        "row_run" | "row_cells" => format!(" {}", case.row),
+        "row_run" | "row_cells" | "phrase_of_row" => format!(" {}", case.row),
         "set_video" => format!(" {} {} 255 0", case.dots, case.strike),
         "write" => format!(" {} {}", case.address, case.byte),
         "read" => format!(" {}", case.address),
@@ -395,12 +450,18 @@ fn buffer_lines(name: &str, call: &str, case: &Case) -> Vec<String> {
         None => return vec![format!("none {}", name)],
     };
     let mut lines = vec![format!("fill {} {} {}", name, size, 1_000_000_007 + index)];
+    if name == "phrases" && size > 0 {
+        lines.push(format!("set phrases 0 {}", phrases_text(&case.phrases[..size])));
+        return lines;
+    }
     let head = match name {
         // these two only write them
         "numbers" if call != "page_read" && call != "numbers_of" => {
             [vec![case.board.page.version], bytes_of(&case.board.page)].concat()
         }
-        "chars" if call == "to_sheet" => case.entries.iter().flat_map(|entry| entry.to_le_bytes()).collect(),
+        "chars" if ["to_sheet", "phrase_of_row"].contains(&call) => {
+            case.entries.iter().flat_map(|entry| entry.to_le_bytes()).collect()
+        }
         "file" => file_head(call, case),
         _ => Vec::new(),
     };
@@ -464,10 +525,10 @@ pub fn all() -> Vec<Maker> {
     for &(call, resets) in &cases {
         all.push(maker(format!("faults-{}-{}", call, resets), call, resets, Base { version: 1, codes: false }));
     }
-    // a font file has one version and no codes
+    // a font file has one version and no codes, and a list of phrases no page
     let bases = [("field-faults-", 2, false), ("codes-faults-", 1, true), ("field-codes-faults-", 2, true)];
     for (name, version, codes) in bases {
-        for &(call, resets) in cases.iter().filter(|(call, _)| *call != "font_read") {
+        for &(call, resets) in cases.iter().filter(|(call, _)| !["font_read", "phrases_differ"].contains(call)) {
             let name = format!("{}{}-{}", name, call, resets);
             all.push(maker(name, call, resets, Base { version, codes }));
         }

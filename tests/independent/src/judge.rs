@@ -27,8 +27,8 @@ impl Refusal {
 pub type Fault = (Refusal, bool);
 
 /// "Lowest number first, except that 12 precedes 4"; R-2: "5 goes; 13, 14 and 15 take its place in that order"; R-5's numbers
-/// come "after the page's own", 19 before 17 and 18
-const ORDER: [u32; 17] = [1, 2, 3, 12, 4, 13, 14, 15, 6, 7, 8, 9, 10, 16, 19, 17, 18];
+/// come "after the page's own", 19 before 17 and 18; R-6: "the page's and row's own, then 20"
+const ORDER: [u32; 18] = [1, 2, 3, 12, 4, 13, 14, 15, 6, 7, 8, 9, 10, 16, 19, 17, 18, 20];
 
 pub fn first(faults: &[Fault]) -> Refusal {
     let holding = |number: u32| faults.iter().find(|(refusal, holds)| *holds && refusal.number == number);

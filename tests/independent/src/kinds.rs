@@ -1,11 +1,11 @@
 //! The random scripts, one kind after another.
 
 use crate::board::{Board, Page};
-use crate::dice::{any_place, in_buffer, page, place_cells, some_with_codes, Dice, Shape};
+use crate::dice::{any_place, in_buffer, page, phrases_about, place_cells, some_with_codes, Dice, Shape};
 use crate::files::{page_head, FONT_FILE, PAGE_FILE};
 use crate::make::Script;
 use crate::script::hex;
-use crate::stage::{cells, cursor_in_sight, following, lines, pictures, set_up, show, states, table};
+use crate::stage::{cells, cursor_in_sight, following, index, lines, pictures, set_up, show, states, table};
 
 pub type Kind = fn(&mut Script, &mut Dice);
 
@@ -35,6 +35,7 @@ fn drawn(script: &mut Script, dice: &mut Dice, shape: Shape, resets: u8) {
     let chars = script.chars(dice);
     cursor_in_sight(dice, &mut page, &chars);
     set_up(script, dice, &page, &chars, resets);
+    index(script, dice, &page, &chars);
     show(script, dice, &page);
 }
 
@@ -86,6 +87,7 @@ pub fn catalogue(script: &mut Script, dice: &mut Dice) {
     }
     cursor_in_sight(dice, &mut page, &chars);
     set_up(script, dice, &page, &chars, 2);
+    index(script, dice, &page, &chars);
     show(script, dice, &page);
 }
 
@@ -106,6 +108,7 @@ fn follow(script: &mut Script, dice: &mut Dice) {
     table(script, dice, &page, &mut chars, &starts);
     cursor_in_sight(dice, &mut page, &chars);
     set_up(script, dice, &page, &chars, 2);
+    index(script, dice, &page, &chars);
     show(script, dice, &page);
 }
 
@@ -136,11 +139,13 @@ fn boards(script: &mut Script, dice: &mut Dice) {
     script.chars(dice);
     script.attrs(dice);
     script.font(dice);
+    script.phrases(&phrases_about(dice, &[0, 16383]));
     for _ in 0..30 {
         let board = any_board(dice);
         script.board(&board);
         script.say(format!("fill numbers 32 {}", dice.seed()));
         script.say("call numbers_of");
+        script.say(format!("call phrase_of_row {}", dice.between(0, 3)));
         script.say("call to_table");
         script.say("call to_sheet");
         script.say(format!("call read {}", dice.between(0, 9)));
@@ -351,6 +356,7 @@ fn sizes(script: &mut Script, dice: &mut Dice) {
         script.say(format!("call state_at {}", dice.seed()));
         script.say(format!("call row_run {}", dice.between(0, page.rows())));
         cells(script, dice, &page);
+        index(script, dice, &page, &chars);
         script.say("call to_table");
         script.say("call to_sheet");
         lines(script, dice, &page);

@@ -1,4 +1,4 @@
-//! A second reading of 01, of 02's R-1, R-2, R-4 and R-5 and of the papers, for comparing with the library. It shares nothing
+//! A second reading of 01, of 02's R-1, R-2, R-4, R-5 and R-6 and of the papers, for comparing with the library. It shares nothing
 //! with it. Start with `board`, then `machine` (the first way of drawing) and `sheet` (the second).
 
 mod answer;
@@ -21,6 +21,8 @@ mod make;
 mod met;
 mod moved;
 mod moves;
+mod phrases;
+mod records;
 mod registers;
 mod script;
 mod sheet;
@@ -33,7 +35,7 @@ use std::io::{self, BufReader, BufWriter, Read, Write};
 use std::process::exit;
 
 const USAGE: &str = "usage: independent COMMAND
-  self SEED PAGES            compares its own two ways, 01's cases, and those of R-1, R-2, R-4 and R-5
+  self SEED PAGES            compares its own two ways, 01's cases, and those of R-1, R-2, R-4, R-5 and R-6
   make SEED COUNT [FIRST]    prints COUNT scripts, from number FIRST on; without FIRST the whole fixed list at least
   answer < SCRIPTS           prints its own answers
   cells COUNT OURS THEIRS    compares two streams of answers, prints the tables of what was met
@@ -97,11 +99,12 @@ fn compare_own(seed: u64, pages: u64) -> Result<(), String> {
         }
     }
     let compared = twoways::compare(seed, pages)?;
-    println!("{} cases of 01, R-1, R-2, R-4 and R-5 come out", cases::all().len());
+    println!("{} cases of 01, R-1, R-2, R-4, R-5 and R-6 come out", cases::all().len());
     let (field, wide) = (compared.in_field_mode, compared.wide_rows);
     let modes = format!("{} pages, {} of them in field mode, with {} rows of double width", pages, field, wide);
     println!("{}: {} clocks, {} lines, {} states agree", modes, compared.clocks, compared.lines, compared.states);
     println!("{} sheets moved there and back", compared.moved);
+    println!("{} rows that a phrase holds, {} lists in which two differ", compared.held, compared.differing);
     Ok(())
 }
 

@@ -6,8 +6,9 @@ use std::io::Write;
 use crate::board::{Board, Page};
 use crate::dice::Dice;
 use crate::files::numbers_of;
-use crate::script::{board_text, filled, hex};
-use crate::{corners, faults, kinds, moves};
+use crate::records::Phrase;
+use crate::script::{board_text, filled, hex, phrases_text};
+use crate::{corners, faults, kinds, moves, phrases};
 
 #[derive(Default)]
 pub struct Script {
@@ -43,6 +44,7 @@ pub fn fixed_count() -> u64 {
 fn fixed() -> Vec<Maker> {
     let mut all = corners::all();
     all.extend(moves::all());
+    all.extend(phrases::all());
     all.extend(faults::all());
     all
 }
@@ -106,6 +108,14 @@ impl Script {
                 let lines: Vec<u8> = (0..9).map(|line| (from + line) as u8 + dice.pick(&[0, 0x10, 0xF0])).collect();
                 self.say(format!("set {} 0 {}", list, hex(&lines)));
             }
+        }
+    }
+
+    /// The list of phrases.
+    pub fn phrases(&mut self, list: &[Phrase]) {
+        self.say(format!("fill phrases {} 0", list.len()));
+        if !list.is_empty() {
+            self.say(format!("set phrases 0 {}", phrases_text(list)));
         }
     }
 

@@ -1,5 +1,6 @@
-//! What the scripts met of R-4: whole frames by the codes of their rows, and where runs of steps began; and of R-5: which pages
-//! were moved. A number that no script meets is as empty as an answer that none gets.
+//! What the scripts met of R-4: whole frames by the codes of their rows, and where runs of steps began; of R-5: which pages were
+//! moved; and of R-6: which rows phrases were asked for, and lists of which length. A number that no script meets is as empty as
+//! an answer that none gets.
 
 use std::collections::BTreeMap;
 
@@ -36,6 +37,15 @@ const WAYS: [&str; 3] = ["there 0 back 0", "back 0 there 0", "back 0 there 17"];
 /// Where a move wrote its table: at the beginning of memory, at its end, and between; and for how many rows.
 const TABLES: [&str; 7] = ["at 0", "at odd", "at even", "to 16383", "rows 1", "rows 128", "other rows"];
 
+/// What came of a question about phrases.
+const FOUND: [&str; 3] = ["found", "none", "20"];
+
+/// The kinds of rows; only where rows have codes are there wide ones.
+const ROWS: [&str; 4] = ["plain", "wraps", "wide", "wide+wraps"];
+
+/// How many records a list has.
+const LISTS: [&str; 4] = ["no record", "1 record", "some records", "1000 or more"];
+
 #[derive(Default)]
 pub struct Met {
     /// By mode and head, for each code.
@@ -44,10 +54,12 @@ pub struct Met {
     begun: BTreeMap<(String, String), [u64; 5]>,
     /// By way and head, for each mode without codes.
     moved: BTreeMap<(String, String), [u64; 2]>,
+    /// By kind of row and mode, and by call and length of the list, for each outcome.
+    asked: BTreeMap<(String, String), [u64; 3]>,
 }
 
 impl Met {
-    /// An answer's line: a frame, a run of steps that was not refused, or a page that was moved.
+    /// An answer's line: a frame, a run of steps that was not refused, a page that was moved, or a question about phrases.
     pub fn count(&mut self, line: &str) {
         let words: Vec<&str> = line.split(' ').collect();
         match words[..] {
@@ -61,6 +73,13 @@ impl Met {
             }
             ["moves", out, a, home, b, "agree", mode, "table", place, "rows", rows, ..] => {
                 self.moved_page(&format!("{} {} {} {}", out, a, home, b), mode, place, rows);
+            }
+            ["phrase_of_row", _, mode, _, refusal, _, "found", found, _, _, "row", row, .., "phrases", count, _] => {
+                self.ask([row, mode], refusal, found);
+                self.ask(["phrase_of_row", list_length(count)], refusal, found);
+            }
+            ["phrases_differ", _, _, _, refusal, _, "found", found, .., "phrases", count, _] => {
+                self.ask(["phrases_differ", list_length(count)], refusal, found);
             }
             _ => (),
         }
@@ -92,7 +111,18 @@ impl Met {
         }
     }
 
-    /// Prints three tables and gives how many of their allowed cells are empty.
+    /// A refusal other than 20 says nothing about phrases.
+    fn ask(&mut self, head: [&str; 2], refusal: &str, found: &str) {
+        let outcome = match (refusal, found) {
+            ("0", "1") => 0,
+            ("0", _) => 1,
+            ("20", _) => 2,
+            _ => return,
+        };
+        self.asked.entry(head.map(str::to_string).into()).or_default()[outcome] += 1;
+    }
+
+    /// Prints four tables and gives how many of their allowed cells are empty.
     pub fn print(&self) -> u64 {
         println!("\n{:<16}{:<16}{:>12}{:>12}{:>12}{:>12}", "frames: rows", "mode", "00", "01", "10", "11");
         let mut empty = 0;
@@ -111,7 +141,7 @@ impl Met {
                 empty += print_row(place, mode, &counts, |byte| may_begin(mode, place, byte));
             }
         }
-        empty + self.print_moved()
+        empty + self.print_moved() + self.print_asked()
     }
 
     fn print_moved(&self) -> u64 {
@@ -127,13 +157,31 @@ impl Met {
         empty
     }
 
-    /// Runs that began where none can.
+    fn print_asked(&self) -> u64 {
+        print!("\n{:<16}{:<16}", "phrases for", "");
+        FOUND.iter().for_each(|outcome| print!("{:>12}", outcome));
+        println!();
+        let rows = UNCODED.into_iter().chain(CODED).flat_map(|mode| ROWS.map(|row| (row, mode)));
+        let lists = ["phrase_of_row", "phrases_differ"].into_iter().flat_map(|call| LISTS.map(|list| (call, list)));
+        let mut empty = 0;
+        for (head, of) in rows.chain(lists) {
+            let counts = self.asked.get(&(head.to_string(), of.to_string())).copied().unwrap_or_default();
+            empty += print_row(head, of, &counts, |outcome| may_come(head, of, outcome));
+        }
+        empty
+    }
+
+    /// Runs that began where none can, and what cannot come of a row or a list.
     pub fn strange(&self) -> Vec<String> {
-        let cells = self.begun.iter().flat_map(|((mode, place), counts)| {
+        let begun = self.begun.iter().flat_map(|((mode, place), counts)| {
             let met = (0..BYTES.len()).filter(|&byte| counts[byte] > 0 && !may_begin(mode, place, byte));
             met.map(move |byte| format!("step {} from {} with code {}", mode, place, BYTES[byte]))
         });
-        cells.collect()
+        let asked = self.asked.iter().flat_map(|((head, of), counts)| {
+            let met = (0..FOUND.len()).filter(|&outcome| counts[outcome] > 0 && !may_come(head, of, outcome));
+            met.map(move |outcome| format!("phrases for {} {}: {}", head, of, FOUND[outcome]))
+        });
+        begun.chain(asked).collect()
     }
 }
 
@@ -173,6 +221,26 @@ fn may_begin(mode: &str, place: &str, byte: usize) -> bool {
         "off" | "load" => true,
         "plain" => !coded || byte == 0 || byte == 4,
         _ => coded && byte != 0,
+    }
+}
+
+fn list_length(count: &str) -> &'static str {
+    LISTS[match count.parse().unwrap_or(0) {
+        0 => 0,
+        1 => 1,
+        2..=999 => 2,
+        _ => 3,
+    }]
+}
+
+/// Only rows with codes are wide. In no record nothing is found or wrong, and one does not differ from itself.
+fn may_come(head: &str, of: &str, outcome: usize) -> bool {
+    match (head, of) {
+        ("plain" | "wraps", _) => true,
+        ("wide" | "wide+wraps", mode) => CODED.contains(&mode),
+        (_, "no record") => outcome == 1,
+        ("phrases_differ", "1 record") => outcome != 0,
+        _ => LISTS.contains(&of),
     }
 }
 

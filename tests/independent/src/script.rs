@@ -3,6 +3,7 @@
 use std::collections::BTreeMap;
 
 use crate::board::{Board, Font, Lent, Page, Place};
+use crate::records::Phrase;
 
 /// xorshift32; seed 0 gives zeros for ever.
 pub struct Generator(pub u32);
@@ -16,37 +17,70 @@ impl Generator {
     }
 }
 
-/// A byte of a buffer, or 16 bits of the font's words and of a row's cells.
-pub trait Element: Copy {
+/// A byte of a buffer, 16 bits of the font's words and of a row's cells, or a phrase's four numbers.
+pub trait Element: Copy + PartialEq {
+    /// How many numbers it has, and the bits of each.
+    const NUMBERS: usize;
     const BITS: u32;
-    fn of(number: u32) -> Self;
-    fn number(self) -> u32;
+    /// Of the numbers that come next.
+    fn of(next: impl FnMut() -> u32) -> Self;
+    fn each(self, act: impl FnMut(u32));
+    /// With only those bits that the other has too.
+    fn and(self, bits: Self) -> Self;
 }
 
 impl Element for u8 {
+    const NUMBERS: usize = 1;
     const BITS: u32 = 8;
-    fn of(number: u32) -> u8 {
-        number as u8
+    fn of(mut next: impl FnMut() -> u32) -> u8 {
+        next() as u8
     }
-    fn number(self) -> u32 {
-        self.into()
+    fn each(self, mut act: impl FnMut(u32)) {
+        act(self.into())
+    }
+    fn and(self, bits: u8) -> u8 {
+        self & bits
     }
 }
 
 impl Element for u16 {
+    const NUMBERS: usize = 1;
     const BITS: u32 = 16;
-    fn of(number: u32) -> u16 {
-        number as u16
+    fn of(mut next: impl FnMut() -> u32) -> u16 {
+        next() as u16
     }
-    fn number(self) -> u32 {
-        self.into()
+    fn each(self, mut act: impl FnMut(u32)) {
+        act(self.into())
+    }
+    fn and(self, bits: u16) -> u16 {
+        self & bits
     }
 }
 
-/// COUNT elements, each the upper bits of the generator's next number.
+impl Element for Phrase {
+    const NUMBERS: usize = 4;
+    const BITS: u32 = 32;
+    fn of(mut next: impl FnMut() -> u32) -> Phrase {
+        let [language, number, first, length] = [next(), next(), next(), next()];
+        Phrase { language, number, first, length }
+    }
+    fn each(self, act: impl FnMut(u32)) {
+        [self.language, self.number, self.first, self.length].into_iter().for_each(act)
+    }
+    fn and(self, bits: Phrase) -> Phrase {
+        Phrase {
+            language: self.language & bits.language,
+            number: self.number & bits.number,
+            first: self.first & bits.first,
+            length: self.length & bits.length,
+        }
+    }
+}
+
+/// COUNT elements, each number the upper bits of the generator's next one.
 pub fn filled<E: Element>(count: usize, seed: u32) -> Vec<E> {
     let mut generator = Generator(seed);
-    (0..count).map(|_| E::of(generator.next() >> (32 - E::BITS))).collect()
+    (0..count).map(|_| E::of(|| generator.next() >> (32 - E::BITS))).collect()
 }
 
 #[derive(Clone, Copy)]
@@ -63,7 +97,7 @@ impl Sum {
 
     pub fn of<E: Element>(elements: &[E]) -> Sum {
         let mut sum = Sum::new();
-        elements.iter().for_each(|element| sum.add(element.number()));
+        elements.iter().for_each(|element| element.each(|number| sum.add(number)));
         sum
     }
 }
@@ -83,12 +117,24 @@ pub fn small(text: &str) -> Result<u8, String> {
 /// As many hex digits as an element has are one element.
 pub fn elements<E: Element>(text: &str) -> Result<Vec<E>, String> {
     let digits = (E::BITS / 4) as usize;
-    if !text.is_ascii() || text.len() % digits != 0 {
+    if !text.is_ascii() || text.len() % (digits * E::NUMBERS) != 0 {
         return Err(format!("no hex elements: {}", text));
     }
-    let one = |at: usize| u32::from_str_radix(&text[at..at + digits], 16).map(E::of);
-    let all: Result<_, _> = (0..text.len()).step_by(digits).map(one).collect();
-    all.map_err(|_| format!("no hex elements: {}", text))
+    let one = |at: usize| u32::from_str_radix(&text[at..at + digits], 16);
+    let all: Result<Vec<u32>, _> = (0..text.len()).step_by(digits).map(one).collect();
+    let numbers = all.map_err(|_| format!("no hex elements: {}", text))?;
+    let of_numbers = |numbers: &[u32]| {
+        let mut next = numbers.iter().copied();
+        E::of(|| next.next().expect("an element's numbers"))
+    };
+    Ok(numbers.chunks(E::NUMBERS).map(of_numbers).collect())
+}
+
+/// The digits of a `set`.
+pub fn phrases_text(phrases: &[Phrase]) -> String {
+    let mut text = String::new();
+    phrases.iter().for_each(|phrase| phrase.each(|number| text += &format!("{:08x}", number)));
+    text
 }
 
 pub fn board_text(board: &Board) -> String {
@@ -155,16 +201,24 @@ pub struct Buffers {
     pub file: Vec<u8>,
     pub out: Vec<u8>,
     pub cells: Vec<u16>,
+    pub phrases: Vec<Phrase>,
+}
+
+/// A buffer by the width of its elements.
+enum Named<'a> {
+    Bytes(&'a mut Vec<u8>),
+    Wide(&'a mut Vec<u16>),
+    Phrases(&'a mut Vec<Phrase>),
 }
 
 impl Buffers {
-    /// A buffer whose elements are 16 bits wide.
-    fn wide(&mut self, name: &str) -> Option<&mut Vec<u16>> {
-        match name {
-            "words" => Some(&mut self.words),
-            "cells" => Some(&mut self.cells),
-            _ => None,
-        }
+    fn named(&mut self, name: &str) -> Result<Named<'_>, String> {
+        Ok(match name {
+            "words" => Named::Wide(&mut self.words),
+            "cells" => Named::Wide(&mut self.cells),
+            "phrases" => Named::Phrases(&mut self.phrases),
+            _ => Named::Bytes(self.bytes(name)?),
+        })
     }
 
     fn bytes(&mut self, name: &str) -> Result<&mut Vec<u8>, String> {
@@ -200,27 +254,28 @@ impl Buffers {
     }
 
     pub fn fill(&mut self, name: &str, count: usize, seed: u32) -> Result<(), String> {
-        match self.wide(name) {
-            Some(elements) => *elements = filled(count, seed),
-            None => *self.bytes(name)? = filled(count, seed),
+        match self.named(name)? {
+            Named::Bytes(elements) => *elements = filled(count, seed),
+            Named::Wide(elements) => *elements = filled(count, seed),
+            Named::Phrases(elements) => *elements = filled(count, seed),
         }
         Ok(())
     }
 
     fn set(&mut self, name: &str, at: usize, text: &str) -> Result<(), String> {
-        match self.wide(name) {
-            Some(elements) => put(elements, at, text),
-            None => put(self.bytes(name)?, at, text),
+        match self.named(name)? {
+            Named::Bytes(elements) => put(elements, at, text),
+            Named::Wide(elements) => put(elements, at, text),
+            Named::Phrases(elements) => put(elements, at, text),
         }
     }
 
     fn mask(&mut self, name: &str, text: &str) -> Result<(), String> {
-        let bits = u32::from_str_radix(text, 16).map_err(|_| format!("no hex mask: {}", text))?;
-        match self.wide(name) {
-            Some(elements) => keep(elements, bits),
-            None => keep(self.bytes(name)?, bits),
+        match self.named(name)? {
+            Named::Bytes(elements) => keep(elements, text),
+            Named::Wide(elements) => keep(elements, text),
+            Named::Phrases(elements) => keep(elements, text),
         }
-        Ok(())
     }
 
     fn take(&mut self, name: &str, from: &str, count: usize) -> Result<(), String> {
@@ -235,6 +290,7 @@ impl Buffers {
 pub struct Sums {
     bytes: BTreeMap<String, (Vec<u8>, Sum)>,
     wide: BTreeMap<String, (Vec<u16>, Sum)>,
+    phrases: BTreeMap<String, (Vec<Phrase>, Sum)>,
 }
 
 impl Sums {
@@ -242,12 +298,10 @@ impl Sums {
     pub fn report(&mut self, buffers: &mut Buffers, names: &[&str]) -> Result<String, String> {
         let mut text = String::new();
         for &name in names {
-            let (count, sum) = match buffers.wide(name) {
-                Some(elements) => (elements.len(), sum_of(&mut self.wide, name, elements)),
-                None => {
-                    let bytes = buffers.bytes(name)?;
-                    (bytes.len(), sum_of(&mut self.bytes, name, bytes))
-                }
+            let (count, sum) = match buffers.named(name)? {
+                Named::Bytes(elements) => (elements.len(), sum_of(&mut self.bytes, name, elements)),
+                Named::Wide(elements) => (elements.len(), sum_of(&mut self.wide, name, elements)),
+                Named::Phrases(elements) => (elements.len(), sum_of(&mut self.phrases, name, elements)),
             };
             text += &format!(" {} {} {:016x}", name, count, sum.0);
         }
@@ -255,7 +309,7 @@ impl Sums {
     }
 }
 
-fn sum_of<E: Element + PartialEq>(last: &mut BTreeMap<String, (Vec<E>, Sum)>, name: &str, elements: &[E]) -> Sum {
+fn sum_of<E: Element>(last: &mut BTreeMap<String, (Vec<E>, Sum)>, name: &str, elements: &[E]) -> Sum {
     match last.get(name) {
         Some((taken_of, sum)) if taken_of == elements => *sum,
         _ => {
@@ -273,6 +327,10 @@ fn put<E: Element>(buffer: &mut [E], at: usize, text: &str) -> Result<(), String
     Ok(())
 }
 
-fn keep<E: Element>(buffer: &mut [E], bits: u32) {
-    buffer.iter_mut().for_each(|element| *element = E::of(element.number() & bits));
+fn keep<E: Element>(buffer: &mut [E], text: &str) -> Result<(), String> {
+    match elements::<E>(text)?[..] {
+        [bits] => buffer.iter_mut().for_each(|element| *element = element.and(bits)),
+        _ => return Err(format!("a mask is one element: {}", text)),
+    }
+    Ok(())
 }

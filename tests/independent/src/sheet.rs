@@ -108,6 +108,11 @@ pub fn row_cells(page: &Page, chars: &[u8], row: u32) -> Vec<u16> {
     cells_from(page, row_start(page, chars, row), cells_in_row(page, chars, row))
 }
 
+/// Some of a row's cells does not follow the one before it.
+pub fn wraps(cells: &[u16]) -> bool {
+    cells.windows(2).any(|pair| pair[1] != pair[0] + 1)
+}
+
 /// "the cells fetched, which are half of HACT rounded up"
 fn cells_in_row(page: &Page, chars: &[u8], row: u32) -> u32 {
     match row_size(page, chars, row).columns() {

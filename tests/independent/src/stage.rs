@@ -1,7 +1,7 @@
 //! What a drawing script sets up before its frame, and the calls that it makes after it.
 
 use crate::board::{Board, Page};
-use crate::dice::Dice;
+use crate::dice::{phrases_about, Dice};
 use crate::make::Script;
 use crate::script::hex;
 use crate::sheet;
@@ -160,5 +160,28 @@ pub fn states(script: &mut Script, dice: &mut Dice, page: &Page) {
     for n in [dice.pick(&edges), dice.between(0, 2 * frame), dice.between(0, u32::MAX)] {
         script.say(format!("call state_at {}", n));
         script.say(format!("call step {}", dice.between(1, 3 * page.hact())));
+    }
+}
+
+/// Any row or, of a page in which some wrap, often one of those.
+fn some_row(dice: &mut Dice, page: &Page, chars: &[u8]) -> u32 {
+    let wraps = |row: &u32| sheet::wraps(&sheet::row_cells(page, chars, *row));
+    let wrapped: Vec<u32> = (0..page.rows()).filter(wraps).collect();
+    if wrapped.is_empty() || dice.one_in(2) {
+        dice.between(0, page.rows() - 1)
+    } else {
+        dice.pick(&wrapped)
+    }
+}
+
+/// Lists of phrases about a row's cells: the phrase of that row and of any other, and two of the list that differ.
+pub fn index(script: &mut Script, dice: &mut Dice, page: &Page, chars: &[u8]) {
+    for _ in 0..3 {
+        let row = some_row(dice, page, chars);
+        let list = phrases_about(dice, &sheet::row_cells(page, chars, row));
+        script.phrases(&list);
+        script.say(format!("call phrase_of_row {}", row));
+        script.say(format!("call phrase_of_row {}", dice.between(0, page.rows())));
+        script.say("call phrases_differ");
     }
 }

@@ -1,9 +1,11 @@
 //! Compares this program's two ways with each other: every clock of a frame, every line, states far away, boards
-//! handed over anywhere, which the next frame brings back, and sheets that are moved there and back.
+//! handed over anywhere, which the next frame brings back, sheets that are moved there and back, and the phrases of rows.
 
 use crate::board::{Board, Font, Lent, Page, Place};
-use crate::dice::{any_place, page, place_cells, some_with_codes, Dice, Shape};
+use crate::dice::{any_place, page, phrases_about, place_cells, some_with_codes, Dice, Shape};
 use crate::files::{numbers_of, page_of_numbers};
+use crate::judge::Refusal;
+use crate::records::Phrase;
 use crate::script::filled;
 use crate::{calls, machine, sheet};
 
@@ -17,6 +19,9 @@ pub struct Compared {
     pub wide_rows: u64,
     /// Sheets.
     pub moved: u64,
+    /// Rows that a record holds, and lists in which two differ.
+    pub held: u64,
+    pub differing: u64,
 }
 
 pub fn compare(seed: u64, pages: u64) -> Result<Compared, String> {
@@ -56,7 +61,7 @@ fn one_page(dice: &mut Dice, compared: &mut Compared) -> Result<(), String> {
         compared.moved += 1;
         there_and_back(&page, &lent)?;
     }
-    Ok(())
+    (0..page.rows()).try_for_each(|row| phrases(dice, &board, &lent, row, compared))
 }
 
 fn wide_rows(page: &Page, chars: &[u8]) -> u64 {
@@ -206,4 +211,37 @@ fn lowest_gap(mut fetched: Vec<u16>, size: u16) -> u16 {
         free = address + 1;
     }
     free
+}
+
+/// The phrase of a row by the lowest and the highest address that its steps fetch, and the first pair as the least of all pairs.
+fn phrases(dice: &mut Dice, board: &Board, lent: &Lent, row: u32, compared: &mut Compared) -> Result<(), String> {
+    let page = &board.page;
+    let mut walked = machine::state_at(board, lent.chars, lent.attrs, row * page.lines_per_row() * page.ht());
+    let fetched: Vec<u16> = (0..page.hact()).map(|_| machine::step(&mut walked, lent).address).collect();
+    let list = phrases_about(dice, &fetched);
+    let asked = calls::phrase_of_row(&numbers_of(page), lent.chars, &list, row);
+    let differ = calls::phrases_differ(&list);
+    let last = |phrase: &Phrase| i64::from(phrase.first) + i64::from(phrase.length) - 1;
+    let bad = list.iter().position(|phrase| last(phrase) < i64::from(phrase.first) || last(phrase) > 16383);
+    let holds =
+        |phrase: &Phrase| fetched.iter().all(|&cell| phrase.first <= cell.into() && i64::from(cell) <= last(phrase));
+    let holder = list.iter().position(holds);
+    let name = |at: usize| (list[at].language, list[at].number);
+    let pairs = (0..list.len()).flat_map(|later| (0..later).map(move |earlier| (earlier, later)));
+    let pair = pairs.filter(|&(a, b)| name(a) == name(b) && list[a] != list[b]).min();
+    let expected = match bad {
+        Some(at) => ((Refusal::plain(20), false, at), (Refusal::plain(20), false, at, 0)),
+        None => {
+            let (earlier, later) = pair.unwrap_or((0, 0));
+            let of_row = (Refusal::NONE, holder.is_some(), holder.unwrap_or(0));
+            (of_row, (Refusal::NONE, pair.is_some(), earlier, later))
+        }
+    };
+    compared.held += u64::from(asked.1);
+    compared.differing += u64::from(differ.1);
+    if (asked, differ) == expected {
+        Ok(())
+    } else {
+        Err(format!("phrases of row {}", row))
+    }
 }

@@ -1,0 +1,235 @@
+// The records of an index of phrases (02, R-6): what is asked of each, and what is answered once one more is looked at.
+ghost use mathlib.Core.Path.{_≡_};
+ghost use Prim.Native.Nat.{min, max, _<_};
+ghost use Rattle.raster.specs.Moves.{Bounded};
+ghost use Rattle.records.specs.Records.{badRecord, disagrees, pairAnswer};
+ghost use Rattle.records.specs.Ends.{endsBy, askedOf, holdsEnds};
+ghost use Rattle.records.specs.Folds.{startOf, visitOf, mateStart, mateVisit, pairStart, pairVisit};
+
+// A phrase in a language, by its number: its cells are first to first + length - 1. Any four numbers may be handed over.
+#[repr(C)]
+pub struct Phrase {
+    pub language: u32,
+    pub number: u32,
+    pub first: u32,
+    pub length: u32,
+}
+
+// The lowest record that holds a row, where one does. With 20 the position is the first bad record's.
+#[repr(C)]
+pub struct PhraseAnswer {
+    pub refusal: u32,
+    pub beside: u32,
+    pub found: u32,
+    pub position: usize,
+}
+
+// Two records that disagree, where there are two. With 20 the first bad record stands in earlier.
+#[repr(C)]
+pub struct PairAnswer {
+    pub refusal: u32,
+    pub beside: u32,
+    pub found: u32,
+    pub earlier: usize,
+    pub later: usize,
+}
+
+// The lowest and the highest of a row's cells.
+pub struct Ends {
+    pub low: u16,
+    pub high: u16,
+}
+
+// What is asked of each record: a refusal that came before, or the ends of a row's cells.
+pub struct Asked {
+    pub refusal: u32,
+    pub beside: u32,
+    pub low: u32,
+    pub high: u32,
+}
+
+// The first later record that disagrees with one, where there is one, and whether that one is bad.
+pub struct Mate {
+    pub bad: bool,
+    pub found: bool,
+    pub at: usize,
+}
+
+fn lower(a: u16, b: u16) -> u16
+    ensures { λ r. ⌜ r ≡ min a b ⌝ }
+{
+    if a < b { a } else { b }
+}
+
+fn higher(a: u16, b: u16) -> u16
+    ensures { λ r. ⌜ r ≡ max a b ⌝ }
+{
+    if a < b { b } else { a }
+}
+
+// The ends of n cells, from a cell on.
+fn row_ends(buffer: raster::Buffer, start: raster::Cell, n: u32) -> Ends
+    requires { ⌜ Bounded buffer × (start .address < 16384) ⌝ }
+    ensures { λ r. ⌜ r ≡ endsBy buffer (start .address) n ⌝ }
+{
+    let mut low = start.address;
+    let mut high = start.address;
+    let mut cell = start;
+    let mut i: u32 = 0;
+    while i < n {
+        low = lower(low, cell.address);
+        high = higher(high, cell.address);
+        cell = raster::advance_one(buffer, cell);
+        i += 1;
+    }
+    Ends { low, high }
+}
+
+// What a row asks of each record.
+pub fn row_asked(b: board::Board, chars: &[u8], row: u32) -> Asked
+    ensures { λ r. ⌜ r ≡ askedOf b (now (chars .entry)) row ⌝ }
+{
+    let page = b.page;
+    let irs = page.irs;
+    let span = fetch::span_of(b, chars, row);
+    let refused = span.refusal;
+    if refusal::is_done(refused) {
+        let n = fetch::fetched_of(page, chars, row);
+        let start = fetch::row_start(page, chars, row);
+        let e = row_ends(timing::buffer_of(irs), start, n.0);
+        return Asked {
+            refusal: 0,
+            beside: 0,
+            low: e.low as u32,
+            high: e.high as u32,
+        };
+    }
+    Asked {
+        refusal: refusal::number(refused),
+        beside: refusal::beside(refused),
+        low: 0,
+        high: 0,
+    }
+}
+
+// 20: a record of length 0, or one that passes 16383.
+fn is_bad(p: Phrase) -> bool
+    ensures { λ r. ⌜ r ≡ badRecord p ⌝ }
+{
+    (p.length == 0) | (16384 < p.first as u64 + p.length as u64)
+}
+
+fn holds(p: Phrase, asked: Asked) -> bool
+    ensures { λ r. ⌜ r ≡ holdsEnds asked p ⌝ }
+{
+    (p.first <= asked.low) & ((asked.high as u64) < p.first as u64 + p.length as u64)
+}
+
+// The same language and number, and another first cell or length.
+fn disagree(p: Phrase, o: Phrase) -> bool
+    ensures { λ r. ⌜ r ≡ disagrees p o ⌝ }
+{
+    (p.language == o.language)
+        & (p.number == o.number)
+        & ((p.first != o.first) | (p.length != o.length))
+}
+
+// The answer before any record is looked at.
+pub fn start(asked: Asked) -> PhraseAnswer
+    ensures { λ r. ⌜ r ≡ startOf asked ⌝ }
+{
+    PhraseAnswer {
+        refusal: asked.refusal,
+        beside: asked.beside,
+        found: 0,
+        position: 0,
+    }
+}
+
+// The answer once one record more is looked at.
+pub fn visit(s: PhraseAnswer, p: Phrase, i: usize, asked: Asked) -> PhraseAnswer
+    ensures { λ r. ⌜ r ≡ visitOf s p i asked ⌝ }
+{
+    if (s.refusal == 0) & is_bad(p) {
+        return PhraseAnswer {
+            refusal: 20,
+            beside: 0,
+            found: 0,
+            position: i,
+        };
+    }
+    if (s.refusal == 0) & (s.found == 0) & holds(p, asked) {
+        return PhraseAnswer {
+            refusal: 0,
+            beside: 0,
+            found: 1,
+            position: i,
+        };
+    }
+    s
+}
+
+pub fn start_mate(o: Phrase, after: usize) -> Mate
+    ensures { λ r. ⌜ r ≡ mateStart o after ⌝ }
+{
+    Mate {
+        bad: is_bad(o),
+        found: false,
+        at: 0,
+    }
+}
+
+pub fn visit_mate(s: Mate, p: Phrase, i: usize, o: Phrase, after: usize) -> Mate
+    ensures { λ r. ⌜ r ≡ mateVisit s p i o after ⌝ }
+{
+    if !s.found & (after < i) & disagree(o, p) {
+        return Mate {
+            bad: s.bad,
+            found: true,
+            at: i,
+        };
+    }
+    s
+}
+
+pub fn start_pair() -> PairAnswer
+    ensures { λ r. ⌜ r ≡ pairStart ⌝ }
+{
+    PairAnswer {
+        refusal: 0,
+        beside: 0,
+        found: 0,
+        earlier: 0,
+        later: 0,
+    }
+}
+
+fn found_pair(earlier: usize, later: usize) -> PairAnswer
+    ensures { λ r. ⌜ r ≡ pairAnswer 0 0 1 earlier later ⌝ }
+{
+    PairAnswer {
+        refusal: 0,
+        beside: 0,
+        found: 1,
+        earlier,
+        later,
+    }
+}
+
+pub fn visit_pair(pair: PairAnswer, m: Mate, i: usize) -> PairAnswer
+    ensures { λ r. ⌜ r ≡ pairVisit pair m i ⌝ }
+{
+    if (pair.refusal == 0) & m.bad {
+        return PairAnswer {
+            refusal: 20,
+            beside: 0,
+            found: 0,
+            earlier: i,
+            later: 0,
+        };
+    }
+    if (pair.refusal == 0) & (pair.found == 0) & m.found {
+        return found_pair(i, m.at);
+    }
+    pair
+}

@@ -1,0 +1,26 @@
+/* A list of phrases, from a text file: a line for each record, with its language, its number, its first cell and its
+   length in cells. What stands behind a # is a comment. */
+#ifndef PHRASES_H
+#define PHRASES_H
+
+#include "languages.h"
+#include "page.h"
+
+struct phrases {
+    feldrime_phrase *records; /* a language is told by its place in languages */
+    uint32_t *lines;          /* of the file, where each record stands */
+    size_t count, room;
+};
+
+/* Reads a list. Where it cannot be read, a line is no phrase or a record is refused, why becomes the reason. */
+bool read_phrases(const char *name, struct phrases *list, char why[WHY]);
+
+/* Whether no two records of one language and number differ. Where two do, why becomes the first two. */
+bool phrases_agree(const struct phrases *list, char why[WHY]);
+
+/* Whether some phrase of a language holds all cells that a row shows. */
+bool is_held(const struct phrases *list, const struct language *language, const struct page *page, uint32_t row);
+
+void drop_phrases(struct phrases *list);
+
+#endif
