@@ -1,13 +1,17 @@
 -- 01: the row's first run of cells, from the row start to the row's end, the last buffer address or 16383, whichever is first met.
-use Prim.Native.Nat.{ℕ, min, _+_, _-_}
-use mathlib.Core.Bool.{Bool, false}
+use Prim.Native.Nat.{ℕ, min, _+_, _-_, _%_, _≤_, _<_}
+use mathlib.Core.Path.{_≡_, _∙_}
+use native.Mathlib.Omega.{arith}
+use borrow.Author.Tests.{leb-true, ltb-true}
+use mathlib.Core.Bool.{Bool, true, false, _&&_}
 use mathlib.Core.List.{List}
-use lib.Dec.{leb}
+use lib.Dec.{leb, ltb}
 use lib.ListN.{length, take, drop}
-use Rattle.lists.specs.Choice.{pick}
+use Rattle.lists.specs.Choice.{pick, both}
 use Rattle.refusal.specs.declared.Refusal.{Refusal}
 use Rattle.refusal.specs.Number.{doneOf}
-use Rattle.raster.specs.Moves.{toLast}
+use Rattle.raster.specs.declared.Buffer.{Buffer}
+use Rattle.raster.specs.Moves.{toLast, advanceBy, by-near}
 use Rattle.board.specs.declared.Page.{Page}
 use Rattle.board.specs.declared.Board.{Board}
 use Rattle.board.specs.Range.{memoryRefused}
@@ -27,6 +31,25 @@ runCheck b n row = rowCheck b (memoryRefused n) row
 -- so many cells to the row's end, so many to the last buffer address, so many to 16383
 unfoldable pub runCount : Page → (cells start : ℕ) → ℕ
 runCount p cells start = min cells (min (toLast (bufferOf (p .irs)) start + 1) (16384 - start))
+
+-- whether n cells from an address on are one run
+unfoldable pub oneRun : Buffer → (start n : ℕ) → Bool
+oneRun b start n = (ltb start 16384 && leb n (toLast b start + 1)) && leb n (16384 - start % 16384)
+
+-- then they stand side by side in memory
+module _ (b : Buffer) (start n : ℕ) (e : oneRun b start n ≡ true) where
+  tests : ((start < 16384) × (n ≤ toLast b start + 1)) × (n ≤ 16384 - start % 16384)
+  unfolding oneRun
+  tests =
+      let q = both (ltb start 16384 && leb n (toLast b start + 1)) (leb n (16384 - start % 16384)) e in
+      let r = both (ltb start 16384) (leb n (toLast b start + 1)) (q .0) in
+      ((ltb-true _ _ (r .0), leb-true _ _ (r .1)), leb-true _ _ (q .1))
+
+  pub run-fits : start + n ≤ 16384
+  run-fits = omega (arith, tests .0 .0, tests .1)
+
+  pub run-at : (i : ℕ) → i < n → advanceBy b i start ≡ start + i
+  run-at i l = by-near b i start (omega (arith, tests .0 .1)) ∙ omega (arith, run-fits)
 
 abbrev pub span : Refusal → ℕ → ℕ → Span
 span r s n = record { refusal = r; start = s; count = n }

@@ -9,7 +9,7 @@ ghost use Rattle.units.specs.Units.{clocks};
 ghost use Rattle.raster.specs.Moves.{cell, Bounded};
 ghost use Rattle.refusal.specs.Number.{numberOf};
 ghost use Rattle.fetch.specs.Rows.{byteAt, entryOf, codeAt, rowStart, cellAt, fetchedOf, movedOf, begunOf};
-ghost use Rattle.fetch.specs.Run.{rowCheck, runCheck, runCount, spanOf, runOf};
+ghost use Rattle.fetch.specs.Run.{rowCheck, runCheck, runCount, oneRun, spanOf, runOf};
 ghost use Rattle.fetch.specs.RowCells.{cellsCheck, cellsGiven, cellsPut};
 ghost use Rattle.fetch.specs.RowLaws.{columnBy};
 
@@ -151,6 +151,15 @@ fn run_count(p: board::Page, cells: units::Clocks, start: u16) -> units::Clocks
     let to_last = (b.last as u32 + 16384 - at % 16384) % 16384;
     let to_top = units::Clocks(16384 - at);
     cells.least(units::Clocks(to_last + 1).least(to_top))
+}
+
+// Whether n cells from a cell on are one run: neither the last buffer address nor 16383 comes before the last of them.
+pub fn one_run(b: raster::Buffer, start: raster::Cell, n: usize) -> bool
+    ensures { λ r. ⌜ r ≡ oneRun b (start .address) n ⌝ }
+{
+    let at = start.address as usize;
+    let to_last = (b.last as usize + 16384 - at % 16384) % 16384;
+    (at < 16384) & (n <= to_last + 1) & (n <= 16384 - at % 16384)
 }
 
 // What a call for a row is refused by; whether a lent part has a wrong size is the call's to say.

@@ -5,6 +5,7 @@
 --     held-along     the same, along the row from its start
 --     held-next      a row begins with what is valid at the end of the row before it
 --     held-plain     in character mode nothing is ever latched
+--     run-part       the bytes of cells that are one run
 --     held-kept      a latch byte has AFLG or is 0
 use Prim.Native.Nat.{ℕ, suc, min, _+_, _-_, _*_, _/_, _%_, _≤_, _<_}
 use mathlib.Core.Path.{_≡_, refl, sym, ap, _∙_}
@@ -13,7 +14,8 @@ use mathlib.Core.List.{List}
 use native.Mathlib.Nat.{zero-mul, suc-mul}
 use native.Mathlib.Omega.{arith}
 use borrow.Author.Tests.{lt-ltb}
-use lib.ListN.{getD}
+use lib.ListN.{length, getD, take, drop, length-drop}
+use lib.Seq.{length-take-le, getD-take, getD-drop}
 use Rattle.lists.specs.Choice.{pick}
 use Rattle.raster.specs.declared.Buffer.{Buffer}
 use Rattle.raster.specs.declared.Cell.{Cell}
@@ -26,6 +28,7 @@ use Rattle.board.specs.Modes.{fieldMode}
 use Rattle.timing.specs.declared.Timing.{Timing}
 use Rattle.timing.specs.Fields.{hactOf, bufferOf, timingOf, countsOf}
 use Rattle.fetch.specs.Rows.{codeAt, feedIn, tallyIn, rowStart, cellAt, fetchedOf, begunOf, fetchAt}
+use Rattle.fetch.specs.Run.{oneRun, run-fits, run-at}
 use Rattle.fetch.specs.Laws.{cell-shown, begun-all}
 use Rattle.latch.specs.Held.{setIn, byteOf, heldAt}
 
@@ -37,6 +40,16 @@ columns-of p t e = rw e
 -- the bytes of a row's cells, from the row's start on
 abbrev pub rowByte : (attrs : List ℕ) → Buffer → (start i : ℕ) → ℕ
 rowByte attrs b start i = getD attrs (advanceBy b i start) 0
+
+-- cells that are one run are a part of the memory
+pub run-part : (attrs : List ℕ) (b : Buffer) (start n v : ℕ) → oneRun b start n ≡ true → length attrs ≡ 16384
+    → v ≡ lastSet (λ (i : ℕ). getD (take (start + n - start) (drop start attrs)) i 0) 0 (length (take (start + n - start) (drop start attrs)))
+    → v ≡ lastSet (rowByte attrs b start) 0 n
+run-part attrs b start n v e l q =
+    let m : start + n - start ≡ n = omega arith in
+    let room : n ≤ length (drop start attrs) = rw (length-drop start attrs) (omega (arith, run-fits b start n e, l)) in
+    (rw (m, length-take-le n (drop start attrs) room) at q)
+    ∙ same-last _ _ 0 n (λ i h. getD-take n (drop start attrs) i 0 h ∙ getD-drop start attrs i 0 ∙ ap (λ (a : ℕ). getD attrs a 0) (sym (run-at b start n e i h)))
 
 module _ (p : Page) (chars attrs : List ℕ) where
   abbrev H : ℕ

@@ -2,17 +2,18 @@
 --     search-all     the search through all records: the lowest that holds both ends
 --     held-refused   what was refused before stays
 --     row-held       at what a row asks it is the record of the row
---     mate-all       the search for a later record that disagrees with one
+--     mate-begins, mate-turn, mate-all      the search for a later record that disagrees with one
 --     pairs-all      and for the first two
-use Prim.Native.Nat.{ℕ, zero, suc, _<_}
+use Prim.Native.Nat.{ℕ, zero, suc, _+_, _<_}
 use mathlib.Core.Path.{_≡_, refl, _∙_}
 use mathlib.Core.Bool.{Bool, true, false, not, _&&_, _||_}
 use mathlib.Core.List.{List}
-use borrow.Author.Tests.{eq-eqb, eqb-true}
-use lib.Dec.{eqb, ltb}
+use native.Mathlib.Omega.{arith}
+use borrow.Author.Tests.{eq-eqb, eqb-true, lt-ltb, le-ltb}
+use lib.Dec.{eqb}
 use lib.ListN.{length, getD}
 use Rattle.lists.specs.Choice.{pick}
-use Rattle.lists.specs.Search.{anyBelow, firstBelow, first-kept, first-new, same-any, same-first}
+use Rattle.lists.specs.Search.{anyBelow, firstBelow, any-none, first-kept, first-new, same-any, same-first}
 use Rattle.refusal.specs.Number.{numberOf, besideOf, doneOf}
 use Rattle.board.specs.declared.Board.{Board}
 use Rattle.fetch.specs.Rows.{fetchedOf, fetchAt}
@@ -22,7 +23,7 @@ use Rattle.records.specs.declared.PairAnswer.{PairAnswer}
 use Rattle.records.specs.declared.Asked.{Asked}
 use Rattle.records.specs.Records.{none, badRecord, holdsRow, disagrees, at, among, phraseAnswer, phraseOfRow, pairAnswer, laterDiffers, phrasesDiffer}
 use Rattle.records.specs.Ends.{lowTo, highTo, asked, askedOf, holdsEnds, holds-row}
-use Rattle.records.specs.Folds.{turn, startOf, visitOf, searchTo, phraseAmong, searchOf, mateOn, mateStart, mateVisit, mateTo, mates, mateAmong, mateOf, pairStart, pairVisit, pairsTo}
+use Rattle.records.specs.Folds.{turn, startOf, visitOf, searchTo, phraseAmong, searchOf, mateOn, mateStart, mateVisit, mateTo, mateOf, pairStart, pairVisit, pairsTo}
 
 -- a turn more of a search that keeps its whole answer
 module _ {A : Type 0} (refused found : ℕ → A) (nothing : A) (bad good : ℕ → Bool) (unrefused unfound : A → Bool)
@@ -100,23 +101,34 @@ module _ (b : Board) (chars : List ℕ) (rs : List Phrase) (row : ℕ) where
 -- ---- two records that differ
 
 -- as the search for one of them has it
-module _ (rs : List Phrase) (o : Phrase) (after : ℕ) where
-  mate-upto : (n : ℕ) → mateTo rs o after n ≡ mateAmong rs o after n
-  unfolding mateStart mateVisit mates anyBelow
-  mate-upto zero = refl
-  mate-upto (suc n) = rw (mate-upto n) (go (anyBelow (mates rs o after) n) refl (ltb after n) (disagrees o (getD rs n none)) refl)
-    where
-      go : (x : Bool) → anyBelow (mates rs o after) n ≡ x → (l d : Bool) → mates rs o after n ≡ (l && d)
-          → pick ((not x && l) && d) (mateOn (badRecord o) true n) (mateOn (badRecord o) x (pick x (firstBelow (mates rs o after) n) 0))
-          ≡ mateOn (badRecord o) (x || (l && d)) (pick (x || (l && d)) (firstBelow (mates rs o after) (suc n)) 0)
-      go true xe l d e = rw (first-kept (mates rs o after) n xe)
-      go false xe true true e = rw (first-new (mates rs o after) n xe e)
-      go false xe true false e = refl
-      go false xe false d e = refl
+module _ (rs : List Phrase) (after : ℕ) where
+  -- no record up to the position is looked at, and every one after it
+  before-none : (n : ℕ) → n < after + 1 → laterDiffers rs after n ≡ false
+  unfolding laterDiffers
+  before-none n l = rw (le-ltb after n (omega (arith, l)))
 
-  pub mate-all : mateTo rs o after (length rs) ≡ mateOf rs o after
+  after-each : (n : ℕ) → after < n → laterDiffers rs after n ≡ disagrees (getD rs after none) (getD rs n none)
+  unfolding laterDiffers
+  after-each n l = rw (lt-ltb after n l)
+
+  pub mate-begins : mateStart (getD rs after none) ≡ mateTo rs after (after + 1)
+  unfolding mateStart
+  mate-begins = rw (any-none (laterDiffers rs after) (after + 1) before-none)
+
+  pub mate-turn : (n : ℕ) → after < n → mateVisit (mateTo rs after n) (getD rs n none) n (getD rs after none) ≡ mateTo rs after (suc n)
+  unfolding mateVisit anyBelow
+  mate-turn n l = rw (← after-each n l) (go (anyBelow (laterDiffers rs after) n) refl (laterDiffers rs after n) refl)
+    where
+      go : (x : Bool) → anyBelow (laterDiffers rs after) n ≡ x → (d : Bool) → laterDiffers rs after n ≡ d
+          → pick (not x && d) (mateOn (at rs badRecord after) true n) (mateOn (at rs badRecord after) x (pick x (firstBelow (laterDiffers rs after) n) 0))
+          ≡ mateOn (at rs badRecord after) (x || d) (pick (x || d) (firstBelow (laterDiffers rs after) (suc n)) 0)
+      go true xe d e = rw (first-kept (laterDiffers rs after) n xe)
+      go false xe true e = rw (first-new (laterDiffers rs after) n xe e)
+      go false xe false e = refl
+
+  pub mate-all : mateTo rs after (length rs) ≡ mateOf rs after
   unfolding mateOf
-  mate-all = mate-upto (length rs)
+  mate-all = refl
 
 -- where none is found, it does not matter what would be
 not-found : {A : Type 0} (find : ℕ → A) (k : ℕ) (unrefused bad unfound good : Bool) (was refusal : A)
@@ -137,7 +149,7 @@ module _ (rs : List Phrase) where
   differs i = anyBelow (laterDiffers rs i) (length rs)
 
   pairs-upto : (n : ℕ) → pairsTo rs n ≡ among bad pair pairStart (at rs badRecord) differs n
-  unfolding pairVisit mateOf mates laterDiffers among anyBelow bad pair differs
+  unfolding pairVisit mateOf among anyBelow bad pair differs
   pairs-upto zero = refl
   pairs-upto (suc n) =
       not-found (pairAnswer 0 0 1 n) (firstBelow (laterDiffers rs n) (length rs)) (eqb (pairsTo rs n .refusal) 0) (at rs badRecord n) (eqb (pairsTo rs n .found) 0) (differs n)

@@ -40,13 +40,15 @@ pub fn phrase_of_row(
 }
 
 // The first record after a position that disagrees with the one there.
-fn mate_of(phrases: &[records::Phrase], o: records::Phrase, after: usize) -> records::Mate
-    ensures { λ r. ⌜ r ≡ mateOf (now (phrases .entry)) o after ⌝ }
+fn mate_of(phrases: &[records::Phrase], after: usize) -> records::Mate
+    requires { ⌜ after < length (now phrases) ⌝ }
+    ensures { λ r. ⌜ r ≡ mateOf (now (phrases .entry)) after ⌝ }
 {
-    let mut s = records::start_mate(o, after);
-    let mut i = 0;
+    let o = phrase_at(phrases, after);
+    let mut s = records::start_mate(o);
+    let mut i = after + 1;
     while i < phrases.len() {
-        s = records::visit_mate(s, phrase_at(phrases, i), i, o, after);
+        s = records::visit_mate(s, phrase_at(phrases, i), i, o);
         i += 1;
     }
     s
@@ -59,9 +61,7 @@ pub fn phrases_differ(phrases: &[records::Phrase]) -> records::PairAnswer
     let mut s = records::start_pair();
     let mut i = 0;
     while i < phrases.len() {
-        let p = phrase_at(phrases, i);
-        let m = mate_of(phrases, p, i);
-        s = records::visit_pair(s, m, i);
+        s = records::visit_pair(s, mate_of(phrases, i), i);
         i += 1;
     }
     s

@@ -268,15 +268,16 @@ fn row_at(p: board::Page, chars: &[u8], attrs: &[u8], row: u32, c: units::Clocks
     let at = fetch::cell_at(p, chars, row, c);
     let start = fetch::row_start(p, chars, row);
     let code = fetch::code_at(p, chars, row);
+    let before = latch::held_before(p, chars, attrs, row);
     Carried {
         beam: raster::Row {
             address: at.address,
-            latch: latch::held_at(p, chars, attrs, row, c),
+            latch: latch::held_at(p, chars, attrs, row, c, before),
             code: code,
         },
         row: raster::Row {
             address: start.address,
-            latch: latch::held_at(p, chars, attrs, row, units::Clocks(0)),
+            latch: before,
             code: code,
         },
     }

@@ -21,7 +21,6 @@ use Rattle.latch.proofs.held_at.Lts as lts
 use Rattle.board.proofs.field_mode.Reads as field-mode-reads
 use Rattle.fetch.proofs.begun_of.Reads as begun-of-reads
 use Rattle.fetch.proofs.row_start.Reads as row-start-reads
-use Rattle.latch.proofs.held_before.Reads as held-before-reads
 use Rattle.latch.proofs.last_in_row.Reads as last-in-row-reads
 use Rattle.timing.proofs.buffer_of.Reads as buffer-of-reads
 
@@ -29,7 +28,7 @@ returns : tie.Need-returns
 returns c = sym (held-plain _ _ _ (sym (c .before .field-mode .ensures) ∙ not-true _ (c .if1 .taken)) _ _)
 
 -- the search of the row itself
-module _ (c : lts.After-last-in-row (field-mode-reads.Asked, field-mode-reads.Learnt, begun-of-reads.Asked, begun-of-reads.Learnt, row-start-reads.Asked, row-start-reads.Learnt, buffer-of-reads.Asked, buffer-of-reads.Learnt, last-in-row-reads.Asked, last-in-row-reads.Learnt, held-before-reads.Asked, held-before-reads.Learnt) reads.Pre reads.Post) where
+module _ (c : lts.After-last-in-row (field-mode-reads.Asked, field-mode-reads.Learnt, begun-of-reads.Asked, begun-of-reads.Learnt, row-start-reads.Asked, row-start-reads.Learnt, buffer-of-reads.Asked, buffer-of-reads.Learnt, last-in-row-reads.Asked, last-in-row-reads.Learnt) reads.Pre reads.Post) where
   abbrev p : Page
   p = c .before .before .before .before .before .before .before .before .before .args .p
 
@@ -65,11 +64,8 @@ module _ (c : lts.After-last-in-row (field-mode-reads.Asked, field-mode-reads.Le
 returns-2 : tie.Need-returns-2
 returns-2 c = found (c .before) (c .if2 .taken)
 
-held-before-requires : tie.Need-held-before-requires
-held-before-requires c κs = let q = c .before .before .before .before .before .before .before .before .before .before .pre in (q .0, q .1, q .2, runs (c .before))
-
 returns-3 : tie.Need-returns-3
-returns-3 c = c .held-before .ensures ∙ none (c .before .before) (c .before .if2 .left)
+returns-3 c = c .before .before .before .before .before .before .before .before .before .before .pre .3 ∙ none (c .before) (c .if2 .left)
 
 pub held-at-spec : {M : Type 1} → statement M
 held-at-spec =
@@ -82,5 +78,4 @@ held-at-spec =
     (λ c κs. search needs)
     (λ c κs. search needs)
     returns-2
-    held-before-requires
     returns-3)

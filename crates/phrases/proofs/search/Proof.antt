@@ -1,4 +1,4 @@
--- `phrases::search` meets its contract: a walk of its MIR, by hand, with a loop. Each turn calls `phrase_at` on the slice and the index, and `visit` on the record. The slice itself is never opened here.
+-- `phrases::search` meets its contract: a walk of its MIR, by hand, with a loop. Each turn calls `phrase_at` on the slice and the index, and `visit` on what it gives. The slice itself is never opened here.
 -- The invariant at i: the local s holds `searchTo` of the first i records. What s owns is carried, so nothing is proved of its fields. Assumes nothing.
 use mathlib.Core.Path.{_≡_, refl, sym, ap, _∙_}
 use Prim.Native.Nat.{ℕ, _+_, _-_, _≤_, _<_, _^_, zero-le}
@@ -228,7 +228,7 @@ module _ {M : Type 1} (𝓤 : URA M) (H : Heap 𝓤) (A : Atoms 𝓤) (W : Given
           split ! $ move ! (1 ∷ []) $ use1 W (raw (fact 𝓤 (r′ ≡ visitOf (upto (i .0)) r (i .0) (y .0)))) (said-visits (i .0) r u r′) $ heard ! (r′ ≡ visitOf (upto (i .0)) r (i .0) (y .0)) (λ e₂. split ! $ drop ! $
           peeks ! S.the-row (Is S.the-row) (shows 𝓤 H A S.the-row) r′ (u′ ∷ []) (λ is′. land ! (from ! (stop !)) (store ! 12 refl (LL.lawful S.the-type S′.the-laws 𝓤 H A W .typed r′ _ is′ .0)) $
           assigns-last ! (bin ! (load ! (from ! (stop !)) (look ! 10 refl)) (lit ! tt) (record { fits = fits (next i less) })) (from ! (stop !)) (store ! 10 refl (tt, record { fits = fits (next i less) })) $ forget ! 4 refl $ forget ! 6 refl $ forget ! 8 refl $
-          rewrite ! 0 (λ (us : List Val). ‵ (S.the-row .own r′ us)) (LL.tells S.the-type S′.the-laws r′ (u′ ∷ []) is′) refl $ rewrite ! 0 (λ (t : PhraseAnswer). ‵ (S.the-row .own t (sval t ∷ []))) (is-next i r r′ e₁ e₂) refl $ rewrite ! 12 (λ (us : List Val). ‵ (fat fullShare S′.mir l3 0 (only us))) (LL.tells S.the-type S′.the-laws r′ (u′ ∷ []) is′) refl $ rewrite ! 12 (λ (t : PhraseAnswer). ‵ (fat fullShare S′.mir l3 0 (only (sval t ∷ [])))) (is-next i r r′ e₁ e₂) refl $
+          rewrite ! 0 (λ (us : List Val). ‵ (S.the-row .own r′ us)) (LL.tells S.the-type S′.the-laws r′ (u′ ∷ []) is′) refl $ rewrite ! 0 (λ (t : PhraseAnswer). ‵ (S.the-row .own t (LL.vals S.the-type S′.the-laws t))) (is-next i r r′ e₁ e₂) refl $ rewrite ! 12 (λ (us : List Val). ‵ (fat fullShare S′.mir l3 0 (only us))) (LL.tells S.the-type S′.the-laws r′ (u′ ∷ []) is′) refl $ rewrite ! 12 (λ (t : PhraseAnswer). ‵ (fat fullShare S′.mir l3 0 (only (LL.vals S.the-type S′.the-laws t)))) (is-next i r r′ e₁ e₂) refl $
           move ! (2 ∷ 3 ∷ 0 ∷ 1 ∷ []) $ again ! Nearer At i (next i less) (add-one-dec n (i .0) less)))))))))
 
       -- the turn that leaves the loop, and the rest of the body
@@ -251,7 +251,7 @@ module _ {M : Type 1} (𝓤 : URA M) (H : Heap 𝓤) (A : Atoms 𝓤) (W : Given
       looped : Sq W (At (0, zero-le)) (runs C Λ En t-3 (atRet En Post))
       looped = first ! $ blocks ! $ loops ! 𝓣 Nearer Nearer-wf At turns (0, zero-le)
 
-    walk : Are Tail (Ises Tail) y ys → ent 𝓤 (onEntry 𝓤 H A self.signature (κ, tt) (q, tt) (s, y) at) (WpFn 𝓤 H C Λ code.function (v ∷ only (ys .0) ∷ []) Post)
+    walk : Are Tail (Ises Tail) y ys → ent 𝓤 (onEntry 𝓤 H A self.signature (κ, tt) (q, tt) (s, y) at) (WpFn 𝓤 H C Λ code.function (v ∷ only (at .1 .0) ∷ []) Post)
     walk p =
         qed W (Toks ∷ ‵ (owns (ShrSlice (named 0) κ T.the-row ∷ Tail) (s, y) at) ∷ []) ∵
         enter ! C Λ code.function _ _ $
@@ -263,7 +263,7 @@ module _ {M : Type 1} (𝓤 : URA M) (H : Heap 𝓤) (A : Atoms 𝓤) (W : Given
         split ! $ move ! (1 ∷ []) $ use1 W (raw (fact 𝓤 (r ≡ upto 0))) (said-starts r) $ heard ! (r ≡ upto 0) (λ e₀. split ! $ drop ! $
         peeks ! S.the-row (Is S.the-row) (shows 𝓤 H A S.the-row) r (u ∷ []) (λ is. land ! (from ! (stop !)) (init ! 11 refl (LL.lawful S.the-type S′.the-laws 𝓤 H A W .typed r _ is .0)) $
         assigns ! (of-opd ! (lit ! tt)) (from ! (stop !)) (init ! 9 refl (tt, record { fits = lit< tt })) $
-        rewrite ! 0 (λ (us : List Val). ‵ (S.the-row .own r us)) (LL.tells S.the-type S′.the-laws r (u ∷ []) is) refl $ rewrite ! 0 (λ (t : PhraseAnswer). ‵ (S.the-row .own t (sval t ∷ []))) (e₀) refl $ rewrite ! 11 (λ (us : List Val). ‵ (fat fullShare S′.mir l3 0 (only us))) (LL.tells S.the-type S′.the-laws r (u ∷ []) is) refl $ rewrite ! 11 (λ (t : PhraseAnswer). ‵ (fat fullShare S′.mir l3 0 (only (sval t ∷ [])))) (e₀) refl $
+        rewrite ! 0 (λ (us : List Val). ‵ (S.the-row .own r us)) (LL.tells S.the-type S′.the-laws r (u ∷ []) is) refl $ rewrite ! 0 (λ (t : PhraseAnswer). ‵ (S.the-row .own t (LL.vals S.the-type S′.the-laws t))) (e₀) refl $ rewrite ! 11 (λ (us : List Val). ‵ (fat fullShare S′.mir l3 0 (only us))) (LL.tells S.the-type S′.the-laws r (u ∷ []) is) refl $ rewrite ! 11 (λ (t : PhraseAnswer). ‵ (fat fullShare S′.mir l3 0 (only (LL.vals S.the-type S′.the-laws t)))) (e₀) refl $
         keep ! (19 ∷ 2 ∷ 0 ∷ 1 ∷ 3 ∷ 4 ∷ 5 ∷ 6 ∷ 7 ∷ 8 ∷ 9 ∷ 10 ∷ 11 ∷ 12 ∷ 13 ∷ 14 ∷ 15 ∷ 16 ∷ 17 ∷ 18 ∷ []) $ looped l0 l1 l2 l3 l4 l5 l6 l7))))))))))))
 
 module _ {M : Type 1} (𝓤 : URA M) (H : Heap 𝓤) (A : Atoms 𝓤) (W : Given 𝓤 H A) (mem : Memory → SProp 𝓤) (run : Routine → Fun 𝓤) (𝓣 : Tables 𝓤 H)

@@ -5,8 +5,8 @@ use Rattle.place.proofs.row_at.Tie as tie
 
 returns : tie.Need-returns
 returns c =
-    row-at _ _ _ _ _ _ _ _ _ (c .before .before .before .before .cell-at .ensures) (c .before .before .before .row-start .ensures) (c .before .held-at .ensures)
-    (c .held-at2 .ensures) _ (c .before .before .code-at .ensures)
+    row-at _ _ _ _ _ _ _ _ _ (c .before .before .before .before .cell-at .ensures) (c .before .before .before .row-start .ensures) (c .held-at .ensures)
+    (c .before .held-before .ensures) _ (c .before .before .code-at .ensures)
 
 pub row-at-spec : {M : Type 1} → statement M
 row-at-spec =
