@@ -2,13 +2,15 @@
 --     nibble, two-nibbles    a product and a mask put four bits into four bytes (all sixteen cases are tried), and two of them eight bits into eight
 --     spread-ones            these bytes are 0 and 1
 --     mixed                  bytes of 0 and 1 become bytes of two levels
-use mathlib.Core.Path.{_≡_, refl, sym, _∙_}
+use mathlib.Core.Path.{_≡_, refl, sym, ap, _∙_}
 use mathlib.Core.Bool.{Bool, true, _&&_}
-use Prim.Native.Nat.{ℕ, zero, suc, _+_, _*_, _/_, _%_, _-_, _≤_, _<_}
-use native.Mathlib.Nat.{not-suc-le-zero, le-of-suc-le-suc, zero-add, zero-mul, one-mul, add-mul, mul-assoc}
+use Prim.Native.Nat.{ℕ, zero, suc, _+_, _*_, _/_, _%_, _-_, _^_, _≤_, _<_}
+use native.Mathlib.Nat.{not-suc-le-zero, le-of-suc-le-suc, zero-add, zero-mul, one-mul, add-mul, mul-assoc, pow-suc}
 use native.Mathlib.Omega.{arith}
 use borrow.Author.Tests.{eqb-true}
+use lib.Arith.{mod-mul}
 use lib.Bits.{bitAnd}
+use lib.Pow.{pow-pos}
 use lib.Dec.{eqb}
 use Rattle.lists.specs.Choice.{both}
 use Rattle.video.specs.Cell.{bits, shadeOf}
@@ -17,50 +19,40 @@ use Rattle.dots.specs.Stores.{spreadOf, blendOf, mixOf}
 -- ---- bits to bytes
 
 -- every number below n passes
-tried : (ℕ → Bool) → ℕ → Bool
+unfoldable pub tried : (ℕ → Bool) → ℕ → Bool
 tried p zero = true
 tried p (suc n) = p zero && tried (λ k. p (suc k)) n
 
-each : (p : ℕ → Bool) (n k : ℕ) → tried p n ≡ true → k < n → p k ≡ true
+pub each : (p : ℕ → Bool) (n k : ℕ) → tried p n ≡ true → k < n → p k ≡ true
 unfolding tried
 each p zero k e h = absurd (not-suc-le-zero h)
 each p (suc n) zero e h = both (p zero) (tried (λ k. p (suc k)) n) e .0
 each p (suc n) (suc k) e h = each (λ i. p (suc i)) n k (both (p zero) (tried (λ i. p (suc i)) n) e .1) (le-of-suc-le-suc h)
 
 -- the low bits do not go by what is above them
-module _ (w : ℕ) where
-  half-of-16 : w % 16 / 2 ≡ w / 2 % 8
-  half-of-16 = omega arith
+module _ (n w : ℕ) where
+  apart : w % 2 ^ suc n ≡ (w / 2 % 2 ^ n) * 2 + w % 2
+  apart = ap (λ (m : ℕ). w % m) (pow-suc 2 n) ∙ mod-mul w (pow-pos n) (omega arith)
 
-  half-of-8 : w % 8 / 2 ≡ w / 2 % 4
-  half-of-8 = omega arith
+  low-half : w % 2 ^ suc n / 2 ≡ w / 2 % 2 ^ n
+  low-half = omega (arith, apart)
 
-  half-of-4 : w % 4 / 2 ≡ w / 2 % 2
-  half-of-4 = omega arith
+  low-odd : w % 2 ^ suc n % 2 ≡ w % 2
+  low-odd = omega (arith, apart)
 
-  odd-16 : w % 16 % 2 ≡ w % 2
-  odd-16 = omega arith
-
-  odd-8 : w % 8 % 2 ≡ w % 2
-  odd-8 = omega arith
-
-  odd-4 : w % 4 % 2 ≡ w % 2
-  odd-4 = omega arith
-
-  odd-2 : w % 2 % 2 ≡ w % 2
-  odd-2 = omega arith
-
-low-four : (w : ℕ) → spreadOf 4 (w % 16) ≡ spreadOf 4 w
+pub low-spread : (n w : ℕ) → spreadOf n (w % 2 ^ n) ≡ spreadOf n w
 unfolding spreadOf
-low-four w = rw (half-of-16 w, half-of-8 (w / 2), half-of-4 (w / 2 / 2), odd-16 w, odd-8 (w / 2), odd-4 (w / 2 / 2), odd-2 (w / 2 / 2 / 2))
+low-spread zero w = refl
+low-spread (suc n) w = rw (low-half n w, low-odd n w, low-spread n (w / 2))
 
-pub low-bits : (w : ℕ) → bits 4 (w % 16) ≡ bits 4 w
+pub low-bits : (n w : ℕ) → bits n (w % 2 ^ n) ≡ bits n w
 unfolding bits
-low-bits w = rw (half-of-16 w, half-of-8 (w / 2), half-of-4 (w / 2 / 2), odd-16 w, odd-8 (w / 2), odd-4 (w / 2 / 2), odd-2 (w / 2 / 2 / 2))
+low-bits zero w = refl
+low-bits (suc n) w = rw (low-half n w, low-odd n w, low-bits n (w / 2))
 
 pub nibble : (w : ℕ) → bitAnd (w % 16 * 2113665) 16843009 ≡ spreadOf 4 w
 unfolding spreadOf tried
-nibble w = eqb-true _ _ (each (λ (k : ℕ). eqb (bitAnd (k * 2113665) 16843009) (spreadOf 4 k)) 16 (w % 16) refl (omega arith)) ∙ low-four w
+nibble w = eqb-true _ _ (each (λ (k : ℕ). eqb (bitAnd (k * 2113665) 16843009) (spreadOf 4 k)) 16 (w % 16) refl (omega arith)) ∙ low-spread 4 w
 
 pub two-nibbles : (w : ℕ) → spreadOf 4 w + spreadOf 4 (w / 16) * 4294967296 ≡ spreadOf 8 w
 unfolding spreadOf
@@ -78,7 +70,7 @@ four-of-eight w =
     let z : w % 16 / 16 ≡ 0 = omega arith in
     let n : spreadOf 4 0 ≡ 0 = none in
     let e : spreadOf 4 (w % 16) ≡ spreadOf 4 (w % 16) + spreadOf 4 (w % 16 / 16) * 4294967296 = rw (z, n) (omega arith) in
-    sym (low-four w) ∙ e ∙ two-nibbles (w % 16)
+    sym (low-spread 4 w) ∙ e ∙ two-nibbles (w % 16)
 
 -- ---- bytes of 0 and 1 to bytes of two levels
 

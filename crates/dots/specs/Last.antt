@@ -15,7 +15,7 @@ use Rattle.dots.specs.Spread.{stored-shades}
 module _ (y u : ℕ) where
   low-shades : (x : ℕ) → shades y u 4 (x % 16) ≡ shades y u 4 x
   unfolding shades
-  low-shades x = ap (map (shadeOf y u)) (low-bits x)
+  low-shades x = ap (map (shadeOf y u)) (low-bits 4 x)
 
   -- four dots from four spread bits
   pub four-shades : y < 256 → u < 256 → (v x : ℕ) → v ≡ mixOf (spreadOf 4 x) y u → bytesOf 4 v ≡ shades y u 4 x

@@ -4,5 +4,6 @@ pub mod Width
 pub mod Bytes
 pub mod Overlap
 pub mod Spread
+pub mod Inks
 pub mod Last
 pub mod Half

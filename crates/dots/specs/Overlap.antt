@@ -14,10 +14,6 @@ unfolding bytesOf
 length-bytes zero v = refl
 length-bytes (suc n) v = ap suc (length-bytes n (v / 256))
 
-pub length-overlap : (n d a z : ℕ) → n ≤ d → d ≤ n + n → length (overlapOf n d a z) ≡ d
-unfolding overlapOf
-length-overlap n d a z h m = simp (length-append, length-take, length-bytes) (omega arith)
-
 -- the eight stores
 pub stored-eight : (v : ℕ) (o : List ℕ) → 8 ≤ length o
     → set (set (set (set (set (set (set (set o 0 (v % 256)) 1 (v / 256 % 256)) 2 (v / 65536 % 256)) 3 (v / 16777216 % 256)) 4 (v / 4294967296 % 256)) 5 (v / 1099511627776 % 256)) 6 (v / 281474976710656 % 256)) 7 (v / 72057594037927936 % 256)

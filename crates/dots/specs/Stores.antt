@@ -1,9 +1,11 @@
 -- The cell as it is stored: every width is the low d bits of one number, and several dots are the bytes of another.
 -- `Width` and `Spread` tie this to the definition. Assumes nothing.
-use Prim.Native.Nat.{ℕ, zero, suc, _+_, _*_, _-_, _/_, _%_}
+use Prim.Native.Nat.{ℕ, zero, suc, max, _+_, _*_, _-_, _/_, _%_}
+use mathlib.Core.Bool.{Bool}
 use mathlib.Core.List.{List, [], _∷_, _++_}
 use lib.ListN.{take}
-use lib.Dec.{ltb, leb}
+use lib.Bits.{bitXor}
+use lib.Dec.{ltb}
 use Rattle.lists.specs.Choice.{pick}
 use Rattle.video.specs.declared.Look.{Look}
 use Rattle.video.specs.Cell.{shadeOf}
@@ -39,9 +41,13 @@ bytesOf (suc n) v = (v % 256) ∷ bytesOf n (v / 256)
 unfoldable pub overlapOf : (n d first last : ℕ) → List ℕ
 overlapOf n d first last = take (d - n) (bytesOf n first) ++ bytesOf n last
 
--- d dots from the first eight and the last eight, each in a byte of its own
-unfoldable pub dotsBy : (low high symbol surround d : ℕ) → List ℕ
-dotsBy low high symbol surround d =
-    pick (leb d 8)
-    (bytesOf d (mixOf low symbol surround))
-    (overlapOf 8 d (mixOf low symbol surround) (mixOf high symbol surround))
+-- what eight dots are made from: a mask for each byte, then the surround of each of sixteen looks, and what makes the symbol of it.
+-- Look l has the symbol's level l % 4 and the surround's l / 4.
+unfoldable pub inkOf : ℕ → ℕ
+inkOf i =
+    pick (ltb i 256) (255 * spreadOf 8 i)
+    (pick (ltb i 272) (72340172838076673 * (i % 16 / 4)) (72340172838076673 * bitXor (i % 16 / 4) (i % 4)))
+
+-- how many dots are stored for a cell of d
+abbrev pub reachOf : (tight : Bool) → (d : ℕ) → ℕ
+reachOf tight d = pick tight d (max d 8)

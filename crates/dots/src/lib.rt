@@ -1,10 +1,11 @@
 // The dots of a cell into a buffer, a byte each and several to a store.
 ghost use mathlib.Core.Path.{_≡_};
 ghost use mathlib.Core.List.{_++_};
-ghost use Prim.Native.Nat.{_-_, _*_, _/_, _^_, _≤_, _<_};
+ghost use Prim.Native.Nat.{_-_, _*_, _/_, _%_, _^_, _≤_, _<_};
+ghost use lib.Bits.{bitXor};
 ghost use lib.ListN.{length, take, drop};
 ghost use Rattle.video.specs.Cell.{cellDots};
-ghost use Rattle.dots.specs.Stores.{wideOf, underOf, spreadOf, mixOf, bytesOf, overlapOf, dotsBy};
+ghost use Rattle.dots.specs.Stores.{wideOf, underOf, spreadOf, blendOf, mixOf, bytesOf, overlapOf, inkOf, reachOf};
 ghost use Rattle.lists.specs.Tab.{tab};
 ghost use Rattle.dots.specs.Width.{shades};
 ghost use Rattle.dots.specs.Half.{halfBy};
@@ -85,19 +86,65 @@ fn broad(out: &mut [u8], first: u64, last: u64, d: usize)
     eight(&mut out[e..], last);
 }
 
-// A cell from its spread dots, the first eight and, where it has more, the last eight.
-pub fn put_cell(out: &mut [u8], low: u64, high: u64, symbol: u8, surround: u8, d: usize)
-    requires { ⌜ (low ≤ 72340172838076673) × (8 < d → high ≤ 72340172838076673) × (6 ≤ d) × (d ≤ 12) × (d ≤ length (now out)) ⌝ }
-    ensures { λ _. ⌜ now (out .exit) ≡ dotsBy low high symbol surround d ++ drop d (now (out .entry)) ⌝ }
+// What makes one level of another by an exclusive or.
+fn change(from: u64, to: u64) -> u64
+    requires { ⌜ (from < 4) × (to < 4) ⌝ }
+    ensures { λ r. ⌜ (r ≡ bitXor from to) × (r < 4) ⌝ }
 {
-    let first = mix(low, symbol, surround);
-    if d == 8 {
-        eight(out, first);
-    } else if d < 8 {
+    from ^ to
+}
+
+// What eight dots are made from: a mask for each byte of a word, FF hex for a dot of the symbol, then for each of sixteen
+// looks the surround in every byte, and what makes the symbol of it.
+fn ink(i: usize) -> u64
+    requires { ⌜ i < 288 ⌝ }
+    ensures { λ r. ⌜ r ≡ inkOf i ⌝ }
+{
+    if i < 256 {
+        return 255 * spread(i as u16);
+    }
+    let surround = (i % 16 / 4) as u64;
+    if i < 272 {
+        return 0x0101_0101_0101_0101 * surround;
+    }
+    0x0101_0101_0101_0101 * change(surround, (i % 4) as u64)
+}
+
+// The table of them.
+pub fn inks(table: &mut [u64])
+    requires { ⌜ length (now table) ≡ 288 ⌝ }
+    ensures { λ _. ⌜ now (table .exit) ≡ tab 288 inkOf ⌝ }
+{
+    let mut i: usize = 0;
+    while i < 288 {
+        table[i] = ink(i);
+        i += 1;
+    }
+}
+
+// Eight dots, from the low bits of a word and a look.
+fn blend(inks: &[u64], levels: u8, word: u16) -> u64
+    requires { ⌜ (now inks ≡ tab 288 inkOf) × (levels < 16) ⌝ }
+    ensures { λ r. ⌜ r ≡ blendOf (levels % 4) (levels / 4) 8 word ⌝ }
+{
+    let look = levels as usize;
+    inks[256 + look] ^ (inks[(word % 256) as usize] & inks[272 + look])
+}
+
+// A cell from its word, in which the low d bits are its dots. A cell of fewer than eight dots is stored as eight unless it
+// is tight: the next cell is then drawn over what is too much.
+pub fn put_cell(out: &mut [u8], inks: &[u64], levels: u8, word: u16, d: usize, tight: bool)
+    requires { ⌜ (now inks ≡ tab 288 inkOf) × (levels < 16) × (6 ≤ d) × (d ≤ 12) × (reachOf tight d ≤ length (now out)) ⌝ }
+    ensures { λ _. ⌜ now (out .exit) ≡ shades (levels % 4) (levels / 4) (reachOf tight d) word ++ drop (reachOf tight d) (now (out .entry)) ⌝ }
+{
+    let first = blend(inks, levels, word);
+    if 8 < d {
+        let last = blend(inks, levels, word >> (d - 8));
+        broad(out, first, last, d);
+    } else if tight {
         narrow(out, first, d);
     } else {
-        let last = mix(high, symbol, surround);
-        broad(out, first, last, d);
+        eight(out, first);
     }
 }
 

@@ -1,19 +1,19 @@
 -- The line as the drawer makes it, from the row's cells and the levels of their marks, and that this is the line of `Line.antt`. Assumes nothing.
-use Prim.Native.Nat.{ℕ, suc, min, _+_, _*_, _/_, _%_, _≤_, _<_}
+use Prim.Native.Nat.{ℕ, zero, suc, min, _+_, _*_, _/_, _%_, _≤_, _<_}
 use mathlib.Core.Path.{_≡_, refl, sym, ap, _∙_}
 use mathlib.Core.Bool.{Bool, true, false, _&&_, _||_, not, true≢false}
 use mathlib.Core.List.{List, [], _∷_, _++_}
 use native.Mathlib.Nat.{div-lt-iff-lt-mul}
 use native.Mathlib.Decide.{ℕ-discrete}
 use native.Mathlib.Omega.{arith}
-use borrow.Author.Tests.{leb-false, ltb-false, eq-eqb, ne-eqb}
+use borrow.Author.Tests.{leb-false, ltb-false, le-ltb, eq-eqb, ne-eqb}
 use lib.ListN.{length, getD, drop}
 use lib.Dec.{eqb, ltb, leb}
 use Rattle.units.specs.declared.Lines.{Lines}
 use Rattle.units.specs.Units.{lines}
 use Rattle.lists.specs.Choice.{pick, firstOf, neither}
 use Rattle.lists.specs.Join.{joined, same-joined}
-use Rattle.lists.specs.Tab.{tab}
+use Rattle.lists.specs.Tab.{tab, same-tab}
 use Rattle.refusal.specs.declared.Refusal.{Refusal}
 use Rattle.refusal.specs.declared.Refusal.the-variants.{Done, Size, Range, Room}
 use Rattle.refusal.specs.Number.{doneOf}
@@ -21,9 +21,9 @@ use Rattle.refusal.specs.Laws.{passed, not-refused}
 use Rattle.raster.specs.declared.Buffer.{Buffer}
 use Rattle.raster.specs.declared.Cell.{Cell}
 use Rattle.raster.specs.declared.Code.{Code}
-use Rattle.raster.specs.Moves.{cell}
+use Rattle.raster.specs.Moves.{cell, advanceBy, advanceBy-zero}
 use Rattle.raster.specs.Wide.{codeOf, isWide, againAt}
-use Rattle.raster.specs.Latch.{latched, lastSet, fetchedBy}
+use Rattle.raster.specs.Latch.{latched, setsOf, lastSet, fetchedBy}
 use Rattle.board.specs.declared.Page.{Page}
 use Rattle.board.specs.declared.Board.{Board}
 use Rattle.board.specs.Modes.{fieldMode}
@@ -34,9 +34,9 @@ use Rattle.timing.specs.Fields.{hactOf, rowsOf, linesOf, visibleOf, bufferOf, t
 use Rattle.timing.specs.Check.{pageCheck, stateRefused, callCheck}
 use Rattle.timing.specs.Laws.{Accepted, call-passed}
 use Rattle.fetch.specs.Rows.{codeAt, rowStart, cellAt, fetchedOf, begunOf, fetchAt}
-use Rattle.fetch.specs.Laws.{cell-shown}
+use Rattle.fetch.specs.Laws.{cell-shown, row-start-lt}
 use Rattle.latch.specs.Held.{heldAt}
-use Rattle.latch.specs.Laws.{held-along}
+use Rattle.latch.specs.Laws.{held-along, held-plain}
 use Rattle.shape.specs.Font.{Font, Whole, fontRefused, positionOf, wordBy}
 use Rattle.shape.specs.Laws.{font-whole}
 use Rattle.video.specs.declared.Scene.{Scene}
@@ -62,7 +62,7 @@ walkOf p unshifted shifted scan = record {
 -- one cell, from its number
 unfoldable pub dotsFor : Walk → (looks words flags : List ℕ) → (number : ℕ) → List ℕ
 dotsFor w looks words flags x =
-    shades (getD looks (x / 256) 0 % 256) (getD looks (x / 256) 0 / 256) (w .width .0)
+    shades (getD looks (x / 256) 0 % 4) (getD looks (x / 256) 0 / 4) (w .width .0)
     (wideOf (wordBy words flags (w .plain) (w .moved) (x % 256)) (w .width .0))
 
 unfoldable pub columnFor : Walk → (row looks words flags : List ℕ) → (c : ℕ) → List ℕ
@@ -164,6 +164,44 @@ valid-next : (p : Page) (chars attrs : List ℕ) (r i : ℕ) → validBy p chars
 unfolding heldBy lastSet fetchAt
 valid-next p chars attrs r i = refl
 
+-- what is valid before a row, or 0 where its first cell sets attributes itself
+unfoldable pub heldFor : Page → (chars attrs : List ℕ) → (row at : ℕ) → ℕ
+heldFor p chars attrs r a = pick (ltb (getD attrs a 0) 128) (heldAt p chars attrs r 0) 0
+
+-- whatever was valid before, the first cell's own byte is valid from there on
+own-byte : (byte v h : ℕ) → 128 ≤ byte → latched byte v ≡ latched byte h
+own-byte byte v h a = rw (le-ltb byte 128 a)
+
+own-last : (f : ℕ → ℕ) (v h n : ℕ) → 128 ≤ f 0 → lastSet f v (suc n) ≡ lastSet f h (suc n)
+unfolding lastSet
+own-last f v h zero a = own-byte (f 0) v h a
+own-last f v h (suc n) a = ap (latched (f (suc n))) (own-last f v h n a)
+
+-- so it makes no difference to the row's cells
+module _ (p : Page) (chars attrs : List ℕ) (r : ℕ) (page : Accepted p) where
+  abbrev made : (held i : ℕ) → ℕ
+  made held = cellBy (readingOf p) chars attrs (bufferOf (p .irs)) held (rowStart p chars r)
+
+  first-at : advanceBy (bufferOf (p .irs)) 0 (rowStart p chars r) ≡ rowStart p chars r
+  first-at = advanceBy-zero (bufferOf (p .irs)) (rowStart p chars r) (row-start-lt p chars page r)
+
+  own-cell : (v h i : ℕ) → fieldMode p ≡ true → 128 ≤ getD attrs (rowStart p chars r) 0 → made v i ≡ made h i
+  unfolding cellBy heldBy lastSet
+  own-cell v h zero m a =
+      let k = contentAt (readingOf p) chars attrs false 0 (rowStart p chars r) in
+      rw first-at (ap (λ (x : ℕ). numberFor (record { code = k .code; attributes = x; here = k .here })) (own-byte (getD attrs (rowStart p chars r) 0) v h a))
+  own-cell v h (suc i) m a =
+      ap (λ (x : ℕ). numberFor (contentAt (readingOf p) chars attrs false x (advanceBy (bufferOf (p .irs)) (suc i) (rowStart p chars r)))) (own-last (λ (j : ℕ). setsOf (fieldMode p) attrs (advanceBy (bufferOf (p .irs)) j (rowStart p chars r))) v h i (rw (m, first-at) a))
+
+  pub held-counts : (n : ℕ) → tab n (made (heldFor p chars attrs r (rowStart p chars r))) ≡ tab n (made (heldAt p chars attrs r 0))
+  unfolding heldFor
+  held-counts n = go (ltb (getD attrs (rowStart p chars r) 0) 128) refl (fieldMode p) refl
+    where
+      go : (t : Bool) → ltb (getD attrs (rowStart p chars r) 0) 128 ≡ t → (m : Bool) → fieldMode p ≡ m → tab n (made (pick t (heldAt p chars attrs r 0) 0)) ≡ tab n (made (heldAt p chars attrs r 0))
+      go true e m f = refl
+      go false e true f = same-tab n _ _ (λ i l. own-cell 0 (heldAt p chars attrs r 0) i f (ltb-false _ _ e))
+      go false e false f = ap (λ (v : ℕ). tab n (made v)) (sym (held-plain p chars attrs f r 0))
+
 -- that cell
 abbrev pub contentBy : Page → (chars attrs : List ℕ) → (r i : ℕ) → Content
 contentBy p chars attrs r i = contentAt (readingOf p) chars attrs false (validBy p chars attrs r i) (fetchAt p chars r i)
@@ -233,16 +271,16 @@ pub record Prepared (b : Board) (chars attrs : List ℕ) (f : Font) (line field 
 pub prepared-of : (b : Board) (chars attrs : List ℕ) (f : Font) (line field : ℕ) {row looks : List ℕ} (beyond above : List ℕ) {t : Timing} {r byte n : ℕ} {k : Code} {wide : Bool} {s : Lines} {w : Walk} {start : Cell} {v : ℕ} {g : Reading} {u : Buffer} {scene : Scene}
     → t ≡ timingOf (b .page .irs) → r ≡ rowFor b line → byte ≡ codeAt (b .page) chars r → k ≡ codeOf byte → s ≡ lines (scanAt (b .page .irs) k line)
     → w ≡ walkOf (b .page) (f .unshifted) (f .shifted) (s .0)
-    → start ≡ cell (rowStart (b .page) chars r) → v ≡ heldAt (b .page) chars attrs r 0 → n ≡ fetchedOf (b .page) chars r → g ≡ readingOf (b .page) → u ≡ bufferOf (b .page .irs)
+    → Accepted (b .page) → start ≡ cell (rowStart (b .page) chars r) → v ≡ heldFor (b .page) chars attrs r (start .address) → n ≡ fetchedOf (b .page) chars r → g ≡ readingOf (b .page) → u ≡ bufferOf (b .page .irs)
     → row ≡ tab n (cellBy g chars attrs u v (start .address)) ++ beyond → scene ≡ sceneOf b (s .0) field → looks ≡ tab 128 (levelsOf scene) ++ above → wide ≡ isWide k
     → Prepared b chars attrs f line field (t .counts .hact .0) w wide row looks
 unfolding timingOf countsOf fetchedOf
-prepared-of b chars attrs f line field beyond above te re be ke se we starts helds ne ge ue row-e scene-e looks-e wide-e = record {
+prepared-of b chars attrs f line field beyond above te re be ke se we page starts helds ne ge ue row-e scene-e looks-e wide-e = record {
   counted = rw te;
   walked = rw (se, ke, be, re) at we;
   widened = rw (wide-e, ke, be, re);
   beyond = beyond;
-  row-is = rw (te, wide-e, ke, be, re) (rw (starts, helds, ge, ue, ne, re) at row-e);
+  row-is = rw (te, wide-e, ke, be, re) ((rw (helds, starts, ge, ue, ne, re) at row-e) ∙ ap (λ (l : List ℕ). l ++ beyond) (held-counts (b .page) chars attrs (rowFor b line) page _));
   above = above;
   looks-is = rw (scene-e, se, ke, be, re) at looks-e;
 }

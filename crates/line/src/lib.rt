@@ -11,7 +11,7 @@ ghost use Rattle.timing.specs.Laws.{Accepted};
 ghost use Rattle.video.specs.At.{lentRefused};
 ghost use Rattle.dots.specs.Half.{shownOf, fetchedFor};
 ghost use Rattle.line.specs.Line.{drawCheck, drawnOf, lineDots, lineLength};
-ghost use Rattle.line.specs.Walk.{lastOf, walkOf, dotsFor, columnFor, Ready, Drawn};
+ghost use Rattle.line.specs.Walk.{lastOf, walkOf, heldFor, dotsFor, columnFor, Ready, Drawn};
 
 // What is the same for all cells of a line: where the scan line stands in the font's two lists, and the width of a cell.
 pub struct Walk {
@@ -21,7 +21,7 @@ pub struct Walk {
 }
 
 // Writes the d dots of one cell, from its number, to the front of out.
-fn put(out: &mut [u8], w: Walk, looks: &[u16], words: &[u16], flags: &[u8], number: u16, d: usize)
+fn put(out: &mut [u8], w: Walk, looks: &[u8], words: &[u16], flags: &[u8], number: u16, d: usize)
     requires { ⌜ (length (now looks) ≡ 128) × (length (now words) ≡ 1152) × (length (now flags) ≡ 128) × (number < 32768) ⌝ }
     requires { ⌜ (d ≡ w .width .0) × (6 ≤ d) × (d ≤ 12) × (d ≤ length (now out)) ⌝ }
     ensures { λ _. ⌜ now (out .exit)
@@ -30,7 +30,7 @@ fn put(out: &mut [u8], w: Walk, looks: &[u16], words: &[u16], flags: &[u8], numb
     let mark = (number / 256) as usize;
     let levels = looks[mark];
     let word = shape::word_by(words, flags, w.plain, w.moved, (number % 256) as u8);
-    dots::write_cell(out, (levels % 256) as u8, (levels / 256) as u8, word, d);
+    dots::write_cell(out, levels % 4, levels / 4, word, d);
 }
 
 // Writes the dots of n cells, each into its own stretch.
@@ -38,7 +38,7 @@ fn cells(
     out: &mut [u8],
     w: Walk,
     row: &[u16],
-    looks: &[u16],
+    looks: &[u8],
     words: &[u16],
     flags: &[u8],
     n: units::Clocks,
@@ -65,7 +65,7 @@ fn columns(
     w: Walk,
     wide: bool,
     row: &[u16],
-    looks: &[u16],
+    looks: &[u8],
     words: &[u16],
     flags: &[u8],
     n: units::Clocks,
@@ -95,6 +95,18 @@ fn walk_of(p: board::Page, unshifted: &[u8], shifted: &[u8], scan: units::Lines)
         moved: shape::position(shifted, scan),
         width,
     }
+}
+
+// What is valid before a row, as far as it counts. A row whose first cell sets attributes needs no search.
+fn held_for(p: board::Page, chars: &[u8], attrs: &[u8], row: u32, start: raster::Cell) -> u8
+    requires { ⌜ (length (now chars) ≡ 16384) × (length (now attrs) ≡ 16384) × (row < 8192) × (start .address < 16384) ⌝ }
+    ensures { λ r. ⌜ r ≡ heldFor p (now (chars .entry)) (now (attrs .entry)) row (start .address) ⌝ }
+{
+    let first = attrs[start.address as usize];
+    if first < 128 {
+        return latch::held_before(p, chars, attrs, row);
+    }
+    0
 }
 
 // 7 for a line that is not visible, 8 for a buffer that is too short; of an accepted page the line's dots are few enough to count.
@@ -149,10 +161,10 @@ pub fn whole_line(
     let scan = video::scan_at(irs, code, line);
     let w = walk_of(page, unshifted, shifted, scan);
     let start = fetch::row_start(page, chars, row);
-    let held = latch::held_at(page, chars, attrs, row, units::Clocks(0));
+    let held = held_for(page, chars, attrs, row, start);
     let n = fetch::fetched_of(page, chars, row);
     let mut row_cells = [0u16; 256];
-    let mut looks = [0u16; 128];
+    let mut looks = [0u8; 128];
     tables::gather(
         &mut row_cells,
         chars,

@@ -3,6 +3,7 @@
 --     same-joined            stretches that agree one by one make the same list
 --     length-joined          n stretches of d are n * d long
 --     join-begins, join-turn, join-ends     the loop's proof, where every stretch is d long: what is left after c turns is `joined c (n - c) f`
+--     join-more              the first of what is left
 --     stretch-inside         stretch c lies within the buffer
 --     join-all               stretches of stretches are stretches
 --     join-element           an element of one of them
@@ -39,9 +40,9 @@ module _ (f : ℕ → List ℕ) (d : ℕ) (each : (c : ℕ) → length (f c) ≡
   length-joined c (suc n) =
       rw (length-append (f c) (joined (suc c) n f), each c, length-joined (suc c) n, suc-mul n d) (omega arith)
 
-  more : (c n : ℕ) → c < n → joined c (n - c) f ≡ f c ++ joined (c + 1) (n - (c + 1)) f
+  pub join-more : (c n : ℕ) → c < n → joined c (n - c) f ≡ f c ++ joined (c + 1) (n - (c + 1)) f
   unfolding joined
-  more c n h = let e : n - c ≡ suc (n - (c + 1)) = omega arith in rw (e, add-one c)
+  join-more c n h = let e : n - c ≡ suc (n - (c + 1)) = omega arith in rw (e, add-one c)
 
   none : (c n : ℕ) → n ≤ c → joined c (n - c) f ≡ []
   unfolding joined
@@ -56,7 +57,7 @@ module _ (f : ℕ → List ℕ) (d : ℕ) (each : (c : ℕ) → length (f c) ≡
   join-turn {out = out} ys c n g h l q =
       let room : c * d + d ≤ length out = omega (arith, g .same, stretch-inside c n d _ h l) in
       let next : (c + 1) * d ≡ c * d + d = omega (arith, add-mul c 1 d, one-mul d) in
-      rw (lent out ys (f c) (c * d) d room q, next) (fill-part (f c) d (each c) room (rw (more c n h) at g))
+      rw (lent out ys (f c) (c * d) d room q, next) (fill-part (f c) d (each c) room (rw (join-more c n h) at g))
 
   pub join-ends : {final out₀ out : List ℕ} (c n : ℕ) → Filling final out₀ (n * d) out (c * d) (joined c (n - c) f) → c ≤ n → n ≤ c → out ≡ final
   join-ends c n g l h = let e : c ≡ n = omega arith in fill-end (rw (none c n h, e) at g)

@@ -1,5 +1,5 @@
 -- The picture as the drawer makes it is the picture of `Picture.antt`. Assumes nothing.
-use Prim.Native.Nat.{ℕ, _+_, _-_, _*_, _/_, _%_, _≤_, _<_}
+use Prim.Native.Nat.{ℕ, _+_, _*_, _/_, _%_, _≤_, _<_}
 use mathlib.Core.Path.{_≡_, refl, sym, ap, _∙_}
 use mathlib.Core.Bool.{true, false}
 use mathlib.Core.List.{List, _++_}
@@ -11,6 +11,7 @@ use lib.Dec.{ltb}
 use lib.ListN.{length, getD, drop}
 use Rattle.lists.specs.Choice.{neither}
 use Rattle.lists.specs.Join.{joined, same-joined, join-all}
+use Rattle.lists.specs.Tab.{tab}
 use Rattle.refusal.specs.declared.Refusal.the-variants.{Done}
 use Rattle.refusal.specs.Number.{doneOf}
 use Rattle.raster.specs.Wide.{codeOf, isWide}
@@ -26,9 +27,10 @@ use Rattle.shape.specs.Font.{Font, Whole, fontRefused}
 use Rattle.shape.specs.Laws.{font-whole}
 use Rattle.video.specs.At.{Content, lentRefused, scanOf, readingOf, scanDots}
 use Rattle.dots.specs.Half.{same-shown}
-use Rattle.tables.specs.Tables.{markOf, numberFor, cellBy, spreadBy, spreadsAt, lastSpreads, levelsAt}
+use Rattle.dots.specs.Stores.{inkOf}
+use Rattle.tables.specs.Tables.{markOf, numberFor, cellBy, shownWord, wordsAt, levelsAt}
 use Rattle.tables.specs.Marks.{mark-lt}
-use Rattle.tables.specs.Laws.{shown-lt, levels-at, spread-at, spread-small, code-of, mark-of, by-spreads, last-is}
+use Rattle.tables.specs.Laws.{shown-lt, levels-at, levels-few, word-at, code-of, mark-of, by-word}
 use Rattle.line.specs.Line.{lineDots, lineLength}
 use Rattle.line.specs.Length.{length-line}
 use Rattle.line.specs.Walk.{Drawn, validBy, contentBy, column-content}
@@ -71,17 +73,15 @@ module _ (b : Board) (chars attrs : List ℕ) (f : Font) (field : ℕ) (out₀ :
 
 -- ---- the tables that the drawer has made before its first row
 
-pub record Made (b : Board) (f : Font) (field : ℕ) (low high looks : List ℕ) : Type 0 where
-  pub lows : List ℕ
-  pub low-is : low ≡ joined 0 (linesOf (b .page .irs)) (spreadsAt f (b .page .video .dots .0) 0) ++ lows
-  pub highs : List ℕ
-  pub high-is : 8 < b .page .video .dots .0 → high ≡ joined 0 (linesOf (b .page .irs)) (spreadsAt f (b .page .video .dots .0) (b .page .video .dots .0 - 8)) ++ highs
+pub record Made (b : Board) (f : Font) (field : ℕ) (shown looks : List ℕ) : Type 0 where
+  pub beyond : List ℕ
+  pub shown-is : shown ≡ joined 0 (linesOf (b .page .irs)) (wordsAt f (b .page .video .dots .0)) ++ beyond
   pub rest : List ℕ
   pub looks-is : looks ≡ joined 0 (linesOf (b .page .irs)) (levelsAt b field) ++ rest
 
 -- ---- a cell, a line, the picture
 
-module _ (b : Board) (chars attrs : List ℕ) (f : Font) (field : ℕ) (low high looks : List ℕ) (page : Accepted (b .page)) (made : Made b f field low high looks)
+module _ (b : Board) (chars attrs : List ℕ) (f : Font) (field : ℕ) (shown looks : List ℕ) (page : Accepted (b .page)) (made : Made b f field shown looks)
     (bytes : (i : ℕ) → getD chars i 0 < 256) where
   abbrev d : ℕ
   d = b .page .video .dots .0
@@ -89,17 +89,15 @@ module _ (b : Board) (chars attrs : List ℕ) (f : Font) (field : ℕ) (low high
   abbrev n : ℕ
   n = linesOf (b .page .irs)
 
-  same-cell : (s : ℕ) (k : Content) → s < n → k .code < 256 → cellDotsOf low high looks d s (numberFor k) ≡ scanDots b f s field k
-  unfolding cellDotsOf spreadBy
+  same-cell : (s : ℕ) (k : Content) → s < n → k .code < 256 → cellDotsOf shown looks d s (numberFor k) ≡ scanDots b f s field k
+  unfolding cellDotsOf shownWord
   same-cell s k h l =
-      rw (code-of k l, mark-of k l)
-      (by-spreads b f s field page k (getD looks (s * 128 + markOf (k .attributes) (k .here)) 0)
-      (levels-at b field looks (made .rest) n s (markOf (k .attributes) (k .here)) (made .looks-is) h (mark-lt (k .attributes) (k .here))) _ _
-      (spread-at f d 0 low (made .lows) n s (k .code) (made .low-is) h l)
-      (λ g. spread-at f d (d - 8) high (made .highs) n s (k .code) (made .high-is g) h l))
+      rw (code-of k l, mark-of k l, word-at f d shown (made .beyond) n s (k .code) (made .shown-is) h l)
+      (by-word b f s field page k (getD looks (s * 128 + markOf (k .attributes) (k .here)) 0)
+      (levels-at b field looks (made .rest) n s (markOf (k .attributes) (k .here)) (made .looks-is) h (mark-lt (k .attributes) (k .here))))
 
   same-line : (r s : ℕ) → s < n
-      → rowLine (planOf (b .page)) (codeOf (codeAt (b .page) chars r)) chars attrs low high looks (heldAt (b .page) chars attrs r 0) (rowStart (b .page) chars r) s ≡ lineDots b chars attrs f (r * n + s) field
+      → rowLine (planOf (b .page)) (codeOf (codeAt (b .page) chars r)) chars attrs shown looks (heldAt (b .page) chars attrs r 0) (rowStart (b .page) chars r) s ≡ lineDots b chars attrs f (r * n + s) field
   unfolding rowLine planOf cellBy lineDots fetchAt
   same-line r s h =
       let q : (r * n + s) / n ≡ r = digits-div r h in
@@ -111,43 +109,43 @@ module _ (b : Board) (chars attrs : List ℕ) (f : Font) (field : ℕ) (low high
       (λ i v. same-cell scan (contentBy (b .page) chars attrs r i) (scan-lt k n s h) (shown-lt (readingOf (b .page)) chars attrs (validBy (b .page) chars attrs r i) (fetchAt (b .page) chars r i) bytes)) c (omega arith)
       ∙ (rw (q, m) at (column-content b chars attrs f (r * n + s) field c (omega arith))))
 
-  same-row : (r : ℕ) → rowDrawn (planOf (b .page)) (b .page) chars attrs low high looks r ≡ joined 0 n (λ (s : ℕ). lineDots b chars attrs f (r * n + s) field)
+  same-row : (r : ℕ) → rowDrawn (planOf (b .page)) (b .page) chars attrs shown looks r ≡ joined 0 n (λ (s : ℕ). lineDots b chars attrs f (r * n + s) field)
   unfolding rowDrawn rowFrom planOf
   same-row r = same-joined 0 n _ _ (λ s l u. same-line r s (omega arith))
 
-  same-picture : joined 0 (rowsOf (b .page .irs)) (rowDrawn (planOf (b .page)) (b .page) chars attrs low high looks) ≡ pictureDots b chars attrs f field
+  same-picture : joined 0 (rowsOf (b .page .irs)) (rowDrawn (planOf (b .page)) (b .page) chars attrs shown looks) ≡ pictureDots b chars attrs f field
   unfolding pictureDots
   same-picture =
       same-joined 0 (rowsOf (b .page .irs)) _ _ (λ r l u. same-row r)
       ∙ join-all (λ (line : ℕ). lineDots b chars attrs f line field) n (rowsOf (b .page .irs))
 
   -- the drawer's own words
-  pub pictured : (p : Plan) (out out₀ : List ℕ) → p ≡ planOf (b .page) → out ≡ joined 0 (p .rows) (rowDrawn p (b .page) chars attrs low high looks) ++ drop (p .rows * p .size) out₀
+  pub pictured : (p : Plan) (out out₀ : List ℕ) → p ≡ planOf (b .page) → out ≡ joined 0 (p .rows) (rowDrawn p (b .page) chars attrs shown looks) ++ drop (p .rows * p .size) out₀
       → out ≡ pictureDots b chars attrs f field ++ drop (pictureLength (b .page)) out₀
   unfolding planOf
   pictured p out out₀ q e =
       let k : rowsOf (b .page .irs) * (n * (hactOf (b .page .irs) * d)) ≡ pictureLength (b .page) = sym (mul-assoc (rowsOf (b .page .irs)) n (hactOf (b .page .irs) * d)) in
       (rw q at e)
-      ∙ ap (λ (i : ℕ). joined 0 (rowsOf (b .page .irs)) (rowDrawn (planOf (b .page)) (b .page) chars attrs low high looks) ++ drop i out₀) k
+      ∙ ap (λ (i : ℕ). joined 0 (rowsOf (b .page .irs)) (rowDrawn (planOf (b .page)) (b .page) chars attrs shown looks) ++ drop i out₀) k
       ∙ ap (λ (l : List ℕ). l ++ drop (pictureLength (b .page)) out₀) same-picture
 
 -- what the drawer asks of its tables
-pub sheet-of : (b : Board) (f : Font) (field : ℕ) (low high looks : List ℕ) → Accepted (b .page) → Made b f field low high looks
-    → length low ≡ 4096 → length high ≡ 4096 → length looks ≡ 2048 → (p : Plan) → p ≡ planOf (b .page) → Sheet p low high looks
+pub sheet-of : (b : Board) (f : Font) (field : ℕ) (shown looks inks : List ℕ) → Accepted (b .page) → Made b f field shown looks
+    → length shown ≡ 4096 → length looks ≡ 2048 → inks ≡ tab 288 inkOf → (p : Plan) → p ≡ planOf (b .page) → Sheet p shown looks inks
 unfolding planOf
-sheet-of b f field low high looks page made ll lh lk p q = rw q (record {
+sheet-of b f field shown looks inks page made ls lk ink p q = rw q (record {
   least = page .least;
   most = page .most;
+  some = omega arith;
   few = omega arith;
   short = omega arith;
   width-is = refl;
   size-is = refl;
   bounded = buffer-bounded (b .page .irs);
-  low-all = ll;
-  high-all = lh;
+  shown-all = ls;
   looks-all = lk;
-  low-le = λ s i h l. rw (spread-at f (b .page .video .dots .0) 0 low (made .lows) _ s i (made .low-is) h l) (spread-small _ _ _ _ _ _ _);
-  high-le = λ g s i h l. rw (spread-at f (b .page .video .dots .0) (b .page .video .dots .0 - 8) high (made .highs) _ s i (made .high-is g) h l) (spread-small _ _ _ _ _ _ _);
+  looks-few = λ s i h l. rw (levels-at b field looks (made .rest) _ s i (made .looks-is) h l) (levels-few b field s i);
+  inks-are = ink;
 })
 
 -- ---- what the plan has
@@ -181,18 +179,10 @@ module _ (p : Plan) (page : Page) (q : p ≡ planOf page) where
       let l : linesOf (page .irs) ≤ 16 = omega arith in
       rw q (mul-le-mul r (mul-le-mul l (dots-bound page a)), visible-bound (page .irs), mul-le-mul r h)
 
-pub made-of : (b : Board) (f : Font) (field : ℕ) (low high looks lows high₀ rest : List ℕ) (p : Plan) → p ≡ planOf (b .page)
-    → low ≡ joined 0 (p .lines .0) (spreadsAt f (p .dots .0) 0) ++ lows → high ≡ lastSpreads f (p .lines .0) (p .dots .0) high₀
-    → looks ≡ joined 0 (p .lines .0) (levelsAt b field) ++ rest → Made b f field low high looks
+pub made-of : (b : Board) (f : Font) (field : ℕ) (shown looks beyond rest : List ℕ) (p : Plan) → p ≡ planOf (b .page)
+    → shown ≡ joined 0 (p .lines .0) (wordsAt f (p .dots .0)) ++ beyond → looks ≡ joined 0 (p .lines .0) (levelsAt b field) ++ rest → Made b f field shown looks
 unfolding planOf
-made-of b f field low high looks lows high₀ rest p q e1 e2 e3 = record {
-  lows = lows;
-  low-is = rw q at e1;
-  highs = drop (linesOf (b .page .irs) * 256) high₀;
-  high-is = λ h. (rw q at e2) ∙ last-is f (linesOf (b .page .irs)) (b .page .video .dots .0) high₀ h;
-  rest = rest;
-  looks-is = rw q at e3;
-}
+made-of b f field shown looks beyond rest p q e1 e2 = record { beyond = beyond; shown-is = rw q at e1; rest = rest; looks-is = rw q at e2 }
 
 -- ---- the picture line by line
 

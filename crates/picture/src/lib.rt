@@ -10,11 +10,12 @@ ghost use Rattle.shape.specs.Font.{fontNow, lentFont};
 ghost use Rattle.timing.specs.Laws.{Accepted};
 ghost use Rattle.video.specs.At.{lentRefused};
 ghost use Rattle.raster.specs.Wide.{isWide};
+ghost use Rattle.dots.specs.Stores.{reachOf};
 ghost use Rattle.dots.specs.Half.{shownOf, fetchedFor};
 ghost use Rattle.tables.specs.Tables.{heldBy};
 ghost use Rattle.line.specs.Walk.{lastOf};
 ghost use Rattle.picture.specs.Picture.{pictureCheck, pictureDots, pictureLength, picturedOf};
-ghost use Rattle.picture.specs.Plan.{planOf, cellFrom, lineFrom, rowFrom, rowDrawn, Sheet, Numbered};
+ghost use Rattle.picture.specs.Plan.{planOf, cellDotsOf, cellFrom, lineFrom, rowFrom, rowDrawn, Sheet, Numbered};
 ghost use Rattle.picture.specs.Agree.{Pictured};
 
 // What is the same for all rows: columns, dots a cell, lines a row, rows, the bytes of a line and of a row, the buffer, how cells are read.
@@ -29,43 +30,72 @@ pub struct Plan {
     pub reading: video::Reading,
 }
 
-// So many cells of a line. No branch goes by what a cell is.
+// One cell from its number, on a scan line. No branch goes by what a cell is.
+fn put(
+    out: &mut [u8],
+    p: Plan,
+    shown: &[u16],
+    looks: &[u8],
+    inks: &[u64],
+    scan: units::Lines,
+    number: u16,
+    tight: bool,
+)
+    requires { ⌜ Sheet p (now shown) (now looks) (now inks) × (scan .0 < p .lines .0) × (number < 32768) ⌝ }
+    requires { ⌜ reachOf tight (p .dots .0) ≤ length (now out) ⌝ }
+    ensures { λ _. ⌜ now (out .exit)
+        ≡ cellDotsOf (now (shown .entry)) (now (looks .entry)) (reachOf tight (p .dots .0)) (scan .0) number
+        ++ drop (reachOf tight (p .dots .0)) (now (out .entry)) ⌝ }
+{
+    let s = scan.0 as usize;
+    let code = s * 256 + (number % 256) as usize;
+    let mark = s * 128 + (number / 256) as usize;
+    dots::put_cell(
+        out,
+        inks,
+        looks[mark],
+        shown[code],
+        p.dots.0 as usize,
+        tight,
+    );
+}
+
+// So many cells of a line. All but the last may be stored with some dots too many, over which the next cell is drawn.
 fn draw_cells(
     out: &mut [u8],
     p: Plan,
     cells: &[u16],
-    low: &[u64],
-    high: &[u64],
-    looks: &[u16],
+    shown: &[u16],
+    looks: &[u8],
+    inks: &[u64],
     scan: units::Lines,
     n: units::Clocks,
 )
-    requires { ⌜ Sheet p (now low) (now high) (now looks) × (length (now cells) ≡ 256) × ((i : ℕ) → i < n .0 → getD (now cells) i 0 < 32768) ⌝ }
-    requires { ⌜ (scan .0 < p .lines .0) × (n .0 ≤ 256) × (n .0 * p .dots .0 ≤ length (now out)) ⌝ }
+    requires { ⌜ Sheet p (now shown) (now looks) (now inks) × (length (now cells) ≡ 256) × ((i : ℕ) → i < n .0 → getD (now cells) i 0 < 32768) ⌝ }
+    requires { ⌜ (scan .0 < p .lines .0) × (0 < n .0) × (n .0 ≤ 256) × (n .0 * p .dots .0 ≤ length (now out)) ⌝ }
     ensures { λ _. ⌜ now (out .exit)
-        ≡ joined 0 (n .0) (cellFrom (now (cells .entry)) (now (low .entry)) (now (high .entry)) (now (looks .entry)) (p .dots .0) (scan .0))
+        ≡ joined 0 (n .0) (cellFrom (now (cells .entry)) (now (shown .entry)) (now (looks .entry)) (p .dots .0) (scan .0))
         ++ drop (n .0 * p .dots .0) (now (out .entry)) ⌝ }
 {
-    let count = n.0 as usize;
+    let last = n.0 as usize - 1;
     let d = p.dots.0 as usize;
-    let s = scan.0 as usize;
     let mut i = 0;
-    while i < count {
-        let number = cells[i];
-        let code = s * 256 + (number % 256) as usize;
-        let mark = s * 128 + (number / 256) as usize;
-        let levels = looks[mark];
+    while i < last {
         let a = i * d;
-        dots::put_cell(
-            &mut out[a..],
-            low[code],
-            high[code],
-            (levels % 256) as u8,
-            (levels / 256) as u8,
-            d,
-        );
+        put(&mut out[a..], p, shown, looks, inks, scan, cells[i], false);
         i += 1;
     }
+    let e = last * d;
+    put(
+        &mut out[e..],
+        p,
+        shown,
+        looks,
+        inks,
+        scan,
+        cells[last],
+        true,
+    );
 }
 
 // One line from its row's cells: of a row of double width its cells first, and then each dot twice.
@@ -74,25 +104,25 @@ fn draw_columns(
     p: Plan,
     wide: bool,
     cells: &[u16],
-    low: &[u64],
-    high: &[u64],
-    looks: &[u16],
+    shown: &[u16],
+    looks: &[u8],
+    inks: &[u64],
     scan: units::Lines,
 )
-    requires { ⌜ Sheet p (now low) (now high) (now looks) × (length (now cells) ≡ 256) × Numbered wide p (now cells) ⌝ }
+    requires { ⌜ Sheet p (now shown) (now looks) (now inks) × (length (now cells) ≡ 256) × Numbered wide p (now cells) ⌝ }
     requires { ⌜ (scan .0 < p .lines .0) × (p .width ≤ length (now out)) ⌝ }
     ensures { λ _. ⌜ now (out .exit)
-        ≡ joined 0 (p .columns .0) (shownOf wide (cellFrom (now (cells .entry)) (now (low .entry)) (now (high .entry)) (now (looks .entry)) (p .dots .0) (scan .0)))
+        ≡ joined 0 (p .columns .0) (shownOf wide (cellFrom (now (cells .entry)) (now (shown .entry)) (now (looks .entry)) (p .dots .0) (scan .0)))
         ++ drop (p .width) (now (out .entry)) ⌝ }
 {
     let n = p.columns;
     if wide {
         let mut halves = [0u8; 1536];
         let count = units::Clocks((n.0 + 1) / 2);
-        draw_cells(&mut halves, p, cells, low, high, looks, scan, count);
+        draw_cells(&mut halves, p, cells, shown, looks, inks, scan, count);
         dots::double(out, &halves, p.width);
     } else {
-        draw_cells(out, p, cells, low, high, looks, scan, n);
+        draw_cells(out, p, cells, shown, looks, inks, scan, n);
     }
 }
 
@@ -102,14 +132,14 @@ fn draw_lines(
     p: Plan,
     k: raster::Code,
     cells: &[u16],
-    low: &[u64],
-    high: &[u64],
-    looks: &[u16],
+    shown: &[u16],
+    looks: &[u8],
+    inks: &[u64],
 )
-    requires { ⌜ Sheet p (now low) (now high) (now looks) × (length (now cells) ≡ 256) × Numbered (isWide k) p (now cells) ⌝ }
+    requires { ⌜ Sheet p (now shown) (now looks) (now inks) × (length (now cells) ≡ 256) × Numbered (isWide k) p (now cells) ⌝ }
     requires { ⌜ p .lines .0 * p .width ≤ length (now out) ⌝ }
     ensures { λ _. ⌜ now (out .exit)
-        ≡ joined 0 (p .lines .0) (lineFrom p k (now (cells .entry)) (now (low .entry)) (now (high .entry)) (now (looks .entry)))
+        ≡ joined 0 (p .lines .0) (lineFrom p k (now (cells .entry)) (now (shown .entry)) (now (looks .entry)))
         ++ drop (p .lines .0 * p .width) (now (out .entry)) ⌝ }
 {
     let n = p.lines.0 as usize;
@@ -119,7 +149,7 @@ fn draw_lines(
     while s < n {
         let a = s * width;
         let scan = video::scan_of(k, p.lines, units::Lines(s as u32));
-        draw_columns(&mut out[a..], p, wide, cells, low, high, looks, scan);
+        draw_columns(&mut out[a..], p, wide, cells, shown, looks, inks, scan);
         s += 1;
     }
 }
@@ -132,17 +162,17 @@ fn draw_row(
     n: units::Clocks,
     chars: &[u8],
     attrs: &[u8],
-    low: &[u64],
-    high: &[u64],
-    looks: &[u16],
+    shown: &[u16],
+    looks: &[u8],
+    inks: &[u64],
     start: raster::Cell,
     held: u8,
 ) -> u8
-    requires { ⌜ Sheet p (now low) (now high) (now looks) × (length (now chars) ≡ 16384) × (length (now attrs) ≡ 16384) ⌝ }
+    requires { ⌜ Sheet p (now shown) (now looks) (now inks) × (length (now chars) ≡ 16384) × (length (now attrs) ≡ 16384) ⌝ }
     requires { ⌜ (n .0 ≡ fetchedFor (isWide k) (p .columns .0)) × (start .address < 16384) × (p .lines .0 * p .width ≤ length (now out)) ⌝ }
     ensures { λ r. ⌜ (r ≡ heldBy (p .reading .runs) (now (attrs .entry)) (p .buffer) held (start .address) (fetchedFor (isWide k) (p .columns .0)))
         × (now (out .exit)
-        ≡ rowFrom p k (now (chars .entry)) (now (attrs .entry)) (now (low .entry)) (now (high .entry)) (now (looks .entry)) held (start .address)
+        ≡ rowFrom p k (now (chars .entry)) (now (attrs .entry)) (now (shown .entry)) (now (looks .entry)) held (start .address)
         ++ drop (p .lines .0 * p .width) (now (out .entry))) ⌝ }
 {
     let mut cells = [0u16; 256];
@@ -158,7 +188,7 @@ fn draw_row(
         held,
         n.0 as usize,
     );
-    draw_lines(out, p, k, &cells, low, high, looks);
+    draw_lines(out, p, k, &cells, shown, looks, inks);
     valid
 }
 
@@ -169,14 +199,14 @@ fn draw_rows(
     page: board::Page,
     chars: &[u8],
     attrs: &[u8],
-    low: &[u64],
-    high: &[u64],
-    looks: &[u16],
+    shown: &[u16],
+    looks: &[u8],
+    inks: &[u64],
 )
-    requires { ⌜ Sheet p (now low) (now high) (now looks) × (length (now chars) ≡ 16384) × (length (now attrs) ≡ 16384) ⌝ }
+    requires { ⌜ Sheet p (now shown) (now looks) (now inks) × (length (now chars) ≡ 16384) × (length (now attrs) ≡ 16384) ⌝ }
     requires { ⌜ Accepted page × (p ≡ planOf page) × (p .rows * p .size ≤ length (now out)) ⌝ }
     ensures { λ _. ⌜ now (out .exit)
-        ≡ joined 0 (p .rows) (rowDrawn p page (now (chars .entry)) (now (attrs .entry)) (now (low .entry)) (now (high .entry)) (now (looks .entry)))
+        ≡ joined 0 (p .rows) (rowDrawn p page (now (chars .entry)) (now (attrs .entry)) (now (shown .entry)) (now (looks .entry)))
         ++ drop (p .rows * p .size) (now (out .entry)) ⌝ }
 {
     let n = p.rows;
@@ -194,9 +224,9 @@ fn draw_rows(
             fetch::fetched_of(page, chars, r),
             chars,
             attrs,
-            low,
-            high,
+            shown,
             looks,
+            inks,
             start,
             held,
         );
@@ -270,13 +300,13 @@ fn by_rows(
     let page = b.page;
     let lines = p.lines;
     let d = p.dots.0 as usize;
-    let mut low = [0u64; 4096];
-    let mut high = [0u64; 4096];
-    let mut looks = [0u16; 2048];
-    tables::fill_spreads(&mut low, words, flags, unshifted, shifted, lines, d, 0);
-    tables::fill_last(&mut high, words, flags, unshifted, shifted, lines, d);
+    let mut shown = [0u16; 4096];
+    let mut looks = [0u8; 2048];
+    let mut inks = [0u64; 288];
+    tables::fill_words(&mut shown, words, flags, unshifted, shifted, lines, d);
     tables::fill_looks(&mut looks, b, field, lines);
-    draw_rows(out, p, page, chars, attrs, &low, &high, &looks);
+    dots::inks(&mut inks);
+    draw_rows(out, p, page, chars, attrs, &shown, &looks, &inks);
 }
 
 // The picture line by line.

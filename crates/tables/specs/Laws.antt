@@ -1,13 +1,12 @@
 -- What a drawer makes of a cell's number and the tables is what the scan line makes of the cell. Assumes nothing.
-use Prim.Native.Nat.{ℕ, _+_, _*_, _/_, _%_, _-_, _^_, _≤_, _<_}
+use Prim.Native.Nat.{ℕ, _+_, _*_, _/_, _%_, _≤_, _<_}
 use mathlib.Core.Path.{_≡_, refl, sym, ap, ap₂, _∙_}
 use mathlib.Core.Bool.{Bool, true, false, _&&_}
 use mathlib.Core.List.{List, _++_}
-use native.Mathlib.Nat.{div-one, zero-div}
 use native.Mathlib.Numerals.{add-one}
 use native.Mathlib.Omega.{arith}
 use borrow.Author.Tests.{lt-ltb}
-use lib.Dec.{ltb, leb}
+use lib.Dec.{ltb, leb, eqb}
 use lib.ListN.{length, getD, drop, length-append, length-drop, List·getD-append}
 use lib.Seq.{drop-at, drop-append-add, drop-drop}
 use Rattle.lists.specs.Choice.{pick, pick-lt}
@@ -27,54 +26,48 @@ use Rattle.video.specs.declared.Reading.{Reading}
 use Rattle.video.specs.Scene.{sceneOf}
 use Rattle.video.specs.Look.{lookOf}
 use Rattle.video.specs.At.{Content, contentAt, scanDots}
-use Rattle.dots.specs.Stores.{underOf, wideOf, spreadOf, dotsBy}
+use Rattle.dots.specs.Stores.{wideOf}
 use Rattle.dots.specs.Width.{shades, cell-shades}
-use Rattle.dots.specs.Bytes.{spread-ones}
-use Rattle.dots.specs.Spread.{dots-shades}
-use Rattle.tables.specs.Tables.{markOf, numberFor, heldBy, cellBy, levelsBy, levelsOf, levelsAt, partOf, noDots, spreadBy, spreadsAt, lastSpreads}
-use Rattle.tables.specs.Marks.{mark-look, mark-lt, symbol-byte, under-byte, symbol-of, under-of}
+use Rattle.tables.specs.Tables.{markOf, numberFor, heldBy, cellBy, levelsBy, levelsOf, levelsAt, noWord, shownWord, wordsAt}
+use Rattle.tables.specs.Marks.{mark-look, mark-lt, levels-lt, symbol-of, under-of}
 
-pub length-spreads : (f : Font) (d from s : ℕ) → length (spreadsAt f d from s) ≡ 256
-unfolding spreadsAt
-length-spreads f d from s = length-tab 256 _
+pub length-words : (f : Font) (d s : ℕ) → length (wordsAt f d s) ≡ 256
+unfolding wordsAt
+length-words f d s = length-tab 256 _
 
 pub length-levels : (b : Board) (field s : ℕ) → length (levelsAt b field s) ≡ 128
 unfolding levelsAt
 length-levels b field s = length-tab 128 _
 
-pub spread-small : (words flags : List ℕ) (plain moved d from code : ℕ) → spreadBy words flags plain moved d from code ≤ 72340172838076673
-unfolding spreadBy
-spread-small words flags plain moved d from code = spread-ones _
-
 -- a code below 128 shows nothing
-zero-part : (t : Bool) (n : ℕ) → pick t (2 * 0) 0 / n ≡ 0
-zero-part true n = zero-div n
-zero-part false n = zero-div n
+no-bits : (t : Bool) → 0 ≡ pick t (2 * 0) 0
+no-bits true = refl
+no-bits false = refl
 
-module _ (words flags : List ℕ) (plain moved d from : ℕ) where
-  unshown : (code : ℕ) → code < 128 → noDots code ≡ spreadBy words flags plain moved d from code
-  unfolding noDots spreadBy partOf wordBy wideOf spreadOf
-  unshown code h = rw (lt-ltb code 128 h, zero-part (ltb 10 d) (2 ^ from))
+module _ (words flags : List ℕ) (plain moved d : ℕ) where
+  unshown : (code : ℕ) → code < 128 → noWord code ≡ shownWord words flags plain moved d code
+  unfolding noWord shownWord wordBy wideOf
+  unshown code h = rw (lt-ltb code 128 h) (no-bits (ltb 10 d))
 
-  low-codes : tab 128 noDots ≡ tab 128 (spreadBy words flags plain moved d from)
+  low-codes : tab 128 noWord ≡ tab 128 (shownWord words flags plain moved d)
   low-codes = same-tab 128 _ _ unshown
 
   -- a table that was begun with these
-  module _ (t t1 : List ℕ) (room : 256 ≤ length t) (p : t1 ≡ tab 128 noDots ++ drop 128 t) where
+  module _ (t t1 : List ℕ) (room : 256 ≤ length t) (p : t1 ≡ tab 128 noWord ++ drop 128 t) where
     pub begun-room : 256 ≤ length t1
     begun-room =
         let e : length t1 ≡ length t = ap length p ∙ simp (length-append, length-drop, length-tab) (omega arith) in
         omega (arith, e)
 
-    pub begun : t1 ≡ tab 128 (spreadBy words flags plain moved d from) ++ drop 128 t1
+    pub begun : t1 ≡ tab 128 (shownWord words flags plain moved d) ++ drop 128 t1
     begun =
-        let back : drop 128 t1 ≡ drop 128 t = rw p (drop-at (tab 128 noDots) (drop 128 t) 128 (length-tab 128 noDots)) in
+        let back : drop 128 t1 ≡ drop 128 t = rw p (drop-at (tab 128 noWord) (drop 128 t) 128 (length-tab 128 noWord)) in
         p ∙ ap₂ (λ (a b : List ℕ). a ++ b) low-codes (sym back)
 
-    pub ended : (out : List ℕ) → out ≡ tab 256 (spreadBy words flags plain moved d from) ++ drop 256 t1 → out ≡ tab 256 (spreadBy words flags plain moved d from) ++ drop 256 t
+    pub ended : (out : List ℕ) → out ≡ tab 256 (shownWord words flags plain moved d) ++ drop 256 t1 → out ≡ tab 256 (shownWord words flags plain moved d) ++ drop 256 t
     ended out q =
-        let a : List ℕ = tab 128 noDots in
-        let k : length a ≡ 128 = length-tab 128 noDots in
+        let a : List ℕ = tab 128 noWord in
+        let k : length a ≡ 128 = length-tab 128 noWord in
         let back : drop 256 t1 ≡ drop 256 t = (rw p (ap (λ (i : ℕ). drop (i + 128) (a ++ drop 128 t)) (sym k)) ∙ drop-append-add a (drop 128 t) 128 ∙ drop-drop 128 128 t) in
         q ∙ rw back
 
@@ -133,12 +126,17 @@ pub levels-at : (b : Board) (field : ℕ) (xs rest : List ℕ) (n s i : ℕ) →
 unfolding levelsAt
 levels-at b field xs rest n s i e h l = join-element (levelsAt b field) 128 (length-levels b field) xs rest n s i e h l ∙ getD-tab 128 _ i l
 
-pub spread-at : (f : Font) (d from : ℕ) (xs rest : List ℕ) (n s i : ℕ) → xs ≡ joined 0 n (spreadsAt f d from) ++ rest → s < n → i < 256
-    → getD xs (s * 256 + i) 0 ≡ spreadBy (f .words) (f .flags) (positionOf (f .unshifted) s) (positionOf (f .shifted) s) d from i
-unfolding spreadsAt
-spread-at f d from xs rest n s i e h l = join-element (spreadsAt f d from) 256 (length-spreads f d from) xs rest n s i e h l ∙ getD-tab 256 _ i l
+pub word-at : (f : Font) (d : ℕ) (xs rest : List ℕ) (n s i : ℕ) → xs ≡ joined 0 n (wordsAt f d) ++ rest → s < n → i < 256
+    → getD xs (s * 256 + i) 0 ≡ shownWord (f .words) (f .flags) (positionOf (f .unshifted) s) (positionOf (f .shifted) s) d i
+unfolding wordsAt
+word-at f d xs rest n s i e h l = join-element (wordsAt f d) 256 (length-words f d) xs rest n s i e h l ∙ getD-tab 256 _ i l
 
--- a cell from its mark and its word, as the line draws it, and from its spread dots, as the picture does
+-- the levels of a mark on a scan line are those of one of sixteen looks
+pub levels-few : (b : Board) (field s i : ℕ) → levelsOf (sceneOf b s field) i < 16
+unfolding levelsOf
+levels-few b field s i = levels-lt b s field i (sceneOf b s field .gate && eqb (i / 64 % 2) 1)
+
+-- a cell from its mark and its word
 module _ (b : Board) (f : Font) (scan field : ℕ) (a : Accepted (b .page)) (k : Content) (v : ℕ)
     (e : v ≡ levelsOf (sceneOf b scan field) (markOf (k .attributes) (k .here))) where
   abbrev d : ℕ
@@ -156,24 +154,8 @@ module _ (b : Board) (f : Font) (scan field : ℕ) (a : Accepted (b .page)) (k :
   levelled : v ≡ levelsBy look
   levelled = e ∙ mark-look (sceneOf b scan field) (k .attributes) (k .here)
 
-  pub by-word : shades (v % 256) (v / 256) d (wideOf word d) ≡ scanDots b f scan field k
+  pub by-word : shades (v % 4) (v / 4) d (wideOf word d) ≡ scanDots b f scan field k
   unfolding scanDots wordOf
   by-word =
       rw (levelled, symbol-of b scan field (k .attributes) here, under-of b scan field (k .attributes) here)
       (cell-shades look word d (by-small _ _ _ _ _) (a .most))
-
-  pub by-spreads : (low high : ℕ) → low ≡ spreadOf 8 (partOf word d 0) → (8 < d → high ≡ spreadOf 8 (partOf word d (d - 8)))
-      → dotsBy low high (v % 256) (v / 256) d ≡ scanDots b f scan field k
-  unfolding partOf
-  by-spreads low high e1 e2 =
-      let z : low ≡ spreadOf 8 (wideOf word d) = rw (div-one (wideOf word d)) at e1 in
-      rw (levelled, symbol-of b scan field (k .attributes) here, under-of b scan field (k .attributes) here)
-      (dots-shades (look .symbol) (underOf look) (symbol-byte b scan field (k .attributes) here) (under-byte b scan field (k .attributes) here) low high d (wideOf word d) (a .most) z e2)
-      ∙ by-word-again
-    where
-      by-word-again : shades (look .symbol) (underOf look) d (wideOf word d) ≡ scanDots b f scan field k
-      by-word-again = rw (levelled, symbol-of b scan field (k .attributes) here, under-of b scan field (k .attributes) here) at by-word
-
-pub last-is : (f : Font) (n d : ℕ) (table : List ℕ) → 8 < d → lastSpreads f n d table ≡ joined 0 n (spreadsAt f d (d - 8)) ++ drop (n * 256) table
-unfolding lastSpreads
-last-is f n d table h = rw (lt-ltb 8 d h)

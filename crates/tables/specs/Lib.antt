@@ -3,3 +3,4 @@ pub mod Tables
 pub mod Marks
 pub mod Halves
 pub mod Laws
+pub mod Run

@@ -1,4 +1,4 @@
--- A mark has what a cell's attributes have, and levels are bytes. Assumes nothing.
+-- A mark has what a cell's attributes have, and levels are below four. Assumes nothing.
 use mathlib.Core.Path.{_≡_, ap}
 use mathlib.Core.Bool.{Bool, true, false, _&&_}
 use Prim.Native.Nat.{ℕ, _+_, _*_, _/_, _%_, _<_}
@@ -41,43 +41,48 @@ pub mark-lt : (a : ℕ) (here : Bool) → markOf a here < 128
 mark-lt a true = omega arith
 mark-lt a false = omega arith
 
--- ---- levels are bytes
+-- ---- levels are below four
 
 module _ (e hi hid : Bool) where
-  tone-lt : toneOf hi < 256
-  tone-lt = pick-lt 256 hi 2 1 (omega arith) (omega arith)
+  tone-lt : toneOf hi < 4
+  tone-lt = pick-lt 4 hi 2 1 (omega arith) (omega arith)
 
-  surround-lt : surroundLevel e hi < 256
-  surround-lt = pick-lt 256 e _ 0 tone-lt (omega arith)
+  surround-lt : surroundLevel e hi < 4
+  surround-lt = pick-lt 4 e _ 0 tone-lt (omega arith)
 
-  symbol-lt : symbolLevel e hi hid < 256
-  symbol-lt = pick-lt 256 hid _ _ surround-lt (pick-lt 256 e 0 _ (omega arith) tone-lt)
+  symbol-lt : symbolLevel e hi hid < 4
+  symbol-lt = pick-lt 4 hid _ _ surround-lt (pick-lt 4 e 0 _ (omega arith) tone-lt)
 
-look-small : (s : Scene) (a : ℕ) (cursor : Bool) → s .blank < 256 → (lookOf s a cursor .symbol < 256) × (lookOf s a cursor .surround < 256)
+look-small : (s : Scene) (a : ℕ) (cursor : Bool) → s .blank < 4 → (lookOf s a cursor .symbol < 4) × (lookOf s a cursor .surround < 4)
 unfolding lookOf
 look-small s a cursor h = go (s .shown)
   where
-    go : (t : Bool) → (pick t (shownLook s a cursor) (blankLook (s .blank)) .symbol < 256) × (pick t (shownLook s a cursor) (blankLook (s .blank)) .surround < 256)
+    go : (t : Bool) → (pick t (shownLook s a cursor) (blankLook (s .blank)) .symbol < 4) × (pick t (shownLook s a cursor) (blankLook (s .blank)) .surround < 4)
     go true = (symbol-lt (reversed s a cursor) (hasBit a 16) (nonDisplay s a), surround-lt (reversed s a cursor) (hasBit a 16) (nonDisplay s a))
     go false = (h, h)
 
-blank-lt : (b : Board) (scan field : ℕ) → sceneOf b scan field .blank < 256
+pub blank-lt : (b : Board) (scan field : ℕ) → sceneOf b scan field .blank < 4
 unfolding sceneOf
-blank-lt b scan field = pick-lt 256 (hasBit (b .page .switches) 8) 0 _ (omega arith) (pick-lt 256 (hasBit (b .page .switches) 4) 1 0 (omega arith) (omega arith))
+blank-lt b scan field = pick-lt 4 (hasBit (b .page .switches) 8) 0 _ (omega arith) (pick-lt 4 (hasBit (b .page .switches) 4) 1 0 (omega arith) (omega arith))
+
+pub look-few : (s : Scene) (a : ℕ) (cursor : Bool) → s .blank < 4 → (lookOf s a cursor .symbol < 4) × (underOf (lookOf s a cursor) < 4)
+look-few s a cursor h =
+    let k = look-small s a cursor h in
+    (k .0, pick-lt 4 (lookOf s a cursor .lit) (lookOf s a cursor .symbol) (lookOf s a cursor .surround) (k .0) (k .1))
 
 -- the two levels of a cell on a scan line, and both again out of their number
 module _ (b : Board) (scan field a : ℕ) (cursor : Bool) where
   abbrev look : Look
   look = lookOf (sceneOf b scan field) a cursor
 
-  pub symbol-byte : look .symbol < 256
-  symbol-byte = look-small (sceneOf b scan field) a cursor (blank-lt b scan field) .0
+  few : (look .symbol < 4) × (underOf look < 4)
+  few = look-few (sceneOf b scan field) a cursor (blank-lt b scan field)
 
-  pub under-byte : underOf look < 256
-  under-byte = pick-lt 256 (look .lit) (look .symbol) (look .surround) symbol-byte (look-small (sceneOf b scan field) a cursor (blank-lt b scan field) .1)
+  pub levels-lt : levelsBy look < 16
+  levels-lt = omega (arith, few)
 
-  pub symbol-of : levelsBy look % 256 ≡ look .symbol
-  symbol-of = omega (arith, symbol-byte)
+  pub symbol-of : levelsBy look % 4 ≡ look .symbol
+  symbol-of = omega (arith, few .0)
 
-  pub under-of : levelsBy look / 256 ≡ underOf look
-  under-of = omega (arith, symbol-byte)
+  pub under-of : levelsBy look / 4 ≡ underOf look
+  under-of = omega (arith, few .0)

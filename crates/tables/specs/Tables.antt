@@ -1,10 +1,8 @@
 -- A row's cells as numbers, and the tables by mark and by code. Assumes nothing.
-use Prim.Native.Nat.{ℕ, _+_, _-_, _*_, _/_, _%_, _^_}
+use Prim.Native.Nat.{ℕ, _+_, _*_, _/_, _%_}
 use mathlib.Core.Bool.{Bool, false, _&&_}
-use mathlib.Core.List.{List, _++_}
-use lib.Dec.{eqb, ltb}
-use lib.ListN.{drop}
-use Rattle.lists.specs.Join.{joined}
+use mathlib.Core.List.{List}
+use lib.Dec.{eqb}
 use Rattle.lists.specs.Choice.{pick}
 use Rattle.lists.specs.Tab.{tab}
 use Rattle.raster.specs.declared.Buffer.{Buffer}
@@ -18,7 +16,7 @@ use Rattle.video.specs.declared.Reading.{Reading}
 use Rattle.video.specs.Scene.{sceneOf}
 use Rattle.video.specs.Look.{lookOf}
 use Rattle.video.specs.At.{Content, contentAt}
-use Rattle.dots.specs.Stores.{underOf, wideOf, spreadOf}
+use Rattle.dots.specs.Stores.{underOf, wideOf}
 
 -- a cell's mark has its attributes in the low six bits, and 64 where the cursor's address is its own
 abbrev pub markOf : (attributes : ℕ) → (here : Bool) → ℕ
@@ -40,7 +38,7 @@ cellBy k chars attrs buffer held start c = numberFor (contentAt k chars attrs fa
 
 -- a look's two levels as one number
 abbrev pub levelsBy : Look → ℕ
-levelsBy k = k .symbol + 256 * underOf k
+levelsBy k = k .symbol + 4 * underOf k
 
 -- those of attributes on a scan line, at the cursor's address or not
 unfoldable pub levelsFor : Scene → Bool → ℕ → ℕ
@@ -53,21 +51,13 @@ levelsOf s mark = levelsBy (lookOf s mark (s .gate && eqb (mark / 64 % 2) 1))
 unfoldable pub levelsAt : Board → (field scan : ℕ) → List ℕ
 levelsAt b field scan = tab 128 (levelsOf (sceneOf b scan field))
 
--- the number whose low bits are a word's dots from a place on
-unfoldable pub partOf : (word d from : ℕ) → ℕ
-partOf word d from = wideOf word d / 2 ^ from
-
--- a code's eight dots from a place on, each in a byte of its own, on a scan line
-unfoldable pub spreadBy : (words flags : List ℕ) → (plain moved d from code : ℕ) → ℕ
-spreadBy words flags plain moved d from code = spreadOf 8 (partOf (wordBy words flags plain moved code) d from)
+-- a code's dots on a scan line, as the low bits of a number
+unfoldable pub shownWord : (words flags : List ℕ) → (plain moved d code : ℕ) → ℕ
+shownWord words flags plain moved d code = wideOf (wordBy words flags plain moved code) d
 
 -- of a code below 128
-unfoldable pub noDots : ℕ → ℕ
-noDots code = 0
+unfoldable pub noWord : ℕ → ℕ
+noWord code = 0
 
-unfoldable pub spreadsAt : Font → (d from scan : ℕ) → List ℕ
-spreadsAt f d from scan = tab 256 (spreadBy (f .words) (f .flags) (positionOf (f .unshifted) scan) (positionOf (f .shifted) scan) d from)
-
--- a table afterwards that has the last eight dots, where a cell has more than eight, for n scan lines, and else stays
-unfoldable pub lastSpreads : Font → (n d : ℕ) → List ℕ → List ℕ
-lastSpreads f n d table = pick (ltb 8 d) (joined 0 n (spreadsAt f d (d - 8)) ++ drop (n * 256) table) table
+unfoldable pub wordsAt : Font → (d scan : ℕ) → List ℕ
+wordsAt f d scan = tab 256 (shownWord (f .words) (f .flags) (positionOf (f .unshifted) scan) (positionOf (f .shifted) scan) d)

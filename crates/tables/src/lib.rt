@@ -1,14 +1,15 @@
 // What lines and pictures are drawn from: of a row its cells, a number each, and of a scan line a table by mark and one by code.
 ghost use mathlib.Core.Path.{_≡_};
 ghost use mathlib.Core.List.{_++_};
-ghost use Prim.Native.Nat.{_-_, _*_, _≤_, _<_};
+ghost use Prim.Native.Nat.{_+_, _-_, _*_, _≤_, _<_};
 ghost use lib.ListN.{length, drop};
 ghost use Rattle.lists.specs.Choice.{pick};
 ghost use Rattle.lists.specs.Join.{joined};
 ghost use Rattle.lists.specs.Tab.{tab};
 ghost use Rattle.raster.specs.Moves.{Bounded};
 ghost use Rattle.shape.specs.Font.{lentFont};
-ghost use Rattle.tables.specs.Tables.{cellNumber, heldBy, cellBy, levelsFor, levelsOf, levelsAt, partOf, noDots, spreadBy, spreadsAt, lastSpreads};
+ghost use Rattle.tables.specs.Run.{whole};
+ghost use Rattle.tables.specs.Tables.{cellNumber, heldBy, cellBy, levelsFor, levelsOf, levelsAt, noWord, shownWord, wordsAt};
 
 // A cell's code, and 256 times its mark: the six attributes, and 64 where the cursor's address is the cell's.
 fn cell_number(code: u8, attributes: u8, here: bool) -> u16
@@ -28,8 +29,38 @@ fn run_on(runs: bool, valid: u8, held: u8) -> u8
     if runs { valid } else { held }
 }
 
-// The cells of a row from its start on, each once for all its lines, where held is valid before the row; and what is valid after it.
-pub fn gather(
+// The cells of a row that are one run. The compiler makes vectors of it unless attributes run on.
+fn gather_run(
+    cells: &mut [u16],
+    chars: &[u8],
+    attrs: &[u8],
+    k: video::Reading,
+    from: usize,
+    held: u8,
+    n: usize,
+) -> u8
+    requires { ⌜ (length (now chars) ≡ 16384) × (length (now attrs) ≡ 16384) × (n ≤ length (now cells)) × (from + n ≤ 16384) × (from < 16384) ⌝ }
+    ensures { λ r. ⌜ (r ≡ heldBy (k .runs) (now (attrs .entry)) whole held from n)
+        × (now (cells .exit)
+        ≡ tab n (cellBy k (now (chars .entry)) (now (attrs .entry)) whole held from) ++ drop n (now (cells .entry))) ⌝ }
+{
+    let cursor = k.cursor as usize;
+    let mut valid = held;
+    let mut c = 0;
+    while c < n {
+        let at = from + c;
+        let byte = attrs[at];
+        let code = video::shown_code(k.hidden, chars[at], byte);
+        let attributes = raster::latched(byte, valid);
+        cells[c] = cell_number(code, attributes, at == cursor);
+        valid = run_on(k.runs, attributes, valid);
+        c += 1;
+    }
+    valid
+}
+
+// The cells of a row round the buffer, one by one.
+fn gather_round(
     cells: &mut [u16],
     chars: &[u8],
     attrs: &[u8],
@@ -61,17 +92,41 @@ pub fn gather(
     valid
 }
 
-// The symbol's level of six attributes, and 256 times the surround's, which a lit cell shows as its symbol.
-fn levels(s: video::Scene, attributes: u8, here: bool) -> u16
+// The cells of a row from its start on, each once for all its lines, where held is valid before the row; and what is valid after it.
+pub fn gather(
+    cells: &mut [u16],
+    chars: &[u8],
+    attrs: &[u8],
+    k: video::Reading,
+    buffer: raster::Buffer,
+    start: raster::Cell,
+    held: u8,
+    n: usize,
+) -> u8
+    requires { ⌜ (length (now chars) ≡ 16384) × (length (now attrs) ≡ 16384) × (n ≤ length (now cells)) × Bounded buffer × (start .address < 16384) ⌝ }
+    ensures { λ r. ⌜ (r ≡ heldBy (k .runs) (now (attrs .entry)) buffer held (start .address) n)
+        × (now (cells .exit)
+        ≡ tab n (cellBy k (now (chars .entry)) (now (attrs .entry)) buffer held (start .address)) ++ drop n (now (cells .entry))) ⌝ }
+{
+    if fetch::one_run(buffer, start, n) {
+        let from = start.address as usize;
+        return gather_run(cells, chars, attrs, k, from, held, n);
+    }
+    gather_round(cells, chars, attrs, k, buffer, start, held, n)
+}
+
+// The symbol's level of six attributes, and four times the surround's, which a lit cell shows as its symbol.
+fn levels(s: video::Scene, attributes: u8, here: bool) -> u8
+    requires { ⌜ s .blank < 4 ⌝ }
     ensures { λ r. ⌜ r ≡ levelsFor s here attributes ⌝ }
 {
     let look = video::look_of(s, attributes, s.gate & here);
-    look.symbol as u16 + 256 * dots::under(look) as u16
+    look.symbol + 4 * dots::under(look)
 }
 
 // Half of a scan line's table by mark: the cells at the cursor's address, or the others.
-fn half(table: &mut [u16], s: video::Scene, here: bool)
-    requires { ⌜ 64 ≤ length (now table) ⌝ }
+fn half(table: &mut [u8], s: video::Scene, here: bool)
+    requires { ⌜ (64 ≤ length (now table)) × (s .blank < 4) ⌝ }
     ensures { λ _. ⌜ now (table .exit) ≡ tab 64 (levelsFor s here) ++ drop 64 (now (table .entry)) ⌝ }
 {
     let mut i: usize = 0;
@@ -82,8 +137,8 @@ fn half(table: &mut [u16], s: video::Scene, here: bool)
 }
 
 // A scan line's table by mark. In a half the cursor is the same for all, so that the compiler makes vectors of it.
-pub fn looks(table: &mut [u16], s: video::Scene)
-    requires { ⌜ 128 ≤ length (now table) ⌝ }
+pub fn looks(table: &mut [u8], s: video::Scene)
+    requires { ⌜ (128 ≤ length (now table)) × (s .blank < 4) ⌝ }
     ensures { λ _. ⌜ now (table .exit) ≡ tab 128 (levelsOf s) ++ drop 128 (now (table .entry)) ⌝ }
 {
     half(table, s, false);
@@ -91,7 +146,7 @@ pub fn looks(table: &mut [u16], s: video::Scene)
 }
 
 // Those of n scan lines, end to end.
-pub fn fill_looks(table: &mut [u16], b: board::Board, field: u8, n: units::Lines)
+pub fn fill_looks(table: &mut [u8], b: board::Board, field: u8, n: units::Lines)
     requires { ⌜ (n .0 ≤ 16) × (n .0 * 128 ≤ length (now table)) ⌝ }
     ensures { λ _. ⌜ now (table .exit) ≡ joined 0 (n .0) (levelsAt b field) ++ drop (n .0 * 128) (now (table .entry)) ⌝ }
 {
@@ -105,18 +160,10 @@ pub fn fill_looks(table: &mut [u16], b: board::Board, field: u8, n: units::Lines
     }
 }
 
-// The number whose low bits are a word's dots from a place on.
-fn part(word: u16, d: usize, from: usize) -> u16
-    requires { ⌜ (word < 1024) × (from ≤ 4) ⌝ }
-    ensures { λ r. ⌜ r ≡ partOf word d from ⌝ }
-{
-    dots::wide(word, d) >> from
-}
-
 // The codes below 128, which show nothing.
-fn no_dots(table: &mut [u64])
+fn no_words(table: &mut [u16])
     requires { ⌜ 128 ≤ length (now table) ⌝ }
-    ensures { λ _. ⌜ now (table .exit) ≡ tab 128 noDots ++ drop 128 (now (table .entry)) ⌝ }
+    ensures { λ _. ⌜ now (table .exit) ≡ tab 128 noWord ++ drop 128 (now (table .entry)) ⌝ }
 {
     let mut i: usize = 0;
     while i < 128 {
@@ -125,43 +172,34 @@ fn no_dots(table: &mut [u64])
     }
 }
 
-// A scan line's table by code: eight dots from a place on, each in a byte of its own.
-fn spreads(
-    table: &mut [u64],
-    words: &[u16],
-    flags: &[u8],
-    plain: usize,
-    moved: usize,
-    d: usize,
-    from: usize,
-)
-    requires { ⌜ (length (now words) ≡ 1152) × (length (now flags) ≡ 128) × (from ≤ 4) × (256 ≤ length (now table)) ⌝ }
+// A scan line's table by code: a number whose low bits are the dots.
+fn shown_words(table: &mut [u16], words: &[u16], flags: &[u8], plain: usize, moved: usize, d: usize)
+    requires { ⌜ (length (now words) ≡ 1152) × (length (now flags) ≡ 128) × (256 ≤ length (now table)) ⌝ }
     ensures { λ _. ⌜ now (table .exit)
-        ≡ tab 256 (spreadBy (now (words .entry)) (now (flags .entry)) plain moved d from) ++ drop 256 (now (table .entry)) ⌝ }
+        ≡ tab 256 (shownWord (now (words .entry)) (now (flags .entry)) plain moved d) ++ drop 256 (now (table .entry)) ⌝ }
 {
-    no_dots(table);
+    no_words(table);
     let mut i: usize = 128;
     while i < 256 {
         let word = shape::word_by(words, flags, plain, moved, i as u8);
-        table[i] = dots::spread(part(word, d, from));
+        table[i] = dots::wide(word, d);
         i += 1;
     }
 }
 
 // Those of n scan lines, end to end.
-pub fn fill_spreads(
-    table: &mut [u64],
+pub fn fill_words(
+    table: &mut [u16],
     words: &[u16],
     flags: &[u8],
     unshifted: &[u8],
     shifted: &[u8],
     n: units::Lines,
     d: usize,
-    from: usize,
 )
-    requires { ⌜ (length (now words) ≡ 1152) × (length (now flags) ≡ 128) × (from ≤ 4) × (n .0 ≤ 16) × (n .0 * 256 ≤ length (now table)) ⌝ }
+    requires { ⌜ (length (now words) ≡ 1152) × (length (now flags) ≡ 128) × (n .0 ≤ 16) × (n .0 * 256 ≤ length (now table)) ⌝ }
     ensures { λ _. ⌜ now (table .exit)
-        ≡ joined 0 (n .0) (spreadsAt (lentFont words flags unshifted shifted) d from) ++ drop (n .0 * 256) (now (table .entry)) ⌝ }
+        ≡ joined 0 (n .0) (wordsAt (lentFont words flags unshifted shifted) d) ++ drop (n .0 * 256) (now (table .entry)) ⌝ }
 {
     let count = n.0 as usize;
     let mut s: usize = 0;
@@ -170,26 +208,7 @@ pub fn fill_spreads(
         let plain = shape::position(unshifted, scan);
         let moved = shape::position(shifted, scan);
         let a = s * 256;
-        spreads(&mut table[a..], words, flags, plain, moved, d, from);
+        shown_words(&mut table[a..], words, flags, plain, moved, d);
         s += 1;
-    }
-}
-
-// The last eight dots, where a cell has more than eight.
-pub fn fill_last(
-    table: &mut [u64],
-    words: &[u16],
-    flags: &[u8],
-    unshifted: &[u8],
-    shifted: &[u8],
-    n: units::Lines,
-    d: usize,
-)
-    requires { ⌜ (length (now words) ≡ 1152) × (length (now flags) ≡ 128) × (d ≤ 12) × (n .0 ≤ 16) × (n .0 * 256 ≤ length (now table)) ⌝ }
-    ensures { λ _. ⌜ now (table .exit)
-        ≡ lastSpreads (lentFont words flags unshifted shifted) (n .0) d (now (table .entry)) ⌝ }
-{
-    if 8 < d {
-        fill_spreads(table, words, flags, unshifted, shifted, n, d, d - 8);
     }
 }

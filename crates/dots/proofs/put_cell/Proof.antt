@@ -1,53 +1,65 @@
-use Prim.Native.Nat.{_<_}
-use mathlib.Core.Path.{_∙_}
 use native.Mathlib.Omega.{arith}
 use borrow.Author.Needs.{needs}
-use Rattle.dots.specs.Spread.{dots-narrow, dots-broad}
+use Rattle.dots.specs.Inks.{reach-broad, reach-tight, reach-eight, put-broad, put-narrow}
 use Rattle.dots.proofs.put_cell.Statement.{statement}
 use Rattle.dots.proofs.put_cell.Tie as tie
 
-over : (c : tie.Else2) → 8 < c .before .before .before .before .args .d
-over c = omega (arith, c .before .if1 .left, c .if2 .left)
+broad-requires : tie.Need-broad-requires
+broad-requires c κs =
+    let then = c .before .before in
+    let start = then .before .before .before .before in
+    (omega (arith, then .if1 .taken), omega (arith, start .pre .3), omega (arith, start .pre .4, reach-broad (start .args .tight) (start .args .d) (then .if1 .taken)))
 
-mix-requires-2 : tie.Need-mix-requires-2
-mix-requires-2 c κs = c .before .before .before .before .pre .1 (over c)
+narrow-requires : tie.Need-narrow-requires
+narrow-requires c κs =
+    let then = c .before in
+    let start = then .before .before .before .before .before in
+    (omega (arith, start .pre .2), omega (arith, then .before .if1 .left), omega (arith, start .pre .4, reach-tight (then .if2 .taken) (start .args .d)))
+
+eight-requires : tie.Need-eight-requires
+eight-requires c κs =
+    let else = c .before in
+    let start = else .before .before .before .before .before in
+    omega (arith, start .pre .4, reach-eight (else .if2 .left) (start .args .d) (omega (arith, else .before .if1 .left)))
 
 returns : tie.Need-returns
 returns c =
     let call = c .before .before in
-    let then = call .before .before in
-    let start = then .before .before .before in
-    call .eight .ensures
-    ∙ rw (then .before .mix .ensures, ← dots-narrow (start .args .low) (start .args .high) _ _ (start .args .d) (omega arith), then .if1 .taken)
+    let second = call .before .before in
+    let then = second .before in
+    let first = then .before in
+    let start = first .before .before .before in
+    put-broad (start .args .levels) (start .args .word) (start .pre .1) (first .blend .ensures) (start .args .out .now) (reach-broad (start .args .tight) (start .args .d) (then .if1 .taken)) (then .if1 .taken) (start .pre .3)
+    (second .blend2 .ensures) (call .broad .ensures)
 
 returns-2 : tie.Need-returns-2
 returns-2 c =
     let call = c .before .before in
     let then = call .before .before in
     let first = then .before .before in
-    let start = first .before .before in
-    call .narrow .ensures
-    ∙ rw (first .mix .ensures, dots-narrow (start .args .low) (start .args .high) _ _ (start .args .d) (omega arith))
+    let start = first .before .before .before in
+    put-narrow (start .args .levels) (start .args .word) (start .pre .1) (first .blend .ensures) (start .args .out .now) (reach-tight (then .if2 .taken) (start .args .d)) (omega (arith, then .before .if1 .left)) (call .narrow .ensures)
 
 returns-3 : tie.Need-returns-3
 returns-3 c =
     let call = c .before .before in
-    let last = call .before .before in
-    let else = last .before in
+    let else = call .before .before in
     let first = else .before .before in
-    let start = first .before .before in
-    call .broad .ensures
-    ∙ rw (last .mix2 .ensures, first .mix .ensures, dots-broad (start .args .low) (start .args .high) _ _ (start .args .d) (over else))
+    let start = first .before .before .before in
+    put-narrow (start .args .levels) (start .args .word) (start .pre .1) (first .blend .ensures) (start .args .out .now) (reach-eight (else .if2 .left) (start .args .d) (omega (arith, else .before .if1 .left))) (omega arith) (call .eight .ensures)
 
 pub put-cell-spec : {M : Type 1} → statement M
 put-cell-spec =
     tie.close
     (tie.spec
     (λ c κs. search needs)
+    (λ c. search needs)
+    (λ c. search needs)
+    (λ c. search needs)
     (λ c κs. search needs)
-    (λ c κs. search needs)
-    mix-requires-2
-    (λ c κs. search needs)
+    broad-requires
+    narrow-requires
+    eight-requires
     (λ c. search needs)
     returns
     (λ c. search needs)

@@ -1,5 +1,3 @@
-use Prim.Native.Nat.{_/_}
-use native.Mathlib.Omega.{arith}
 use borrow.Author.Needs.{needs}
 use Rattle.shape.specs.Laws.{by-small}
 use Rattle.line.specs.Walk.{dotsFor}
@@ -9,9 +7,6 @@ use Rattle.line.proofs.put.Tie as tie
 -- where the function begins, from the place where the word is known
 abbrev begin : tie.After-word-by → tie.Start
 begin c = c .before .before .before .before .before .before
-
-cast-write-cell-2 : tie.Need-cast-write-cell-2
-cast-write-cell-2 c = omega (arith, c .before .before .shared-slice-known4 .given (begin (c .before) .args .number / 256))
 
 write-cell-requires : tie.Need-write-cell-requires
 write-cell-requires c κs =
@@ -32,10 +27,7 @@ put-spec =
     (λ c. search needs)
     (λ c. search needs)
     (λ c. search needs)
-    (λ c. search needs)
     (λ c κs. search needs)
-    (λ c. search needs)
-    cast-write-cell-2
     write-cell-requires
     (λ c. search needs)
     returns)

@@ -8,6 +8,7 @@ use Rattle.timing.specs.Fields.{timingOf, countsOf}
 use Rattle.timing.specs.Laws.{buffer-bounded}
 use Rattle.fetch.specs.Laws.{row-start-lt, fetched-small}
 use Rattle.shape.specs.Font.{Font, fontOf}
+use Rattle.tables.specs.Marks.{blank-lt}
 use Rattle.line.specs.Walk.{Prepared, prepared-of, ready, drawn}
 use Rattle.line.proofs.whole_line.Statement.{statement}
 use Rattle.line.proofs.whole_line.Tie as tie
@@ -29,10 +30,10 @@ code-at-requires c κs = in-page c
 row-start-requires : tie.Need-row-start-requires
 row-start-requires c κs = in-page (c .before .before .before .before)
 
-held-at-requires : tie.Need-held-at-requires
-held-at-requires c κs =
+held-for-requires : tie.Need-held-for-requires
+held-for-requires c κs =
     let k = c .before .before .before .before .before in
-    (in-page k .0, begin k .pre .attrs-all, in-page k .1)
+    (in-page k .0, begin k .pre .attrs-all, in-page k .1, rw (c .row-start .ensures) (row-start-lt _ _ (begin k .pre .page) _))
 
 fetched-of-requires : tie.Need-fetched-of-requires
 fetched-of-requires c κs = in-page (c .before .before .before .before .before .before)
@@ -70,7 +71,7 @@ prepared c =
     let looked = c .before .before in
     let gathered = looked .before .before .before .before in
     prepared-of (begin k .args .b) _ _ (font k) _ _ _ _ (k .before .timing-of .ensures) (k .row-of .ensures) (read .code-at .ensures) (n .before .before .before .before .before .code-of .ensures)
-    (n .before .before .before .before .scan-at .ensures) (n .before .before .before .walk-of .ensures) (n .before .before .row-start .ensures) (n .before .held-at .ensures)
+    (n .before .before .before .before .scan-at .ensures) (n .before .before .before .walk-of .ensures) (begin k .pre .page) (n .before .before .row-start .ensures) (n .before .held-for .ensures)
     (ap (λ (x : Clocks). x .0) (n .fetched-of .ensures)) (gathered .before .before .before .reading-of .ensures) (gathered .before .before .buffer-of .ensures) (gathered .gather .ensures .1)
     (looked .before .scene-of .ensures) (looked .looks2 .ensures) (c .is-wide .ensures)
 
@@ -101,7 +102,7 @@ whole-line-spec =
     (λ c κs. search needs)
     (λ c κs. search needs)
     row-start-requires
-    held-at-requires
+    held-for-requires
     fetched-of-requires
     (λ c. search needs)
     (λ c κs. search needs)
@@ -110,7 +111,7 @@ whole-line-spec =
     gather-requires
     (λ c. search needs)
     (λ c κs. search needs)
-    (λ c κs. search needs)
+    (λ c κs. (search needs, rw (c .scene-of .ensures) (blank-lt _ _ _)))
     (λ c κs. search needs)
     (λ c. search needs)
     (λ c. search needs)

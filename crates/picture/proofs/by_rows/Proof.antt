@@ -1,54 +1,47 @@
 use native.Mathlib.Omega.{arith}
 use borrow.Author.Needs.{needs}
 use Rattle.shape.specs.Font.{Font, fontOf}
-use Rattle.picture.specs.Agree.{plan-dots, plan-lines, plan-size, made-of, sheet-of, pictured}
+use Rattle.picture.specs.Agree.{plan-lines, plan-size, made-of, sheet-of, pictured}
 use Rattle.picture.proofs.by_rows.Statement.{statement}
 use Rattle.picture.proofs.by_rows.Tie as tie
 
 abbrev font : tie.Start → Font
 font c = fontOf (c .args .words .now) (c .args .flags .now) (c .args .unshifted .now) (c .args .shifted .now)
 
-fill-spreads-requires : tie.Need-fill-spreads-requires
-fill-spreads-requires c κs =
+fill-words-requires : tie.Need-fill-words-requires
+fill-words-requires c κs =
     let k = c .before .before .before .before .before .before .before .before .before .before .before in
     let l = plan-lines _ _ (k .pre .1) in
-    (k .pre .0 .font .words-all, k .pre .0 .font .flags-all, omega arith, l, omega (arith, l))
-
-fill-last-requires : tie.Need-fill-last-requires
-fill-last-requires c κs =
-    let k = c .before .before .before .before .before .before .before .before .before .before .before .before .before .before in
-    let l = plan-lines _ _ (k .pre .1) in
-    (k .pre .0 .font .words-all, k .pre .0 .font .flags-all, plan-dots _ _ (k .pre .1) (k .pre .0 .page) .1, l, omega (arith, l))
+    (k .pre .0 .font .words-all, k .pre .0 .font .flags-all, l, omega (arith, l))
 
 fill-looks-requires : tie.Need-fill-looks-requires
 fill-looks-requires c κs =
-    let k = c .before .before .before .before .before .before .before .before .before .before .before .before .before .before .before .before .before in
+    let k = c .before .before .before .before .before .before .before .before .before .before .before .before .before .before in
     let l = plan-lines _ _ (k .pre .1) in
     (l, omega (arith, l))
 
 draw-rows-requires : tie.Need-draw-rows-requires
 draw-rows-requires c κs =
-    let looks = c .before .before .before .before .before in
-    let high = looks .before .before .before in
-    let low = high .before .before .before in
-    let k = low .before .before .before .before .before .before .before .before .before .before .before .before in
+    let inks = c .before .before .before .before .before in
+    let looks = inks .before .before .before in
+    let shown = looks .before .before .before in
+    let k = shown .before .before .before .before .before .before .before .before .before .before .before .before in
     let q = k .pre .1 in
-    let made = made-of (k .args .b) (font k) (k .args .field) _ _ _ _ _ _ _ q (low .fill-spreads .ensures) (high .fill-last .ensures) (looks .fill-looks .ensures) in (
-      (sheet-of (k .args .b) (font k) (k .args .field) _ _ _ (k .pre .0 .page) made (search needs) (search needs) (search needs) _ q, k .pre .0 .chars-all, k .pre .0 .attrs-all),
+    let made = made-of (k .args .b) (font k) (k .args .field) _ _ _ _ _ q (shown .fill-words .ensures) (looks .fill-looks .ensures) in (
+      (sheet-of (k .args .b) (font k) (k .args .field) _ _ _ (k .pre .0 .page) made (search needs) (search needs) (inks .inks2 .ensures) _ q, k .pre .0 .chars-all, k .pre .0 .attrs-all),
       (k .pre .0 .page, q, rw (plan-size _ _ q) (k .pre .0 .roomy)),
     )
 
 returns : tie.Need-returns
 returns c =
     let drawn = c .before .before in
-    let looks = drawn .before .before .before .before .before .before in
-    let high = looks .before .before .before in
-    let low = high .before .before .before in
-    let k = low .before .before .before .before .before .before .before .before .before .before .before .before in
+    let looks = drawn .before .before .before .before .before .before .before .before .before in
+    let shown = looks .before .before .before in
+    let k = shown .before .before .before .before .before .before .before .before .before .before .before .before in
     let q = k .pre .1 in
-    let made = made-of (k .args .b) (font k) (k .args .field) _ _ _ _ _ _ _ q (low .fill-spreads .ensures) (high .fill-last .ensures) (looks .fill-looks .ensures) in
-    pictured (k .args .b) _ _ (font k) (k .args .field) _ _ _ (k .pre .0 .page) made
-    (λ i. omega (arith, low .before .before .before .before .before .before .before .before .before .before .shared-slice-known .given i))
+    let made = made-of (k .args .b) (font k) (k .args .field) _ _ _ _ _ q (shown .fill-words .ensures) (looks .fill-looks .ensures) in
+    pictured (k .args .b) _ _ (font k) (k .args .field) _ _ (k .pre .0 .page) made
+    (λ i. omega (arith, shown .before .before .before .before .before .before .before .before .before .before .shared-slice-known .given i))
     _ _ _ q (drawn .draw-rows .ensures)
 
 pub by-rows-spec : {M : Type 1} → statement M
@@ -57,11 +50,11 @@ by-rows-spec =
     (tie.spec
     (λ c. search needs)
     (λ c. search needs)
-    fill-spreads-requires
-    (λ c. search needs)
-    fill-last-requires
+    fill-words-requires
     (λ c. search needs)
     fill-looks-requires
+    (λ c. search needs)
+    (λ c κs. search needs)
     (λ c. search needs)
     (λ c. search needs)
     (λ c. search needs)

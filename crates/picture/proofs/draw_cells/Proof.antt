@@ -1,124 +1,119 @@
-use Prim.Native.Nat.{_+_, _*_, _-_, _/_, _≤_, _<_}
+use Prim.Native.Nat.{ℕ, max, _+_, _*_, _-_, _≤_, _<_}
+use mathlib.Core.Path.{_≡_, refl, ap, _∙_}
 use mathlib.Core.List.{_++_}
+use native.Mathlib.Nat.{add-mul, one-mul}
 use native.Mathlib.Omega.{arith}
 use borrow.Author.Needs.{needs}
 use lib.ListN.{drop, length, getD, length-take, length-drop}
-use Rattle.lists.specs.Fill.{Filling}
-use Rattle.lists.specs.Join.{joined, stretch-inside, join-begins, join-turn, join-ends}
-use Rattle.picture.specs.Plan.{cellFrom, length-cell, as-cell}
+use Rattle.lists.specs.Join.{joined, stretch-inside}
+use Rattle.picture.specs.Spill.{Spilling, spill-begins, spill-turn, spill-ends}
+use Rattle.picture.specs.Plan.{cellFrom, length-cell, front-cell, length-stored, as-cell}
 use Rattle.picture.proofs.draw_cells.Statement.{statement}
 use Rattle.picture.proofs.draw_cells.Tie as tie
 
 abbrev Inv-loop : tie.InvT-loop
-Inv-loop out₀ cells low high looks count d s i₀ out i =
-    (i ≤ count) × Filling (joined 0 count (cellFrom cells low high looks d s) ++ drop (count * d) out₀) out₀ (count * d) out (i * d) (joined i (count - i) (cellFrom cells low high looks d s))
+Inv-loop out₀ p cells shown looks inks scan last d i₀ out i =
+    (i ≤ last)
+    × Spilling (joined 0 (last + 1) (cellFrom cells shown looks d (scan .0)) ++ drop ((last + 1) * d) out₀) out₀ ((last + 1) * d) out (i * d) d
+    (joined i (last + 1 - i) (cellFrom cells shown looks d (scan .0)))
 
 abbrev μ-loop : tie.MeasureT-loop
-μ-loop out₀ cells low high looks count d s i₀ out i = count - i
+μ-loop out₀ p cells shown looks inks scan last d i₀ out i = last - i
 
--- where the function begins, from a turn of the loop
+-- where the function begins, from a turn of the loop, and from its end
 abbrev start : tie.In-loop Inv-loop μ-loop → tie.Start Inv-loop μ-loop
-start c = c .before .before .before .before .before .before .before .before .before .before
+start c = c .before .before .before .before .before .before .before .before .before
 
-room : (c : tie.In-loop Inv-loop μ-loop) → c .before .loop .i * start c .args .p .dots .0 + start c .args .p .dots .0 ≤ length (c .before .loop .out)
-room c = omega (arith, c .before .loop .inv .1 .same, stretch-inside (c .before .loop .i) (start c .args .n .0) (start c .args .p .dots .0) _ (c .loop-test .taken) (start c .pre .1 .2))
+abbrev begin : tie.After-loop Inv-loop μ-loop → tie.Start Inv-loop μ-loop
+begin c = c .before .before .before .before .before .before .before .before .before
 
-scan-lt : (c : tie.In-loop Inv-loop μ-loop) → start c .args .scan .0 < 16
-scan-lt c = omega (arith, start c .pre .1 .0, start c .pre .0 .0 .short)
+-- the cells are one more than those before the last
+all : (k : tie.Start Inv-loop μ-loop) → k .args .n .0 - 1 + 1 ≡ k .args .n .0
+all k = omega (arith, k .pre .1 .1)
 
-number-lt : (c : tie.In-loop Inv-loop μ-loop) → getD (start c .args .cells .now) (c .before .loop .i) 0 < 32768
-number-lt c = start c .pre .0 .2 _ (c .loop-test .taken)
+-- a cell that is not the last has the next one's place behind it
+room : (c : tie.In-loop Inv-loop μ-loop)
+    → c .before .loop .i * start c .args .p .dots .0 + (start c .args .p .dots .0 + start c .args .p .dots .0) ≤ length (c .before .loop .out)
+room c =
+    let i = c .before .loop .i in
+    let d = start c .args .p .dots .0 in
+    let next : i + 1 < start c .args .n .0 = omega (arith, c .loop-test .taken) in
+    omega (arith, c .before .loop .inv .1 .same, add-mul i 1 d, one-mul d, stretch-inside (i + 1) _ d _ next (start c .pre .1 .3))
+
+-- and the last one its own
+room-last : (c : tie.After-loop Inv-loop μ-loop) → (begin c .args .n .0 - 1) * begin c .args .p .dots .0 + begin c .args .p .dots .0 ≤ length (c .before .loop .out)
+room-last c =
+    let k = begin c in
+    omega (arith, c .before .loop .inv .1 .same, stretch-inside (k .args .n .0 - 1) _ (k .args .p .dots .0) _ (omega (arith, k .pre .1 .1)) (k .pre .1 .3))
 
 loop-holds : tie.Need-loop-holds Inv-loop μ-loop
-loop-holds c =
-    let sheet = c .before .before .before .before .before .before .before .before .pre .0 .0 in
-    (omega arith, join-begins _ _ (length-cell _ _ _ _ _ _ (sheet .most)) _ _)
-
-shared-slice-read-number : tie.Need-shared-slice-read-number Inv-loop μ-loop
-shared-slice-read-number c = omega (arith, start (c .before) .pre .0 .1, start (c .before) .pre .1 .1, c .before .loop-test .taken)
-
-mul-code : tie.Need-mul-code Inv-loop μ-loop
-mul-code c = omega (arith, scan-lt (c .before))
-
-add-code : tie.Need-add-code Inv-loop μ-loop
-add-code c = omega (arith, scan-lt (c .before))
-
-mul-mark : tie.Need-mul-mark Inv-loop μ-loop
-mul-mark c = omega (arith, scan-lt (c .before))
-
-cast-mark : tie.Need-cast-mark Inv-loop μ-loop
-cast-mark c = omega (arith, number-lt (c .before))
-
-add-mark : tie.Need-add-mark Inv-loop μ-loop
-add-mark c = omega (arith, scan-lt (c .before), number-lt (c .before))
-
-mul-levels : tie.Need-mul-levels Inv-loop μ-loop
-mul-levels c = omega (arith, scan-lt (c .before), number-lt (c .before))
-
-shared-slice-read-levels : tie.Need-shared-slice-read-levels Inv-loop μ-loop
-shared-slice-read-levels c =
-    let i = c .before .before in
-    omega (arith, scan-lt i, number-lt i, start i .pre .0 .0 .looks-all)
+loop-holds c = (omega arith, spill-begins _ _ (length-cell _ _ _ _ _) _ _)
 
 mul-a : tie.Need-mul-a Inv-loop μ-loop
-mul-a c = omega (arith, room (c .before .before))
+mul-a c = omega (arith, room c)
 
-sub-put-cell : tie.Need-sub-put-cell Inv-loop μ-loop
-sub-put-cell c = omega (arith, room (c .before .before))
+sub-put : tie.Need-sub-put Inv-loop μ-loop
+sub-put c = omega (arith, room c)
 
-part-put-cell-start : tie.Need-part-put-cell-start Inv-loop μ-loop
-part-put-cell-start c = omega (arith, room (c .before .before))
+part-put-start : tie.Need-part-put-start Inv-loop μ-loop
+part-put-start c = omega (arith, room c)
 
-mul-put-cell : tie.Need-mul-put-cell Inv-loop μ-loop
-mul-put-cell c = omega (arith, scan-lt (c .before .before .before))
+shared-slice-read-put : tie.Need-shared-slice-read-put Inv-loop μ-loop
+shared-slice-read-put c =
+    let i = c .before .before in
+    omega (arith, start i .pre .0 .1, start i .pre .1 .2, i .loop-test .taken)
 
-shared-slice-read-put-cell : tie.Need-shared-slice-read-put-cell Inv-loop μ-loop
-shared-slice-read-put-cell c =
-    let i = c .before .before .before .before in
-    omega (arith, scan-lt i, start i .pre .0 .0 .low-all)
-
-mul-put-cell-2 : tie.Need-mul-put-cell-2 Inv-loop μ-loop
-mul-put-cell-2 c = omega (arith, scan-lt (c .before .before .before .before))
-
-shared-slice-read-put-cell-2 : tie.Need-shared-slice-read-put-cell-2 Inv-loop μ-loop
-shared-slice-read-put-cell-2 c =
-    let i = c .before .before .before .before .before in
-    omega (arith, scan-lt i, start i .pre .0 .0 .high-all)
-
-cast-put-cell-2 : tie.Need-cast-put-cell-2 Inv-loop μ-loop
-cast-put-cell-2 c =
-    let i = c .before .before .before .before .before in
-    omega (arith, c .before .before .before .shared-slice-known6 .given (start i .args .scan .0 * 128 + getD (start i .args .cells .now) (i .before .loop .i) 0 / 256))
-
-put-cell-requires : tie.Need-put-cell-requires Inv-loop μ-loop
-put-cell-requires c κs =
-    let i = c .before .before .before .before .before in
-    let pre = start i .pre in (
-      pre .0 .0 .low-le _ _ (pre .1 .0) (omega arith),
-      (λ g. pre .0 .0 .high-le g _ _ (pre .1 .0) (omega arith)),
-      pre .0 .0 .least,
-      pre .0 .0 .most,
-      simp (length-take, length-drop) (omega (arith, room i)),
-    )
+put-requires : tie.Need-put-requires Inv-loop μ-loop
+put-requires c κs =
+    let i = c .before .before in
+    let pre = start i .pre in
+    ((pre .0 .0, pre .1 .0, pre .0 .2 _ (omega (arith, i .loop-test .taken))), simp (length-take, length-drop) (omega (arith, room i, pre .0 .0 .least)))
 
 loop-again : tie.Need-loop-again Inv-loop μ-loop
 loop-again c =
     let put = c .before .before in
-    let i = put .before .before .before .before .before .before in
-    let pre = start i .pre in
-    let a = start i .args in (
+    let i = put .before .before .before in
+    let k = start i in
+    let a = k .args in
+    let d = a .p .dots .0 in
+    let reach : (d ≤ max d 8) × (max d 8 ≤ d + d) = (omega arith, omega (arith, k .pre .0 .0 .least)) in (
       omega (arith, i .loop-test .taken),
-      join-turn _ _ (length-cell _ _ _ _ _ _ (pre .0 .0 .most)) _ _ _ (i .before .loop .inv .1) (i .loop-test .taken) (pre .1 .2)
-          (as-cell (a .cells .now) (a .low .now) (a .high .now) (a .looks .now) _ _ _ _ _ (put .put-cell .ensures)),
+      spill-turn _ d (length-cell _ _ _ _ _) _ _ _ _ (max d 8) (i .before .loop .inv .1) (omega (arith, i .loop-test .taken)) (rw (all k) (k .pre .1 .3))
+          (front-cell (a .cells .now) (a .shown .now) (a .looks .now) d _ _ _ (reach .0)) (length-stored (a .shown .now) (a .looks .now) _ _ _) (reach .0) (reach .1) (put .put .ensures),
     )
 
+mul-e : tie.Need-mul-e Inv-loop μ-loop
+mul-e c = omega (arith, room-last c)
+
+sub-put-2 : tie.Need-sub-put-2 Inv-loop μ-loop
+sub-put-2 c = omega (arith, room-last c)
+
+part-put-start-2 : tie.Need-part-put-start-2 Inv-loop μ-loop
+part-put-start-2 c = omega (arith, room-last c)
+
+shared-slice-read-put-2 : tie.Need-shared-slice-read-put-2 Inv-loop μ-loop
+shared-slice-read-put-2 c =
+    let k = begin (c .before .before) in
+    omega (arith, k .pre .0 .1, k .pre .1 .1, k .pre .1 .2)
+
+put-requires-2 : tie.Need-put-requires-2 Inv-loop μ-loop
+put-requires-2 c κs =
+    let l = c .before .before in
+    let pre = begin l .pre in
+    ((pre .0 .0, pre .1 .0, pre .0 .2 _ (omega (arith, pre .1 .1))), simp (length-take, length-drop) (omega (arith, room-last l)))
+
 same-length : tie.Need-same-length Inv-loop μ-loop
-same-length c = c .before .loop .inv .1 .same
+same-length c = search (needs, c .before .before .before .before .before .before .loop .inv .1 .same)
 
 returns : tie.Need-returns Inv-loop μ-loop
 returns c =
-    let sheet = c .before .before .before .before .before .before .before .before .before .before .pre .0 .0 in
-    join-ends _ _ (length-cell _ _ _ _ _ _ (sheet .most)) _ _ (c .before .loop .inv .1) (omega arith) (omega arith)
+    let put = c .before .before in
+    let l = put .before .before .before in
+    let k = begin l in
+    let a = k .args in
+    let at : l .before .loop .i ≡ a .n .0 - 1 = omega (arith, l .before .loop .inv .0, l .loop-test .left) in
+    spill-ends _ _ (length-cell _ _ _ _ _) _ _ _ (rw at at (l .before .loop .inv .1)) refl (rw (all k) (k .pre .1 .3)) (as-cell (a .cells .now) (a .shown .now) (a .looks .now) _ _ _ _ _ (put .put2 .ensures))
+    ∙ ap (λ (n : ℕ). joined 0 n (cellFrom (a .cells .now) (a .shown .now) (a .looks .now) (a .p .dots .0) (a .scan .0)) ++ drop (n * a .p .dots .0) (a .out .now)) (all k)
 
 pub draw-cells-spec : {M : Type 1} → statement M
 draw-cells-spec =
@@ -130,29 +125,22 @@ draw-cells-spec =
     (λ c. search needs)
     (λ c. search needs)
     loop-holds
-    (λ c. search needs)
-    shared-slice-read-number
-    mul-code
-    (λ c. search needs)
-    add-code
-    mul-mark
-    cast-mark
-    add-mark
-    mul-levels
-    shared-slice-read-levels
     mul-a
-    sub-put-cell
-    part-put-cell-start
+    sub-put
+    part-put-start
     (λ c. search needs)
-    mul-put-cell
-    shared-slice-read-put-cell
-    mul-put-cell-2
-    shared-slice-read-put-cell-2
     (λ c. search needs)
-    cast-put-cell-2
-    put-cell-requires
+    shared-slice-read-put
+    put-requires
     (λ c. search needs)
     (λ c. search needs)
     loop-again
+    mul-e
+    sub-put-2
+    part-put-start-2
+    (λ c. search needs)
+    (λ c. search needs)
+    shared-slice-read-put-2
+    put-requires-2
     same-length
     returns)

@@ -11,13 +11,13 @@ use Rattle.picture.proofs.draw_lines.Statement.{statement}
 use Rattle.picture.proofs.draw_lines.Tie as tie
 
 abbrev Inv-loop : tie.InvT-loop
-Inv-loop out₀ p k cells low high looks n width wide s₀ out s =
+Inv-loop out₀ p k cells shown looks inks n width wide s₀ out s =
     (s ≤ n)
-    × Filling (joined 0 n (lineFrom p k cells low high looks) ++ drop (n * width) out₀) out₀ (n * width) out (s * width)
-    (joined s (n - s) (lineFrom p k cells low high looks))
+    × Filling (joined 0 n (lineFrom p k cells shown looks) ++ drop (n * width) out₀) out₀ (n * width) out (s * width)
+    (joined s (n - s) (lineFrom p k cells shown looks))
 
 abbrev μ-loop : tie.MeasureT-loop
-μ-loop out₀ p k cells low high looks n width wide s₀ out s = n - s
+μ-loop out₀ p k cells shown looks inks n width wide s₀ out s = n - s
 
 -- where the function begins, from a turn of the loop
 abbrev start : tie.In-loop Inv-loop μ-loop → tie.Start Inv-loop μ-loop
@@ -29,7 +29,7 @@ room c = omega (arith, c .before .loop .inv .1 .same, stretch-inside (c .before 
 loop-holds : tie.Need-loop-holds Inv-loop μ-loop
 loop-holds c =
     let sheet = c .before .before .before .before .before .before .before .pre .0 .0 in
-    (omega arith, join-begins _ _ (length-line _ _ _ _ _ _ (sheet .least) (sheet .most) (sheet .width-is)) _ _)
+    (omega arith, join-begins _ _ (length-line _ _ _ _ _ (sheet .least) (sheet .width-is)) _ _)
 
 mul-a : tie.Need-mul-a Inv-loop μ-loop
 mul-a c = omega (arith, room c)
@@ -65,8 +65,8 @@ loop-again c =
     let sheet = pre .0 .0 in
     let a = start i .args in (
       omega (arith, i .loop-test .taken),
-      join-turn _ _ (length-line _ _ _ _ _ _ (sheet .least) (sheet .most) (sheet .width-is)) _ _ _ (i .before .loop .inv .1) (i .loop-test .taken) (pre .1)
-          (as-line _ _ (a .cells .now) (a .low .now) (a .high .now) (a .looks .now) _ _ _ (scan .scan-of .ensures) (i .before .before .is-wide .ensures) (call .draw-columns .ensures)),
+      join-turn _ _ (length-line _ _ _ _ _ (sheet .least) (sheet .width-is)) _ _ _ (i .before .loop .inv .1) (i .loop-test .taken) (pre .1)
+          (as-line _ _ (a .cells .now) (a .shown .now) (a .looks .now) _ _ _ (scan .scan-of .ensures) (i .before .before .is-wide .ensures) (call .draw-columns .ensures)),
     )
 
 same-length : tie.Need-same-length Inv-loop μ-loop
@@ -75,7 +75,7 @@ same-length c = c .before .loop .inv .1 .same
 returns : tie.Need-returns Inv-loop μ-loop
 returns c =
     let sheet = c .before .before .before .before .before .before .before .before .before .pre .0 .0 in
-    join-ends _ _ (length-line _ _ _ _ _ _ (sheet .least) (sheet .most) (sheet .width-is)) _ _ (c .before .loop .inv .1) (omega arith) (omega arith)
+    join-ends _ _ (length-line _ _ _ _ _ (sheet .least) (sheet .width-is)) _ _ (c .before .loop .inv .1) (omega arith) (omega arith)
 
 pub draw-lines-spec : {M : Type 1} → statement M
 draw-lines-spec =

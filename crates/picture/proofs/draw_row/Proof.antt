@@ -35,7 +35,7 @@ returns c =
     let a = begin k .args in
     let n = begin k .pre .1 .0 in (
       held-after (a .p) (a .k) (a .chars .now) (a .attrs .now) (a .held) (a .start .address) n _ (k .gather .ensures .0),
-      as-row (a .p) (a .k) (a .chars .now) (a .attrs .now) (a .held) (a .start .address) n _ _ _ _ _ _ _ (k .gather .ensures .1) (call .draw-lines .ensures),
+      as-row (a .p) (a .k) (a .chars .now) (a .attrs .now) (a .held) (a .start .address) n _ _ _ _ _ _ (k .gather .ensures .1) (call .draw-lines .ensures),
     )
 
 pub draw-row-spec : {M : Type 1} → statement M

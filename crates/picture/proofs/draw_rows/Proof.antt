@@ -15,14 +15,14 @@ use Rattle.picture.proofs.draw_rows.Statement.{statement}
 use Rattle.picture.proofs.draw_rows.Tie as tie
 
 abbrev Inv-loop : tie.InvT-loop
-Inv-loop out₀ p page chars attrs low high looks n size held₀ r₀ out held r =
+Inv-loop out₀ p page chars attrs shown looks inks n size held₀ r₀ out held r =
     (r ≤ n)
-    × Filling (joined 0 n (rowDrawn p page chars attrs low high looks) ++ drop (n * size) out₀) out₀ (n * size) out (r * size)
-    (joined r (n - r) (rowDrawn p page chars attrs low high looks))
+    × Filling (joined 0 n (rowDrawn p page chars attrs shown looks) ++ drop (n * size) out₀) out₀ (n * size) out (r * size)
+    (joined r (n - r) (rowDrawn p page chars attrs shown looks))
     × (held ≡ heldAt page chars attrs r 0)
 
 abbrev μ-loop : tie.MeasureT-loop
-μ-loop out₀ p page chars attrs low high looks n size held₀ r₀ out held r = n - r
+μ-loop out₀ p page chars attrs shown looks inks n size held₀ r₀ out held r = n - r
 
 -- where the function begins, from a turn of the loop
 abbrev start : tie.In-loop Inv-loop μ-loop → tie.Start Inv-loop μ-loop
@@ -34,7 +34,7 @@ room c = omega (arith, c .before .loop .inv .1 .same, stretch-inside (c .before 
 loop-holds : tie.Need-loop-holds Inv-loop μ-loop
 loop-holds c =
     let sheet = c .before .before .before .before .before .before .pre .0 .0 in
-    (omega arith, join-begins _ _ (length-row _ _ _ _ _ _ _ (sheet .least) (sheet .most) (sheet .width-is) (sheet .size-is)) _ _, sym (held-first _ _ _))
+    (omega arith, join-begins _ _ (length-row _ _ _ _ _ _ (sheet .least) (sheet .width-is) (sheet .size-is)) _ _, sym (held-first _ _ _))
 
 -- what is asked of the row
 in-page : (c : tie.In-loop Inv-loop μ-loop) → (length (start c .args .chars .now) ≡ 16384) × (c .before .loop .r < 8192)
@@ -97,8 +97,8 @@ loop-again c =
     let sheet = pre .0 .0 in
     let a = start i .args in (
       omega (arith, i .loop-test .taken),
-      join-turn _ _ (length-row _ _ _ _ _ _ _ (sheet .least) (sheet .most) (sheet .width-is) (sheet .size-is)) _ _ _ (i .before .loop .inv .1) (i .loop-test .taken) (pre .1 .2)
-          (as-row-at (a .p) (a .page) (a .chars .now) (a .attrs .now) _ byte code held begun (a .low .now) (a .high .now) (a .looks .now) _ _ (sheet .size-is) (call .draw-row .ensures .1)),
+      join-turn _ _ (length-row _ _ _ _ _ _ (sheet .least) (sheet .width-is) (sheet .size-is)) _ _ _ (i .before .loop .inv .1) (i .loop-test .taken) (pre .1 .2)
+          (as-row-at (a .p) (a .page) (a .chars .now) (a .attrs .now) _ byte code held begun (a .shown .now) (a .looks .now) _ _ (sheet .size-is) (call .draw-row .ensures .1)),
       carried-on (a .p) (a .page) (a .chars .now) (a .attrs .now) _ byte code held begun (pre .1 .1) _ (call .draw-row .ensures .0),
     )
 
@@ -108,7 +108,7 @@ same-length c = c .before .loop .inv .1 .same
 returns : tie.Need-returns Inv-loop μ-loop
 returns c =
     let sheet = c .before .before .before .before .before .before .before .before .pre .0 .0 in
-    join-ends _ _ (length-row _ _ _ _ _ _ _ (sheet .least) (sheet .most) (sheet .width-is) (sheet .size-is)) _ _ (c .before .loop .inv .1) (omega arith) (omega arith)
+    join-ends _ _ (length-row _ _ _ _ _ _ (sheet .least) (sheet .width-is) (sheet .size-is)) _ _ (c .before .loop .inv .1) (omega arith) (omega arith)
 
 pub draw-rows-spec : {M : Type 1} → statement M
 draw-rows-spec =

@@ -6,6 +6,7 @@ use lib.ListN.{drop, length-take, length-drop}
 use Rattle.lists.specs.Fill.{Filling}
 use Rattle.lists.specs.Join.{joined, join-begins, join-turn, join-ends}
 use Rattle.tables.specs.Tables.{levelsAt}
+use Rattle.tables.specs.Marks.{blank-lt}
 use Rattle.tables.specs.Laws.{length-levels}
 use Rattle.tables.proofs.fill_looks.Statement.{statement}
 use Rattle.tables.proofs.fill_looks.Tie as tie
@@ -30,9 +31,6 @@ cast-t10 c = omega (arith, c .loop-test .taken, start c .pre .0)
 mul-a : tie.Need-mul-a Inv-loop μ-loop
 mul-a c = omega (arith, c .before .loop-test .taken, start (c .before) .pre .0)
 
-mul-looks : tie.Need-mul-looks Inv-loop μ-loop
-mul-looks c = omega (arith, c .before .loop-test .taken, start (c .before) .pre .0)
-
 sub-looks : tie.Need-sub-looks Inv-loop μ-loop
 sub-looks c = omega (arith, c .before .before .loop .inv .1 .same, c .before .loop-test .taken, start (c .before) .pre)
 
@@ -42,7 +40,7 @@ part-looks-start c = omega (arith, c .before .before .loop .inv .1 .same, c .bef
 looks-requires : tie.Need-looks-requires Inv-loop μ-loop
 looks-requires c κs =
     let i = c .before .before in
-    simp (length-take, length-drop) (omega (arith, i .before .loop .inv .1 .same, start i .pre, i .loop-test .taken))
+    (simp (length-take, length-drop) (omega (arith, i .before .loop .inv .1 .same, start i .pre, i .loop-test .taken)), rw (c .before .scene-of .ensures) (blank-lt _ _ _))
 
 loop-again : tie.Need-loop-again Inv-loop μ-loop
 unfolding levelsAt
@@ -71,7 +69,6 @@ fill-looks-spec =
     cast-t10
     (λ c κs. search needs)
     mul-a
-    mul-looks
     sub-looks
     part-looks-start
     (λ c. search needs)

@@ -42,7 +42,6 @@ half-spec =
     (λ c. search needs)
     (λ c. search needs)
     (λ c. search needs)
-    (λ c. search needs)
     loop-again
     (λ c. search needs)
     returns)

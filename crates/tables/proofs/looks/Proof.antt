@@ -8,7 +8,7 @@ returns c =
     let second = c .before .before in
     let first = second .before .before .before .before in
     let start = first .before .before .before in
-    halves (start .args .s) (start .args .table .now) _ _ (start .pre) (first .half .ensures) (second .half2 .ensures)
+    halves (start .args .s) (start .args .table .now) _ _ (start .pre .0) (first .half .ensures) (second .half2 .ensures)
 
 pub looks-spec : {M : Type 1} → statement M
 looks-spec =

@@ -1,0 +1,34 @@
+use native.Mathlib.Omega.{arith}
+use borrow.Author.Needs.{needs}
+use Rattle.picture.specs.Plan.{cellDotsOf}
+use Rattle.picture.proofs.put.Statement.{statement}
+use Rattle.picture.proofs.put.Tie as tie
+
+put-cell-requires : tie.Need-put-cell-requires
+put-cell-requires c κs =
+    let start = c .before .before .before .before .before .before .before .before .before in
+    let sheet = start .pre .0 .0 in
+    (sheet .inks-are, sheet .looks-few _ _ (start .pre .0 .1) (omega (arith, start .pre .0 .2)), sheet .least, sheet .most, start .pre .1)
+
+returns : tie.Need-returns
+unfolding cellDotsOf
+returns c = c .before .before .put-cell .ensures
+
+pub put-spec : {M : Type 1} → statement M
+put-spec =
+    tie.close
+    (tie.spec
+    (λ c. search needs)
+    (λ c. search needs)
+    (λ c. search needs)
+    (λ c. search needs)
+    (λ c. search needs)
+    (λ c. search needs)
+    (λ c. search needs)
+    (λ c. search needs)
+    (λ c. search needs)
+    (λ c. search needs)
+    (λ c. search needs)
+    put-cell-requires
+    (λ c. search needs)
+    returns)

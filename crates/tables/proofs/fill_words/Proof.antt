@@ -1,0 +1,87 @@
+use Prim.Native.Nat.{_≤_, _-_, _*_}
+use mathlib.Core.List.{_++_}
+use native.Mathlib.Omega.{arith}
+use borrow.Author.Needs.{needs}
+use lib.ListN.{drop, length-take, length-drop}
+use Rattle.lists.specs.Fill.{Filling}
+use Rattle.lists.specs.Join.{joined, join-begins, join-turn, join-ends}
+use Rattle.shape.specs.Font.{fontOf}
+use Rattle.tables.specs.Tables.{wordsAt}
+use Rattle.tables.specs.Laws.{length-words}
+use Rattle.tables.proofs.fill_words.Statement.{statement}
+use Rattle.tables.proofs.fill_words.Tie as tie
+
+abbrev Inv-loop : tie.InvT-loop
+Inv-loop table₀ words flags unshifted shifted d count s₀ table s =
+    (s ≤ count)
+    × Filling (joined 0 count (wordsAt (fontOf words flags unshifted shifted) d) ++ drop (count * 256) table₀) table₀ (count * 256) table (s * 256)
+    (joined s (count - s) (wordsAt (fontOf words flags unshifted shifted) d))
+
+abbrev μ-loop : tie.MeasureT-loop
+μ-loop table₀ words flags unshifted shifted d count s₀ table s = count - s
+
+abbrev start : tie.In-loop Inv-loop μ-loop → tie.Start Inv-loop μ-loop
+start c = c .before .before .before .before .before .before .before .before
+
+loop-holds : tie.Need-loop-holds Inv-loop μ-loop
+loop-holds c = (omega arith, join-begins _ _ (length-words _ _) _ _)
+
+cast-t15 : tie.Need-cast-t15 Inv-loop μ-loop
+cast-t15 c = omega (arith, c .loop-test .taken, start c .pre .2)
+
+mul-a : tie.Need-mul-a Inv-loop μ-loop
+mul-a c = omega (arith, c .before .before .loop-test .taken, start (c .before .before) .pre .2)
+
+mul-shown-words : tie.Need-mul-shown-words Inv-loop μ-loop
+mul-shown-words c = omega (arith, c .before .before .loop-test .taken, start (c .before .before) .pre .2)
+
+sub-shown-words : tie.Need-sub-shown-words Inv-loop μ-loop
+sub-shown-words c = omega (arith, c .before .before .before .loop .inv .1 .same, c .before .before .loop-test .taken, start (c .before .before) .pre)
+
+part-shown-words-start : tie.Need-part-shown-words-start Inv-loop μ-loop
+part-shown-words-start c = omega (arith, c .before .before .before .loop .inv .1 .same, c .before .before .loop-test .taken, start (c .before .before) .pre)
+
+shown-words-requires : tie.Need-shown-words-requires Inv-loop μ-loop
+shown-words-requires c κs =
+    let i = c .before .before .before in
+    let pre = start i .pre in
+    (pre .0, pre .1, simp (length-take, length-drop) (omega (arith, i .before .loop .inv .1 .same, pre, i .loop-test .taken)))
+
+loop-again : tie.Need-loop-again Inv-loop μ-loop
+unfolding wordsAt
+loop-again c =
+    let call = c .before .before in
+    let second = call .before .before in
+    let i = second .before .before in (
+      omega (arith, i .loop-test .taken),
+      join-turn _ _ (length-words _ _) _ _ _ (i .before .loop .inv .1) (i .loop-test .taken) (start i .pre .3) (rw (second .before .position .ensures, second .position2 .ensures) at (call .shown-words .ensures)),
+    )
+
+same-length : tie.Need-same-length Inv-loop μ-loop
+same-length c = c .before .loop .inv .1 .same
+
+returns : tie.Need-returns Inv-loop μ-loop
+returns c = join-ends _ _ (length-words _ _) _ _ (c .before .loop .inv .1) (omega arith) (omega arith)
+
+pub fill-words-spec : {M : Type 1} → statement M
+fill-words-spec =
+    tie.close
+    (tie.spec
+    Inv-loop
+    μ-loop
+    (λ c. search needs)
+    loop-holds
+    cast-t15
+    (λ c κs. search needs)
+    (λ c κs. search needs)
+    mul-a
+    mul-shown-words
+    sub-shown-words
+    part-shown-words-start
+    (λ c. search needs)
+    shown-words-requires
+    (λ c. search needs)
+    (λ c. search needs)
+    loop-again
+    same-length
+    returns)
