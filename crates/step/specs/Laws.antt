@@ -1,36 +1,32 @@
 -- What the proofs of the step use. Assumes nothing.
 use Prim.Native.Nat.{ℕ, zero, suc, _-_, _≤_, _<_}
 use mathlib.Core.Path.{_≡_, refl, sym, ap, _∙_}
-use mathlib.Core.Bool.{Bool, true, false}
+use mathlib.Core.Bool.{Bool, true, false, _&&_, _||_, not, true≢false}
 use mathlib.Core.List.{List, [], _∷_, _++_, map}
 use native.Mathlib.Nat.{sub-zero, not-suc-le-zero, le-of-suc-le-suc, suc-sub-suc}
 use native.Mathlib.Omega.{arith}
 use lib.Dec.{eqb}
-use lib.ListN.{length, getD, replicate, drop, length-map, length-append, length-replicate}
+use lib.ListN.{length, replicate, drop, length-map}
 use Rattle.lists.specs.Choice.{pick, neither}
 use Rattle.lists.specs.Tab.{tab}
 use Rattle.refusal.specs.declared.Refusal.{Refusal}
-use Rattle.refusal.specs.declared.Refusal.the-variants.{Done}
+use Rattle.refusal.specs.declared.Refusal.the-variants.{Done, Size, Range}
 use Rattle.refusal.specs.Number.{doneOf}
-use Rattle.refusal.specs.Laws.{done-is}
 use Rattle.raster.specs.Wide.{codeOf, isWide, againAt}
-use Rattle.raster.specs.Latch.{latched}
 use Rattle.board.specs.declared.Place.{Place}
 use Rattle.board.specs.declared.Board.{Board}
-use Rattle.board.specs.Modes.{settersHidden}
 use Rattle.board.specs.Range.{memoriesRefused}
 use Rattle.board.specs.Laws.{memories-all}
-use Rattle.timing.specs.Check.{callCheck}
+use Rattle.timing.specs.Check.{pageCheck, stateRefused, callCheck}
 use Rattle.timing.specs.Laws.{InRange, call-passed, ht-bound, vt-bound}
-use Rattle.shape.specs.Font.{Font, fontRefused, wordOf}
+use Rattle.shape.specs.Font.{Font, fontRefused}
 use Rattle.shape.specs.Laws.{font-whole, word-of-small}
-use Rattle.video.specs.declared.Scene.{Scene}
 use Rattle.video.specs.declared.Look.{Look}
 use Rattle.video.specs.Scene.{sceneOf, cursorAt}
-use Rattle.video.specs.Look.{blankLook, lookOf}
+use Rattle.video.specs.Look.{blankLook}
 use Rattle.video.specs.Cell.{shadeOf, litBits, cellDots, columnOf}
 use Rattle.video.specs.Twice.{column-plain}
-use Rattle.video.specs.At.{lentRefused, readingOf, countedByte, shownCode, scanDots, dotsAt}
+use Rattle.video.specs.At.{lentRefused, scanDots, dotsAt}
 use Rattle.dots.specs.Half.{halfBy, half-column}
 use Rattle.dots.specs.Width.{length-cell}
 use Rattle.place.specs.declared.Carried.{Carried}
@@ -40,7 +36,9 @@ use Rattle.place.specs.Laws.{one-clock, loaded-lt}
 use Rattle.step.specs.declared.Signals.{Signals}
 use Rattle.step.specs.declared.Stepped.{Stepped}
 use Rattle.step.specs.declared.Clock.{Clock}
+use Rattle.step.specs.declared.Shown.{Shown}
 use Rattle.step.specs.Signals.{scanIn, oddIn, signalsOf, padded, clockDots}
+use Rattle.step.specs.Shown.{signalsWith, cellShown, blankShown, shownIn}
 use Rattle.step.specs.Step.{steppedOf, stepCheck, noSignals, stepRefused, stepOf, clockIn, Fit}
 
 -- ---- dots
@@ -55,7 +53,7 @@ module _ (x : ℕ) where
       go false e = ap (λ (m : List ℕ). x ∷ m) e
 
   -- a cell of one level
-  pub blank-cell : (d : ℕ) → d ≤ 12 → cellDots (blankLook x) 0 d ≡ replicate d x
+  blank-cell : (d : ℕ) → d ≤ 12 → cellDots (blankLook x) 0 d ≡ replicate d x
   unfolding cellDots
   blank-cell d m =
       let n : length (litBits false 0 d) ≡ d = sym (length-map (litBits false 0 d) (shadeOf x x)) ∙ length-cell (blankLook x) 0 d (omega arith) m in
@@ -70,41 +68,91 @@ rest-zero (suc d) (suc n) h = rest-zero d n (le-of-suc-le-suc h) ∙ ap (λ (k :
 over-zeros : (d : ℕ) (out dots : List ℕ) → d ≤ 12 → out ≡ dots ++ drop d (replicate 12 0) → out ≡ padded dots d
 over-zeros d out dots h e = e ∙ ap (λ (l : List ℕ). dots ++ l) (rest-zero d 12 h)
 
-pub padded-blank : (x d : ℕ) (out : List ℕ) → d ≤ 12 → out ≡ cellDots (blankLook x) 0 d ++ drop d (replicate 12 0) → out ≡ padded (replicate d x) d
-padded-blank x d out h e = over-zeros d out (replicate d x) h (rw (blank-cell x d h) at e)
+-- a column of double width, from the cell that is drawn
+pub column-wide : (odd : Bool) (k : Look) (w d : ℕ) → w < 1024 → d ≤ 12 → (cell : List ℕ) → cell ≡ cellDots k w d ++ drop d (replicate 12 0)
+    → (out : List ℕ) → out ≡ tab d (halfBy cell (pick odd d 0)) ++ drop d (replicate 12 0) → out ≡ padded (columnOf true odd (cellDots k w d)) d
+column-wide odd k w d small most cell e out q =
+    let dots = cellDots k w d in
+    let half : tab d (halfBy cell (pick odd d 0)) ≡ columnOf true odd dots =
+    rw (over-zeros d cell dots most e) (half-column odd dots (replicate (12 - d) 0) d (length-cell k w d small most)) in
+    over-zeros d out (columnOf true odd dots) most (rw half at q)
 
-pub padded-cell : (d : ℕ) (out : List ℕ) (k l : Look) (w v : ℕ) → d ≤ 12 → out ≡ cellDots k w d ++ drop d (replicate 12 0) → k ≡ l → w ≡ v
-    → out ≡ padded (cellDots l v d) d
-padded-cell d out k l w v h e p q = over-zeros d out (cellDots l v d) h (rw (p, q) at e)
+-- and any other
+pub column-not-wide : (odd : Bool) (k : Look) (w d : ℕ) → d ≤ 12 → (cell : List ℕ) → cell ≡ cellDots k w d ++ drop d (replicate 12 0)
+    → cell ≡ padded (columnOf false odd (cellDots k w d)) d
+column-not-wide odd k w d most cell e = over-zeros d cell (cellDots k w d) most e ∙ ap (λ (l : List ℕ). padded l d) (sym (column-plain odd (cellDots k w d)))
 
--- they are twelve
-pub cell-places : (k : Look) (f : Font) (code scan d : ℕ) → d ≤ 12 → (cell : List ℕ) → cell ≡ padded (cellDots k (wordOf f code scan) d) d → length cell ≡ 12
-cell-places k f code scan d most cell e =
-    let dots = cellDots k (wordOf f code scan) d in
-    let n = length-cell k (wordOf f code scan) d (word-of-small f code scan) most in
-    rw e (length-append dots (replicate (12 - d) 0) ∙ rw (n, length-replicate {A = ℕ} (12 - d) 0) (omega (arith, most)))
+-- ---- what a clock shows
 
--- what the code makes of a cell's twelve dot places
-unfoldable pub columnPut : Board → (row : ℕ) → (cell : List ℕ) → List ℕ
-columnPut b k cell =
-    pick (isWide (codeOf k))
-    (tab (b .page .video .dots .0) (halfBy cell (pick (oddIn b) (b .page .video .dots .0) 0)) ++ drop (b .page .video .dots .0) (replicate 12 0))
-    cell
+module _ (b : Board) (chars attrs : List ℕ) (f : Font) (row held a : ℕ) where
+  pub shown-small : shownIn b chars attrs f row held a .word < 1024
+  unfolding shownIn cellShown blankShown
+  shown-small = go (activeAt (b .page) (b .place))
+    where
+      go : (t : Bool) → (pick t (cellShown b chars attrs f row held a) (blankShown b)) .word < 1024
+      go true = word-of-small f _ _
+      go false = omega arith
 
--- is what its column shows
-column-put : (b : Board) (row : ℕ) (dots : List ℕ) → b .page .video .dots .0 ≤ 12 → length dots ≡ b .page .video .dots .0
-    → (cell : List ℕ) → cell ≡ padded dots (b .page .video .dots .0) → columnPut b row cell ≡ padded (columnOf (isWide (codeOf row)) (oddIn b) dots) (b .page .video .dots .0)
-unfolding columnPut
-column-put b row dots most n cell e = go (isWide (codeOf row))
+  shown-cursor : shownIn b chars attrs f row held a .cursor ≡ (activeAt (b .page) (b .place) && cursorAt (sceneOf b (scanIn b row) (b .place .field)) a)
+  unfolding shownIn cellShown blankShown
+  shown-cursor = go (activeAt (b .page) (b .place))
+    where
+      go : (t : Bool) → (pick t (cellShown b chars attrs f row held a) (blankShown b)) .cursor ≡ (t && cursorAt (sceneOf b (scanIn b row) (b .place .field)) a)
+      go true = refl
+      go false = refl
+
+  -- its CURSOR makes the signals
+  signals-shown : signalsWith b (shownIn b chars attrs f row held a .cursor) ≡ signalsOf b row a
+  unfolding signalsWith signalsOf
+  signals-shown = ap (signalsWith b) shown-cursor
+
+  -- its look and word make the dots
+  dots-shown : b .page .video .dots .0 ≤ 12
+      → padded
+      (columnOf (activeAt (b .page) (b .place) && isWide (codeOf row)) (oddIn b)
+      (cellDots (shownIn b chars attrs f row held a .look) (shownIn b chars attrs f row held a .word) (b .page .video .dots .0)))
+      (b .page .video .dots .0)
+      ≡ clockDots b chars attrs f row held a
+  unfolding shownIn cellShown blankShown clockDots dotsAt scanDots sceneOf
+  dots-shown most = ap (λ (l : List ℕ). padded l d) (go (activeAt (b .page) (b .place)))
+    where
+      d : ℕ
+      d = b .page .video .dots .0
+
+      x : ℕ
+      x = sceneOf b 0 (b .place .field) .blank
+
+      s : Bool → Shown
+      s t = pick t (cellShown b chars attrs f row held a) (blankShown b)
+
+      go : (t : Bool) → columnOf (t && isWide (codeOf row)) (oddIn b) (cellDots (s t .look) (s t .word) d)
+          ≡ pick t (columnOf (isWide (codeOf row)) (oddIn b) (dotsAt b chars attrs f (scanIn b row) (b .place .field) (againAt (codeOf row) (b .place .clock .0)) held a)) (replicate d x)
+      go true = refl
+      go false = column-plain (oddIn b) (cellDots (blankLook x) 0 d) ∙ blank-cell x d most
+
+-- ---- the check
+
+-- nothing refuses a clock
+pub clear-check : (b : Board) (size : Bool) → ((not size && doneOf (pageCheck (b .page))) && not (stateRefused b)) ≡ doneOf (callCheck b size false false)
+unfolding callCheck
+clear-check b size = go size (doneOf (pageCheck (b .page))) (stateRefused b) refl
   where
-    d : ℕ
-    d = b .page .video .dots .0
+    go : (s d r : Bool) → doneOf (pageCheck (b .page)) ≡ d
+        → ((not s && d) && not r) ≡ doneOf (pick s Size (pick (not d) (pageCheck (b .page)) (pick (r || false) Range Done)))
+    go true d r e = refl
+    go false true true e = refl
+    go false true false e = refl
+    go false false r e = sym e
 
-    go : (t : Bool) → pick t (tab d (halfBy cell (pick (oddIn b) d 0)) ++ drop d (replicate 12 0)) cell ≡ padded (columnOf t (oddIn b) dots) d
-    go true =
-        let half : tab d (halfBy cell (pick (oddIn b) d 0)) ≡ columnOf true (oddIn b) dots = rw e (half-column (oddIn b) dots (replicate (12 - d) 0) d n) in
-        ap (λ (l : List ℕ). l ++ drop d (replicate 12 0)) half ∙ ap (λ (l : List ℕ). columnOf true (oddIn b) dots ++ l) (rest-zero d 12 most)
-    go false = e ∙ ap (λ (l : List ℕ). padded l d) (sym (column-plain (oddIn b) dots))
+-- where neither the sizes nor the page refuse it, the state does
+pub range-left : (b : Board) (size : Bool) → doneOf (callCheck b size false false) ≡ false → size ≡ false → doneOf (pageCheck (b .page)) ≡ true
+    → Range ≡ callCheck b size false false
+unfolding callCheck
+range-left b size n s d = rw (s, d) (go (stateRefused b) (rw (s, d) at n))
+  where
+    go : (r : Bool) → doneOf (pick (r || false) Range Done) ≡ false → Range ≡ pick (r || false) Range Done
+    go true e = refl
+    go false e = absurd (true≢false e)
 
 -- ---- the step
 
@@ -128,50 +176,41 @@ module _ (b : Board) (chars attrs : List ℕ) (f : Font) where
   pub address-lt : Fit b chars attrs f → (c : Carried) → c ≡ loadedIn (b .page) chars (b .place) → c .beam .address < 16384
   address-lt k c e = rw e (loaded-lt (b .page) chars (k .page) (b .place) (k .state .beam-le) (k .state .row-le))
 
-  module _ (row : ℕ) (scene : Scene) (e : scene ≡ sceneOf b (scanIn b row) (b .place .field)) (held a : ℕ) (r : List ℕ) where
-    pub dots-active : activeAt (b .page) (b .place) ≡ true → b .page .video .dots .0 ≤ 12
-        → (byte : ℕ) → byte ≡ countedByte (readingOf (b .page)) (againAt (codeOf row) (b .place .clock .0)) (getD attrs a 0)
-        → (valid : ℕ) → valid ≡ latched byte held → (code : ℕ) → code ≡ shownCode (settersHidden (b .page)) (getD chars a 0) (getD attrs a 0)
-        → (cell : List ℕ) → cell ≡ padded (cellDots (lookOf scene valid (cursorAt scene a)) (wordOf f code (scanIn b row)) (b .page .video .dots .0)) (b .page .video .dots .0)
-        → r ≡ columnPut b row cell
-        → r ≡ clockDots b chars attrs f row held a
-    unfolding clockDots dotsAt scanDots sceneOf
-    dots-active t most byte eb valid ev code ec cell q z =
-        let d = b .page .video .dots .0 in
-        let dots = cellDots (lookOf scene valid (cursorAt scene a)) (wordOf f code (scanIn b row)) d in
-        rw t (rw (e, ev, eb, ec) at (z ∙ column-put b row dots most (length-cell _ _ d (word-of-small f code (scanIn b row)) most) cell q))
-
-    pub dots-blank : activeAt (b .page) (b .place) ≡ false → r ≡ padded (replicate (b .page .video .dots .0) (scene .blank)) (b .page .video .dots .0) → r ≡ clockDots b chars attrs f row held a
-    unfolding clockDots
-    dots-blank t q = rw t (rw e at q)
-
   -- the parts of a clock put together
-  pub clocked : (c : Carried) → c ≡ loadedIn (b .page) chars (b .place) → (q : Place) → q ≡ turnedIn (b .page) (b .place) (movedIn (b .page) attrs (b .place) c)
-      → (s : Signals) → s ≡ signalsOf b (c .beam .code) (c .beam .address) → (d : List ℕ) → d ≡ clockDots b chars attrs f (c .beam .code) (c .beam .latch) (c .beam .address)
-      → _≡_ {A = Clock} (record { signals = s; address = c .beam .address; dots = d; place = q }) (clockIn (steppedOf b chars attrs f))
+  pub clocked : b .page .video .dots .0 ≤ 12 → (c : Carried) → c ≡ loadedIn (b .page) chars (b .place)
+      → (q : Place) → q ≡ turnedIn (b .page) (b .place) (movedIn (b .page) attrs (b .place) c)
+      → (s : Shown) → s ≡ shownIn b chars attrs f (c .beam .code) (c .beam .latch) (c .beam .address) → (g : Signals) → g ≡ signalsWith b (s .cursor)
+      → (wide : Bool) → wide ≡ (activeAt (b .page) (b .place) && isWide (codeOf (c .beam .code)))
+      → (d : List ℕ) → d ≡ padded (columnOf wide (oddIn b) (cellDots (s .look) (s .word) (b .page .video .dots .0))) (b .page .video .dots .0)
+      → _≡_ {A = Clock} (record { refusal = Done; signals = g; address = c .beam .address; dots = d; place = q }) (clockIn (steppedOf b chars attrs f))
   unfolding steppedOf
-  clocked c ec q eq s es d ed = rw (eq, es, ed, ec, one-clock (b .page) chars attrs (b .place))
+  clocked most c ec q eq s es g eg wide ew d ed =
+      let k = c .beam .code in
+      let h = c .beam .latch in
+      let a = c .beam .address in
+      let signals : g ≡ signalsOf b k a = eg ∙ ap (λ (x : Shown). signalsWith b (x .cursor)) es ∙ signals-shown b chars attrs f k h a in
+      let dots : d ≡ clockDots b chars attrs f k h a = rw (ew, es) at ed ∙ dots-shown b chars attrs f k h a most in
+      rw (eq, signals, dots, ec, one-clock (b .page) chars attrs (b .place))
 
   pub clock-done : doneOf (stepCheck b chars attrs f) ≡ true → (c : Clock) → c ≡ clockIn (steppedOf b chars attrs f) → c ≡ clockIn (stepOf b chars attrs f)
   unfolding stepOf
   clock-done e c h = rw e h
 
-  pub clock-refused : doneOf (stepCheck b chars attrs f) ≡ false
-      → _≡_ {A = Clock} (record { signals = noSignals; address = 0; dots = replicate 12 0; place = b .place }) (clockIn (stepOf b chars attrs f))
+  pub clock-refused : doneOf (stepCheck b chars attrs f) ≡ false → (r : Refusal) → r ≡ stepCheck b chars attrs f
+      → _≡_ {A = Clock} (record { refusal = r; signals = noSignals; address = 0; dots = replicate 12 0; place = b .place }) (clockIn (stepOf b chars attrs f))
   unfolding stepOf
-  clock-refused e = rw e
+  clock-refused e r h = rw (h, e)
 
-  -- a step from its check and its clock
+  -- a step from its clock
   abbrev again : Stepped → Stepped
-  again s = record { refusal = stepCheck b chars attrs f; signals = s .signals; address = s .address; dots = s .dots; board = withPlace b (s .board .place) }
+  again s = record { refusal = s .refusal; signals = s .signals; address = s .address; dots = s .dots; board = withPlace b (s .board .place) }
 
-  again-by : (t : Bool) → doneOf (stepCheck b chars attrs f) ≡ t → (s : Stepped)
-      → s ≡ pick t (steppedOf b chars attrs f) (stepRefused (stepCheck b chars attrs f) b) → again s ≡ s
+  again-by : (t : Bool) (s : Stepped) → s ≡ pick t (steppedOf b chars attrs f) (stepRefused (stepCheck b chars attrs f) b) → again s ≡ s
   unfolding steppedOf
-  again-by true e s h = rw (h, done-is (stepCheck b chars attrs f) e)
-  again-by false e s h = rw h
+  again-by true s h = rw h
+  again-by false s h = rw h
 
-  pub stepped : (r : Refusal) → r ≡ stepCheck b chars attrs f → (c : Clock) → c ≡ clockIn (stepOf b chars attrs f) → (n : Board) → n ≡ withPlace b (c .place)
-      → _≡_ {A = Stepped} (record { refusal = r; signals = c .signals; address = c .address; dots = c .dots; board = n }) (stepOf b chars attrs f)
+  pub stepped : (c : Clock) → c ≡ clockIn (stepOf b chars attrs f) → (n : Board) → n ≡ withPlace b (c .place)
+      → _≡_ {A = Stepped} (record { refusal = c .refusal; signals = c .signals; address = c .address; dots = c .dots; board = n }) (stepOf b chars attrs f)
   unfolding stepOf
-  stepped r er c ec n en = rw (en, ec, er) (again-by (doneOf (stepCheck b chars attrs f)) refl _ refl)
+  stepped c ec n en = rw (en, ec) (again-by (doneOf (stepCheck b chars attrs f)) _ refl)

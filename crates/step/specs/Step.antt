@@ -57,9 +57,9 @@ unfoldable pub stepOf : Board → (chars attrs : List ℕ) → Font → Stepped
 stepOf b chars attrs f =
     pick (doneOf (stepCheck b chars attrs f)) (steppedOf b chars attrs f) (stepRefused (stepCheck b chars attrs f) b)
 
--- all of a step but its refusal, and of the board the place only
+-- all of a step, and of the board the place only
 abbrev pub clockIn : Stepped → Clock
-clockIn s = record { signals = s .signals; address = s .address; dots = s .dots; place = s .board .place }
+clockIn s = record { refusal = s .refusal; signals = s .signals; address = s .address; dots = s .dots; place = s .board .place }
 
 -- what a step has once nothing is refused
 pub record Fit (b : Board) (chars attrs : List ℕ) (f : Font) : Type 0 where

@@ -1,17 +1,18 @@
 // One clock of the board: its signals, address and dots, and the board for the next clock.
 ghost use mathlib.Core.Path.{_≡_};
+ghost use mathlib.Core.Bool.{false};
 ghost use Prim.Native.Nat.{_≤_, _<_};
-ghost use lib.ListN.{length, replicate};
-ghost use Rattle.units.specs.Units.{lines};
-ghost use Rattle.shape.specs.Font.{Whole, fontNow, lentFont, wordOf};
-ghost use Rattle.video.specs.Scene.{sceneOf, cursorAt};
-ghost use Rattle.video.specs.Look.{lookOf};
-ghost use Rattle.video.specs.Cell.{cellDots};
-ghost use Rattle.place.specs.Place.{activeAt};
 ghost use Rattle.lists.specs.Choice.{pick};
-ghost use Rattle.step.specs.Signals.{scanIn, hsyncIn, vsyncIn, signalsOf, padded, clockDots};
-ghost use Rattle.step.specs.Step.{Fit, steppedOf, stepCheck, stepOf, clockIn};
-ghost use Rattle.step.specs.Laws.{columnPut};
+ghost use Rattle.units.specs.Units.{lines};
+ghost use Rattle.refusal.specs.Number.{doneOf};
+ghost use Rattle.timing.specs.Check.{callCheck};
+ghost use Rattle.shape.specs.Font.{fontNow, lentFont};
+ghost use Rattle.video.specs.Scene.{sceneOf};
+ghost use Rattle.video.specs.Cell.{cellDots, columnOf};
+ghost use Rattle.place.specs.Place.{activeAt};
+ghost use Rattle.step.specs.Signals.{scanIn, hsyncIn, vsyncIn, padded, oddIn};
+ghost use Rattle.step.specs.Step.{Fit, steppedOf, stepOf, clockIn};
+ghost use Rattle.step.specs.Shown.{signalsWith, cellShown, blankShown, shownIn};
 
 pub struct Signals {
     pub hsync: bool,
@@ -21,13 +22,29 @@ pub struct Signals {
     pub blink: bool,
 }
 
-// A clock's signals, the address fetched or held, the dots, and the board for the next clock.
+// What a clock puts out: what refuses it, its signals, the address fetched or held, and the dots. Then the next place.
+pub struct Clock {
+    pub refusal: refusal::Refusal,
+    pub signals: Signals,
+    pub address: u16,
+    pub dots: [u8; 12],
+    pub place: board::Place,
+}
+
+// The same with the board for the next clock.
 pub struct Stepped {
     pub refusal: refusal::Refusal,
     pub signals: Signals,
     pub address: u16,
     pub dots: [u8; 12],
     pub board: board::Board,
+}
+
+// What a clock shows: CURSOR, and the look and the word of a cell.
+struct Shown {
+    cursor: bool,
+    look: video::Look,
+    word: u16,
 }
 
 // The scan line of the place, in a row with this code.
@@ -55,66 +72,19 @@ fn vsync_in(b: board::Board) -> bool
     b.place.line.during(first, t.vsync)
 }
 
-fn signals_of(
-    b: board::Board,
-    row: u8,
-    scene: video::Scene,
-    active: bool,
-    address: usize,
-) -> Signals
-    requires { ⌜ (scene ≡ sceneOf b (scanIn b row) (b .place .field)) × (active ≡ activeAt (b .page) (b .place)) ⌝ }
-    ensures { λ r. ⌜ r ≡ signalsOf b row address ⌝ }
+// BLINK and whether the picture is shown are the same on every scan line. So line 0 will do, and nothing is divided.
+fn signals_of(b: board::Board, active: bool, cursor: bool) -> Signals
+    requires { ⌜ active ≡ activeAt (b .page) (b .place) ⌝ }
+    ensures { λ r. ⌜ r ≡ signalsWith b cursor ⌝ }
 {
+    let scene = video::scene_of(b, units::Lines(0), b.place.field);
     Signals {
         hsync: hsync_in(b),
         vsync: vsync_in(b),
         blank: !active | !scene.shown,
-        cursor: active & video::cursor_at(scene, address),
+        cursor: cursor,
         blink: scene.blink,
     }
-}
-
-// A cell's dots in twelve places, from the code that is shown and the attributes that are valid.
-fn shown_dots(
-    b: board::Board,
-    row: u8,
-    scene: video::Scene,
-    code: u8,
-    attributes: u8,
-    address: usize,
-    words: &[u16],
-    flags: &[u8],
-    unshifted: &[u8],
-    shifted: &[u8],
-) -> [u8; 12]
-    requires { ⌜ Whole (fontNow words flags unshifted shifted) ⌝ }
-    requires { ⌜ (6 ≤ b .page .video .dots .0) × (b .page .video .dots .0 ≤ 12) ⌝ }
-    ensures { λ r. ⌜ r ≡ padded
-        (cellDots (lookOf scene attributes (cursorAt scene address))
-        (wordOf (lentFont words flags unshifted shifted) code (scanIn b row)) (b .page .video .dots .0))
-        (b .page .video .dots .0) ⌝ }
-{
-    let mut out = [0u8; 12];
-    let cursor = video::cursor_at(scene, address);
-    let look = video::look_of(scene, attributes, cursor);
-    let word = shape::word_of(code, scan_in(b, row), words, flags, unshifted, shifted);
-    dots::draw_cell(&mut out, look, word, b.page.video.dots);
-    out
-}
-
-// The twelve dot places off the active clocks.
-fn blank_dots(b: board::Board, level: u8) -> [u8; 12]
-    requires { ⌜ (6 ≤ b .page .video .dots .0) × (b .page .video .dots .0 ≤ 12) ⌝ }
-    ensures { λ r. ⌜ r ≡ padded (replicate (b .page .video .dots .0) level) (b .page .video .dots .0) ⌝ }
-{
-    let mut out = [0u8; 12];
-    let look = video::Look {
-        lit: false,
-        symbol: level,
-        surround: level,
-    };
-    dots::draw_cell(&mut out, look, 0, b.page.video.dots);
-    out
 }
 
 // The scene of the place's scan line.
@@ -124,32 +94,57 @@ fn scene_in(b: board::Board, row: u8) -> video::Scene
     video::scene_of(b, scan_in(b, row), b.place.field)
 }
 
-// Where a column's dots begin among the cell's, each twice.
-fn half_from(odd: bool, d: usize) -> usize
-    ensures { λ r. ⌜ r ≡ pick odd d 0 ⌝ }
-{
-    if odd { d } else { 0 }
-}
-
-// What a column of a row with this code shows of a cell's twelve dot places.
-fn column_dots(b: board::Board, row: u8, cell: [u8; 12]) -> [u8; 12]
-    requires { ⌜ (b .page .video .dots .0 ≤ 12) × (length cell ≡ 12) ⌝ }
-    ensures { λ r. ⌜ r ≡ columnPut b row cell ⌝ }
-{
-    if raster::is_wide(raster::code_of(row)) {
-        let mut out = [0u8; 12];
-        let d = b.page.video.dots.0 as usize;
-        let from = half_from(b.place.clock.0 % 2 == 1, d);
-        dots::halve(&mut out, &cell, from, d);
-        return out;
-    }
-    cell
-}
-
-// The twelve dot places of a clock that fetches or holds an address, where held is valid before its cell.
-fn clock_dots(
+// What an active clock shows, of the cell at its address.
+fn cell_shown(
     b: board::Board,
-    scene: video::Scene,
+    chars: &[u8],
+    attrs: &[u8],
+    words: &[u16],
+    flags: &[u8],
+    unshifted: &[u8],
+    shifted: &[u8],
+    row: u8,
+    held: u8,
+    address: usize,
+) -> Shown
+    requires { ⌜ Fit b (now chars) (now attrs) (fontNow words flags unshifted shifted) × (address < 16384) ⌝ }
+    ensures { λ r. ⌜ r ≡ cellShown b (now (chars .entry)) (now (attrs .entry)) (lentFont words flags unshifted shifted) row held address ⌝ }
+{
+    let page = b.page;
+    let scene = scene_in(b, row);
+    let cursor = video::cursor_at(scene, address);
+    let byte = attrs[address];
+    let again = raster::again_at(raster::code_of(row), b.place.clock.0);
+    let counted = video::counted_byte(video::reading_of(page), again, byte);
+    let valid = raster::latched(counted, held);
+    let hidden = board::setters_hidden(page);
+    let code = video::shown_code(hidden, chars[address], byte);
+    Shown {
+        cursor,
+        look: video::look_of(scene, valid, cursor),
+        word: shape::word_of(code, scan_in(b, row), words, flags, unshifted, shifted),
+    }
+}
+
+// What is shown off the active clocks: a cell of the blank level, which is the same on every scan line.
+fn blank_shown(b: board::Board) -> Shown
+    ensures { λ r. ⌜ r ≡ blankShown b ⌝ }
+{
+    let scene = video::scene_of(b, units::Lines(0), b.place.field);
+    Shown {
+        cursor: false,
+        look: video::Look {
+            lit: false,
+            symbol: scene.blank,
+            surround: scene.blank,
+        },
+        word: 0,
+    }
+}
+
+// What a clock shows that fetches or holds an address, where held is valid before its cell.
+fn shown_in(
+    b: board::Board,
     active: bool,
     chars: &[u8],
     attrs: &[u8],
@@ -160,42 +155,50 @@ fn clock_dots(
     row: u8,
     held: u8,
     address: usize,
-) -> [u8; 12]
-    requires { ⌜ Fit b (now chars) (now attrs) (fontNow words flags unshifted shifted) ⌝ }
-    requires { ⌜ (scene ≡ sceneOf b (scanIn b row) (b .place .field)) × (active ≡ activeAt (b .page) (b .place)) × (address < 16384) ⌝ }
-    ensures { λ r. ⌜ r ≡ clockDots b (now (chars .entry)) (now (attrs .entry)) (lentFont words flags unshifted shifted) row held address ⌝ }
+) -> Shown
+    requires { ⌜ Fit b (now chars) (now attrs) (fontNow words flags unshifted shifted) × (address < 16384) × (active ≡ activeAt (b .page) (b .place)) ⌝ }
+    ensures { λ r. ⌜ r ≡ shownIn b (now (chars .entry)) (now (attrs .entry)) (lentFont words flags unshifted shifted) row held address ⌝ }
 {
     if active {
-        let page = b.page;
-        let byte = attrs[address];
-        let again = raster::again_at(raster::code_of(row), b.place.clock.0);
-        let counted = video::counted_byte(video::reading_of(page), again, byte);
-        let valid = raster::latched(counted, held);
-        let hidden = board::setters_hidden(page);
-        let code = video::shown_code(hidden, chars[address], byte);
-        let cell = shown_dots(
+        return cell_shown(
             b,
-            row,
-            scene,
-            code,
-            valid,
-            address,
+            chars,
+            attrs,
             words,
             flags,
             unshifted,
             shifted,
+            row,
+            held,
+            address,
         );
-        return column_dots(b, row, cell);
     }
-    blank_dots(b, scene.blank)
+    blank_shown(b)
 }
 
-// What a clock puts out, and the place for the next.
-pub struct Clock {
-    pub signals: Signals,
-    pub address: u16,
-    pub dots: [u8; 12],
-    pub place: board::Place,
+// Where a column's dots begin among the cell's, each twice.
+fn half_from(odd: bool, d: usize) -> usize
+    ensures { λ r. ⌜ r ≡ pick odd d 0 ⌝ }
+{
+    if odd { d } else { 0 }
+}
+
+// The twelve dot places of a column of what is shown, of double width or not.
+fn column_dots(b: board::Board, wide: bool, s: Shown) -> [u8; 12]
+    requires { ⌜ (6 ≤ b .page .video .dots .0) × (b .page .video .dots .0 ≤ 12) × (s .word < 1024) ⌝ }
+    ensures { λ r. ⌜ r ≡ padded (columnOf wide (oddIn b) (cellDots (s .look) (s .word) (b .page .video .dots .0))) (b .page .video .dots .0) ⌝ }
+{
+    let mut cell = [0u8; 12];
+    let look = s.look;
+    dots::draw_cell(&mut cell, look, s.word, b.page.video.dots);
+    if wide {
+        let mut out = [0u8; 12];
+        let d = b.page.video.dots.0 as usize;
+        let from = half_from(b.place.clock.0 % 2 == 1, d);
+        dots::halve(&mut out, &cell, from, d);
+        return out;
+    }
+    cell
 }
 
 // A clock that nothing refuses.
@@ -216,12 +219,10 @@ fn one_clock(
     let c = place::loaded_at(page, chars, place);
     let next = place::place_after(page, attrs, place, c);
     let row = c.beam.code;
-    let scene = scene_in(b, row);
     let active = place::active_at(page, place);
-    let address = c.beam.address as usize;
-    let dots = clock_dots(
+    let at = c.beam.address as usize;
+    let shown = shown_in(
         b,
-        scene,
         active,
         chars,
         attrs,
@@ -231,20 +232,44 @@ fn one_clock(
         shifted,
         row,
         c.beam.latch,
-        address,
+        at,
     );
     Clock {
-        signals: signals_of(b, row, scene, active, address),
+        refusal: refusal::Refusal::Done,
+        signals: signals_of(b, active, shown.cursor),
         address: c.beam.address,
-        dots: dots,
+        dots: column_dots(b, active & raster::is_wide(raster::code_of(row)), shown),
         place: next,
     }
 }
 
-// A clock, or where it is refused zeros and the old place.
+// Whether nothing refuses a clock, without the number. timing::call_check has it all, but is too large to be inlined.
+fn clear(b: board::Board, size: bool) -> bool
+    ensures { λ r. ⌜ r ≡ doneOf (callCheck b size false false) ⌝ }
+{
+    let page = b.page;
+    !size & refusal::is_done(timing::page_check(page)) & !timing::state_refused(b)
+}
+
+// What refuses a clock that something refuses.
+fn refused_by(b: board::Board, size: bool) -> refusal::Refusal
+    requires { ⌜ doneOf (callCheck b size false false) ≡ false ⌝ }
+    ensures { λ r. ⌜ r ≡ callCheck b size false false ⌝ }
+{
+    if size {
+        return refusal::Refusal::Size;
+    }
+    let page = b.page;
+    let refused = timing::page_check(page);
+    if refusal::is_done(refused) {
+        return refusal::Refusal::Range;
+    }
+    refused
+}
+
+// A clock, or where it is refused the number, zeros and the old place.
 fn clock_of(
     b: board::Board,
-    refused: refusal::Refusal,
     chars: &[u8],
     attrs: &[u8],
     words: &[u16],
@@ -252,14 +277,15 @@ fn clock_of(
     unshifted: &[u8],
     shifted: &[u8],
 ) -> Clock
-    requires { ⌜ refused ≡ stepCheck b (now chars) (now attrs) (fontNow words flags unshifted shifted) ⌝ }
     ensures { λ r. ⌜ r ≡ clockIn (stepOf b (now (chars .entry)) (now (attrs .entry)) (lentFont words flags unshifted shifted)) ⌝ }
 {
-    if refusal::is_done(refused) {
+    let size = video::lent_refused(chars, attrs, words, flags, unshifted, shifted);
+    if clear(b, size) {
         return one_clock(b, chars, attrs, words, flags, unshifted, shifted);
     }
     let place = b.place;
     Clock {
+        refusal: refused_by(b, size),
         signals: Signals {
             hsync: false,
             vsync: false,
@@ -273,8 +299,8 @@ fn clock_of(
     }
 }
 
-// One clock: its signals, address and dots, and the board for the next clock. Refused or not, the board is put together at one place,
-// so that the compiler leaves the page where it stands.
+// One clock: its signals, address and dots, and the board for the next clock. Refused or not, the board is put
+// together at one place, and the compiler inlines all that takes it. So it sees that the page stays as it is.
 pub fn step(
     b: board::Board,
     chars: &[u8],
@@ -286,9 +312,8 @@ pub fn step(
 ) -> Stepped
     ensures { λ r. ⌜ r ≡ stepOf b (now (chars .entry)) (now (attrs .entry)) (lentFont words flags unshifted shifted) ⌝ }
 {
-    let size = video::lent_refused(chars, attrs, words, flags, unshifted, shifted);
-    let refused = timing::call_check(b, size, false, false);
-    let c = clock_of(b, refused, chars, attrs, words, flags, unshifted, shifted);
+    let c = clock_of(b, chars, attrs, words, flags, unshifted, shifted);
+    let refused = c.refusal;
     let signals = c.signals;
     let dots = c.dots;
     let place = c.place;

@@ -320,7 +320,7 @@ pub fn page_size(p: board::Page) -> PageSize
 }
 
 // 7, for a board's own numbers.
-fn state_refused(b: board::Board) -> bool
+pub fn state_refused(b: board::Board) -> bool
     ensures { λ r. ⌜ r ≡ stateRefused b ⌝ }
 {
     let irs = b.page.irs;

@@ -1,29 +1,43 @@
-use borrow.Author.Needs.{needs}
-use Rattle.refusal.specs.Laws.{done-is, checked}
+use mathlib.Core.Path.{_≡_, sym, ap, _∙_}
+use mathlib.Core.Bool.{Bool, false}
+use Rattle.refusal.specs.declared.Refusal.{Refusal}
+use Rattle.refusal.specs.Laws.{done-is}
+use Rattle.refusal.specs.Number.{doneOf}
+use Rattle.timing.specs.Check.{callCheck}
+use Rattle.step.specs.Step.{stepCheck}
+use Rattle.shape.specs.Font.{fontOf}
 use Rattle.step.specs.Laws.{fit, clock-done, clock-refused}
+use borrow.Author.Needs.{needs}
 use Rattle.step.proofs.clock_of.Statement.{statement}
 use Rattle.step.proofs.clock_of.Tie as tie
 
--- where the function begins, from the place where the answer is known
-abbrev begin : tie.After-is-done → tie.Start
-begin c = c .before .before .before .before .before .before .before
+-- where the function begins, from where it is known whether something refuses; and the check as the contract has it
+abbrev begin : tie.After-clear → tie.Start
+begin c = c .before .before .before .before .before .before .before .before
+
+abbrev asked : tie.After-clear → Refusal
+asked c =
+    stepCheck (begin c .args .b) (begin c .args .chars .now) (begin c .args .attrs .now)
+    (fontOf (begin c .args .words .now) (begin c .args .flags .now) (begin c .args .unshifted .now) (begin c .args .shifted .now))
+
+check : (c : tie.After-clear) → callCheck (begin c .args .b) (c .before .lent-refused .result) false false ≡ asked c
+check c = ap (λ (size : Bool). callCheck (begin c .args .b) size false false) (c .before .lent-refused .ensures)
+
+done : (c : tie.After-clear) → doneOf (asked c) ≡ c .clear .result
+done c = ap doneOf (sym (check c)) ∙ sym (c .clear .ensures)
 
 one-clock-requires : tie.Need-one-clock-requires
-one-clock-requires c κs =
-    let k = c .before in
-    fit _ _ _ _ (done-is _ (checked (begin k .pre) (k .is-done .ensures) (c .if1 .taken)))
+one-clock-requires c κs = fit _ _ _ _ (done-is _ (done (c .before) ∙ c .if1 .taken))
 
 returns : tie.Need-returns
-returns c =
-    let then = c .before in
-    let k = then .before in
-    clock-done _ _ _ _ (checked (begin k .pre) (k .is-done .ensures) (then .if1 .taken)) _ (c .one-clock .ensures)
+returns c = clock-done _ _ _ _ (done (c .before .before) ∙ c .before .if1 .taken) _ (c .one-clock .ensures)
+
+refused-by-requires : tie.Need-refused-by-requires
+refused-by-requires c κs = sym (c .before .before .clear .ensures) ∙ c .before .if1 .left
 
 returns-2 : tie.Need-returns-2
-returns-2 c =
-    let else = c .before in
-    let k = else .before in
-    clock-refused _ _ _ _ (checked (begin k .pre) (k .is-done .ensures) (else .if1 .left))
+returns-2 c = clock-refused _ _ _ _ (done (c .before .before .before) ∙ c .before .before .if1 .left) _ (c .refused-by .ensures ∙ check (c .before .before .before))
 
 pub clock-of-spec : {M : Type 1} → statement M
-clock-of-spec = tie.close (tie.spec (λ c κs. search needs) one-clock-requires returns returns-2)
+clock-of-spec =
+    tie.close (tie.spec (λ c κs. search needs) (λ c κs. search needs) one-clock-requires returns refused-by-requires returns-2)

@@ -1,4 +1,4 @@
-use Rattle.step.specs.Laws.{in-frame, address-lt, clocked}
+use Rattle.step.specs.Laws.{in-frame, address-lt, shown-small, clocked}
 use borrow.Author.Needs.{needs}
 use Rattle.step.proofs.one_clock.Statement.{statement}
 use Rattle.step.proofs.one_clock.Tie as tie
@@ -9,20 +9,24 @@ place-after-requires c κs =
     let frame = in-frame (start .args .b) (start .pre .state) in
     (start .pre .attrs-all, address-lt _ _ _ _ (start .pre) _ (c .loaded-at .ensures), frame .0, frame .1)
 
-clock-dots-requires : tie.Need-clock-dots-requires
-clock-dots-requires c κs =
-    let start = c .before .before .before .before .before .before .before .before .before .before .before .before .before in (
-      start .pre,
-      (c .before .before .scene-in .ensures, c .before .active-at .ensures, address-lt _ _ _ _ (start .pre) _ (c .before .before .before .before .loaded-at .ensures)),
-    )
+shown-in-requires : tie.Need-shown-in-requires
+shown-in-requires c κs =
+    let start = c .before .before .before .before .before .before .before .before .before .before .before .before in
+    (start .pre, address-lt _ _ _ _ (start .pre) _ (c .before .before .before .loaded-at .ensures), c .before .active-at .ensures)
 
-signals-of-requires : tie.Need-signals-of-requires
-signals-of-requires c κs = (c .before .before .before .scene-in .ensures, c .before .before .active-at .ensures)
+column-dots-requires : tie.Need-column-dots-requires
+column-dots-requires c κs =
+    let start = c .before .before .before .before .before .before .before .before .before .before .before .before .before .before .before .before in
+    (start .pre .page .least, start .pre .page .most, rw (c .before .before .before .shown-in .ensures) (shown-small _ _ _ _ _ _ _))
 
 returns : tie.Need-returns
 returns c =
-    clocked _ _ _ _ _ (c .before .before .before .before .before .before .loaded-at .ensures) _
-    (c .before .before .before .before .before .place-after .ensures) _ (c .signals-of .ensures) _ (c .before .clock-dots .ensures)
+    let shown = c .before .before .before .before in
+    let loaded = shown .before .before .before .before in
+    clocked _ _ _ _ (loaded .before .before .before .before .before .before .before .before .before .pre .page .most) _ (loaded .loaded-at .ensures) _
+    (shown .before .before .before .place-after .ensures) _ (shown .shown-in .ensures) _
+    (c .before .before .before .signals-of .ensures) _ (rw (c .before .is-wide .ensures, c .before .before .code-of .ensures, shown .before .before .active-at .ensures)) _
+    (c .column-dots .ensures)
 
 pub one-clock-spec : {M : Type 1} → statement M
 one-clock-spec =
@@ -31,8 +35,10 @@ one-clock-spec =
     (λ c κs. search needs)
     place-after-requires
     (λ c κs. search needs)
-    (λ c κs. search needs)
     (λ c. search needs)
-    clock-dots-requires
-    signals-of-requires
+    shown-in-requires
+    (λ c κs. search needs)
+    (λ c κs. search needs)
+    (λ c κs. search needs)
+    column-dots-requires
     returns)

@@ -1,0 +1,48 @@
+-- What a clock shows, before its dots are put: CURSOR, and a cell's look and word. Only private functions cite it.
+-- Laws ties it to the signals and dots of Signals.
+use Prim.Native.Nat.{ℕ}
+use mathlib.Core.Bool.{Bool, false, _||_, not}
+use mathlib.Core.List.{List}
+use lib.ListN.{getD}
+use Rattle.lists.specs.Choice.{pick}
+use Rattle.raster.specs.Wide.{codeOf, againAt}
+use Rattle.raster.specs.Latch.{latched}
+use Rattle.board.specs.declared.Board.{Board}
+use Rattle.board.specs.Modes.{settersHidden}
+use Rattle.timing.specs.Fields.{blinkOf}
+use Rattle.shape.specs.Font.{Font, wordOf}
+use Rattle.video.specs.Scene.{displayed, blinkAt, sceneOf, cursorAt}
+use Rattle.video.specs.Look.{blankLook, lookOf}
+use Rattle.video.specs.At.{readingOf, countedByte, shownCode}
+use Rattle.place.specs.Place.{activeAt}
+use Rattle.step.specs.declared.Signals.{Signals}
+use Rattle.step.specs.declared.Shown.{Shown}
+use Rattle.step.specs.Signals.{scanIn, hsyncIn, vsyncIn}
+
+-- a clock's signals, from its CURSOR
+unfoldable pub signalsWith : Board → (cursor : Bool) → Signals
+signalsWith b cursor = record {
+  hsync = hsyncIn b;
+  vsync = vsyncIn b;
+  blank = not (activeAt (b .page) (b .place)) || not (displayed b);
+  cursor = cursor;
+  blink = blinkAt (blinkOf (b .page .irs)) (b .place .field);
+}
+
+-- the cell at an address
+unfoldable pub cellShown : Board → (chars attrs : List ℕ) → Font → (row held address : ℕ) → Shown
+cellShown b chars attrs f k held a = record {
+  cursor = cursorAt (sceneOf b (scanIn b k) (b .place .field)) a;
+  look =
+      lookOf (sceneOf b (scanIn b k) (b .place .field))
+      (latched (countedByte (readingOf (b .page)) (againAt (codeOf k) (b .place .clock .0)) (getD attrs a 0)) held)
+      (cursorAt (sceneOf b (scanIn b k) (b .place .field)) a);
+  word = wordOf f (shownCode (settersHidden (b .page)) (getD chars a 0) (getD attrs a 0)) (scanIn b k);
+}
+
+-- the blank level is the same on every scan line
+unfoldable pub blankShown : Board → Shown
+blankShown b = record { cursor = false; look = blankLook (sceneOf b 0 (b .place .field) .blank); word = 0 }
+
+unfoldable pub shownIn : Board → (chars attrs : List ℕ) → Font → (row held address : ℕ) → Shown
+shownIn b chars attrs f k held a = pick (activeAt (b .page) (b .place)) (cellShown b chars attrs f k held a) (blankShown b)
