@@ -2,13 +2,14 @@
 -- row fetches both memories have the same bytes. Assumes nothing.
 --     same-place                 the place for clock n
 --     same-line, same-picture    in every field and both attribute modes
-use Prim.Native.Nat.{ℕ, min, _+_, _*_, _/_, _%_, _≤_, _<_}
+use Prim.Native.Nat.{ℕ, zero, suc, pred, min, _+_, _*_, _/_, _%_, _≤_, _<_}
 use mathlib.Core.Path.{_≡_, refl, sym, ap, ap₂, _∙_}
 use mathlib.Core.Bool.{Bool, false, not, _&&_, _||_}
 use mathlib.Core.List.{List, [], _∷_}
 use native.Mathlib.Nat.{div-lt-iff-lt-mul, mod-lt, add-mul, one-mul}
+use native.Mathlib.Decide.{decLt}
 use native.Mathlib.Omega.{arith}
-use borrow.Author.Tests.{le-ltb}
+use borrow.Author.Tests.{lt-ltb, le-ltb}
 use lib.Dec.{eqb, ltb}
 use lib.ListN.{getD}
 use Rattle.units.specs.declared.Clocks.{Clocks}
@@ -20,7 +21,7 @@ use Rattle.raster.specs.declared.Buffer.{Buffer}
 use Rattle.raster.specs.declared.Counts.{Counts}
 use Rattle.raster.specs.declared.Row.{Row}
 use Rattle.raster.specs.Moves.{advanceBy}
-use Rattle.raster.specs.Raster.{scanAt}
+use Rattle.raster.specs.Raster.{HT, VT, R, L, Rows, pair, scan, tail, inLine, carriedAt, scanAt}
 use Rattle.raster.specs.Beams.{row}
 use Rattle.raster.specs.Wide.{codeOf, isWide, againAt, fetchesAt, movedAt}
 use Rattle.raster.specs.Latch.{lastSet, same-last}
@@ -42,7 +43,43 @@ use Rattle.line.specs.Line.{columnDots, lineDots}
 use Rattle.picture.specs.Picture.{pictureDots}
 use Rattle.place.specs.Place.{placeOf, countsIn, rowsIn, placeAt}
 use Rattle.catalogue.specs.There.{withPage}
-use Rattle.agreement.specs.Plain.{scan-part}
+
+-- ---- the place at once, where two beams carry the same
+
+module _ {A : Type 0} (g : Counts) (rows : 0 < R g) (lines : 0 < L g) (v w : Rows A) (start-is : (r : ℕ) → r < R g → v .start r ≡ w .start r)
+    (walk-is : (r c : ℕ) → r < R g → v .walk r c ≡ w .walk r c) where
+  last : (n : ℕ) → 0 < n → pred n < n
+  last zero l = absurd (omega (arith, l))
+  last (suc n) l = omega arith
+
+  same-tail : tail g v ≡ tail g w
+  unfolding tail
+  same-tail = ap₂ (λ (x y : A). pair x y) (walk-is _ _ (last (R g) rows)) (start-is _ (last (R g) rows))
+
+  same-in-line : (c line : ℕ) → inLine g v c line ≡ inLine g w c line
+  unfolding inLine
+  same-in-line c line = go (decLt line (R g * L g))
+    where
+      go : Dec (line < R g * L g)
+          → pick (ltb line (R g * L g)) (pair (v .walk (line / L g) c) (v .start (line / L g))) (tail g v)
+          ≡ pick (ltb line (R g * L g)) (pair (w .walk (line / L g) c) (w .start (line / L g))) (tail g w)
+      go (yes l) =
+          let r = div-lt-iff-lt-mul lines .1 l in
+          rw (lt-ltb line (R g * L g) l) (ap₂ (λ (x y : A). pair x y) (walk-is _ _ r) (start-is _ r))
+      go (no f) = rw (le-ltb line (R g * L g) (omega (arith, f))) same-tail
+
+  same-carried-at : (z : A) (c line frame : ℕ) → carriedAt g v z c line frame ≡ carriedAt g w z c line frame
+  unfolding carriedAt
+  same-carried-at z (suc c) line frame = same-in-line (suc c) line
+  same-carried-at z zero (suc line) frame = same-in-line (HT g) line
+  same-carried-at z zero zero (suc frame) = same-tail
+  same-carried-at z zero zero zero = refl
+
+  pub same-scan : (z : A) (n : ℕ) → scanAt g v z n ≡ scanAt g w z n
+  unfolding scanAt
+  same-scan z n = ap (scan (n / HT g / VT g % 256) (n / HT g % VT g) (n % HT g)) (same-carried-at z (n % HT g) (n / HT g % VT g) (n / HT g / VT g))
+
+-- ---- two pages
 
 -- a page with other registers and screen starts
 abbrev pub changed : Page → (irs : List ℕ) → (start1 start2 : ℕ) → Page
@@ -196,7 +233,7 @@ module _ (p : Page) (irs′ : List ℕ) (s t : ℕ) (chars attrs chars′ attrs�
   pub same-place : (n : ℕ) → placeAt p chars attrs n ≡ placeAt q chars′ attrs′ n
   unfolding placeAt countsOf
   same-place n =
-      ap placeOf (scan-part (λ (x : Row). x) (countsIn p) (omega arith) (omega arith) (rowsIn p chars attrs) (rowsIn q chars′ attrs′) same-begun same-carried (row 0 0 0) n)
+      ap placeOf (same-scan (countsIn p) (omega arith) (omega arith) (rowsIn p chars attrs) (rowsIn q chars′ attrs′) same-begun same-carried (row 0 0 0) n)
       ∙ ap (λ (g : Counts). placeOf (scanAt g (rowsIn q chars′ attrs′) (row 0 0 0) n)) (same-counts (p .irs) irs′ (a .registers))
 
 -- ---- lines and pictures

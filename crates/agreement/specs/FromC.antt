@@ -1,7 +1,7 @@
 -- The sentence for which the project exists, as its users call it. A generator draws whole lines with `feldrime_line_draw` from a page's 32 numbers; an editor
 -- makes a board of the same numbers with `feldrime_board_of` and takes it from clock to clock with `feldrime_step`. Both show the same cells and the same dots.
 -- All of it speaks of the definitions that the contracts of these calls cite, over the same numbers, memories and font parts. Assumes nothing.
-use Prim.Native.Nat.{ℕ, zero, suc, _+_, _*_, _%_, _≤_, _<_}
+use Prim.Native.Nat.{ℕ, zero, suc, _+_, _*_, _/_, _%_, _≤_, _<_}
 use mathlib.Core.Path.{_≡_, refl, sym, ap, _∙_}
 use mathlib.Core.Bool.{Bool, true, false}
 use mathlib.Core.List.{List, _++_}
@@ -16,9 +16,10 @@ use Rattle.refusal.specs.declared.Refusal.{Refusal}
 use Rattle.refusal.specs.declared.Refusal.the-variants.{Done, Size}
 use Rattle.refusal.specs.Number.{numberOf, doneOf}
 use Rattle.refusal.specs.Laws.{done-is, passed}
+use Rattle.raster.specs.Moves.{Inside}
 use Rattle.board.specs.declared.Board.{Board}
 use Rattle.board.specs.State.{clockZero, powerOf}
-use Rattle.timing.specs.Fields.{hactOf, linesOf, rowsOf, visibleOf, tableOf}
+use Rattle.timing.specs.Fields.{hactOf, linesOf, rowsOf, visibleOf, tableOf, bufferOf}
 use Rattle.timing.specs.Check.{pageCheck, sizeOf}
 use Rattle.timing.specs.Laws.{call-passed}
 use Rattle.fetch.specs.Rows.{entryOf, fetchedOf}
@@ -47,6 +48,7 @@ use Rattle.feldrime.specs.Step.{numbered, stepNumbers}
 use Rattle.agreement.specs.Steps.{call-ok, call-page, after, step-answers, at-once-anywhere}
 use Rattle.agreement.specs.Files.{zero-ok}
 use Rattle.agreement.specs.Lines.{clockOf, shownAt, DrawnFrom, draw-answers, same-line}
+use Rattle.agreement.specs.Frames.{frameClocks, every-frame, frame-at-most, stays-inside}
 use Rattle.agreement.specs.Pictures.{picture-answers, picture-by-lines, picture-by-steps, picture-from-cells}
 use Rattle.agreement.specs.Rows.{lineOf, follows, nthCell, nthColumn, Shown, row-from-table, row-from-start, run-answers, run-shown, cells-shown}
 
@@ -237,6 +239,26 @@ module _ (numbers chars attrs words flags unshifted shifted : List ℕ) where
         same-joined 0 (hactOf (b .page .irs)) _ _
         (λ c _ h. ap (λ (x : Board). take (b .page .video .dots .0) (stepOf x chars attrs f .dots)) (sym (steps-from-c (clockOf b k l c)))))))
 
+    -- ---- the frame
+
+    -- after n steps line and clock are both 0 exactly if whole frames are over, and the field counts the frames, modulo 256
+    pub record FramedC (n : ℕ) : Type 0 where
+      pub ends : n % frameClocks b ≡ 0 → (afterC n .place .line .0 ≡ 0) × (afterC n .place .clock .0 ≡ 0)
+      pub nowhere-else : afterC n .place .line .0 ≡ 0 → afterC n .place .clock .0 ≡ 0 → n % frameClocks b ≡ 0
+      pub counted : afterC n .place .field ≡ n / frameClocks b % 256
+
+    pub every-frame-from-c : (n : ℕ) → FramedC n
+    every-frame-from-c n =
+        let framed = every-frame b chars attrs f step-ok n in
+        record {
+          ends = λ e. rw (steps-from-c n) (framed .ends e);
+          nowhere-else = λ p q. framed .nowhere-else (rw (steps-from-c n) at p) (rw (steps-from-c n) at q);
+          counted = rw (steps-from-c n) (framed .counted);
+        }
+
+    pub frame-at-most-from-c : frameClocks b ≤ 826752
+    frame-at-most-from-c = frame-at-most b chars attrs f step-ok
+
     -- ---- the cells of a row
 
     -- what feldrime_line_draw puts of a line, in every field and into any buffer that has room, is the dots of the cells at these addresses, end to end
@@ -248,6 +270,26 @@ module _ (numbers chars attrs words flags unshifted shifted : List ℕ) where
 
     drawn-from-c : (line : ℕ) (address : ℕ → ℕ) → DrawnFrom b chars attrs f line address → DrawnFromC line address
     drawn-from-c line address d field out room = drawn-is line field out ∙ rw size-from-c (d field out (room-in (length out) room))
+
+    -- table off, first ≤ screen start 1 ≤ last: every address that feldrime_step answers on an active clock of line l of
+    -- frame k is in that range, and what feldrime_line_draw puts of the line is the dots of the cells at those addresses
+    pub record StaysC (k l : ℕ) : Type 0 where
+      pub stepped : (c : ℕ) → c < hactOf (b .page .irs) → Inside (bufferOf (b .page .irs)) (stepC (clockOf b k l c) .address)
+      pub drawn : DrawnFromC l (λ c. stepC (clockOf b k l c) .address)
+
+    pub stays-inside-from-c : tableOf (b .page .irs) ≡ false → Inside (bufferOf (b .page .irs)) (b .page .starts .start1)
+        → (k l : ℕ) → l < sizeFor numbers .lines → StaysC k l
+    unfolding numbered
+    stays-inside-from-c t i k l hl =
+        let s = stays-inside b chars attrs f step-ok t i k l (line-in l hl) in
+        record {
+          stepped = λ c hc. rw (steps-from-c (clockOf b k l c)) (s .stepped c hc);
+          drawn = λ field out room.
+              drawn-from-c l _ (s .drawn) field out room
+              ∙ ap (λ (d : List ℕ). d ++ drop (sizeFor numbers .dots) out)
+              (same-joined 0 (hactOf (b .page .irs)) _ _ (λ c _ h.
+              ap (λ (x : Board). shownAt b chars attrs f l field c (heldAt (b .page) chars attrs (rowFor b l) c) (stepOf x chars attrs f .address)) (sym (steps-from-c (clockOf b k l c)))));
+        }
 
     -- line l of row r, where the row's cells follow from an address: the addresses that feldrime_step answers in every frame, and the cells whose dots
     -- feldrime_line_draw puts

@@ -9,8 +9,7 @@ pub mod Steps
 pub mod Lines
 pub mod Frames
 pub mod Rows
-pub mod Plain
-pub mod Before
+pub mod Modes
 pub mod Porches
 pub mod Pictures
 pub mod Alike

@@ -26,7 +26,7 @@ use Rattle.board.specs.State.{clockZero, powerOf}
 use Rattle.board.specs.Modes.{versionOf, fieldMode, settersHidden}
 use Rattle.board.specs.Range.{memoriesRefused, startsRefused, switchesRefused, addressRefused, cellsRefused, pointerRefused}
 use Rattle.timing.specs.Fields.{linesOf, timingOf, visibleOf, bufferOf, codedOf, tableOf, cursorOf, underlineOf, blinkOf}
-use Rattle.timing.specs.Check.{widthRefused, pageCheck, sizeOf, callCheck}
+use Rattle.timing.specs.Check.{widthRefused, pageCheck, sizeOf, stateRefused, callCheck}
 use Rattle.registers.specs.Write.{writeOf}
 use Rattle.registers.specs.Read.{readOf}
 use Rattle.registers.specs.Video.{setVideoOf}
@@ -211,6 +211,9 @@ width-refused-one d = only (widthRefused d)
 
 pub visible-of-one : (irs : List ℕ) → OneAnswer (λ r. r ≡ visibleOf irs)
 visible-of-one irs = only (visibleOf irs)
+
+pub state-refused-one : (b : Board) → OneAnswer (λ r. r ≡ stateRefused b)
+state-refused-one b = only (stateRefused b)
 
 pub call-check-one : (b : Board) (size asked room : Bool) → OneAnswer (λ r. r ≡ callCheck b size asked room)
 call-check-one b size asked room = only (callCheck b size asked room)

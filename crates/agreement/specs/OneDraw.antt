@@ -1,6 +1,6 @@
 -- No second answer meets the contract of a public function of `fetch`, `catalogue`, `records`, `phrases`, `shape`, `video`, `dots`, `tables`, `line`, `picture`, `place` or `step`: it names its answer,
 -- so each of these is `only`.
-use Prim.Native.Nat.{ℕ, _+_, _*_}
+use Prim.Native.Nat.{ℕ, _+_, _*_, _/_, _%_}
 use mathlib.Core.Path.{_≡_}
 use mathlib.Core.Bool.{Bool}
 use mathlib.Core.List.{List, _++_}
@@ -21,7 +21,7 @@ use Rattle.board.specs.declared.Page.{Page}
 use Rattle.board.specs.declared.Place.{Place}
 use Rattle.board.specs.declared.Board.{Board}
 use Rattle.fetch.specs.declared.RowCells.{RowCells}
-use Rattle.fetch.specs.Run.{runCheck, spanOf, runOf}
+use Rattle.fetch.specs.Run.{runCheck, spanOf, runOf, oneRun}
 use Rattle.fetch.specs.RowCells.{cellsGiven, cellsPut}
 use Rattle.fetch.specs.Laws.{span-fits}
 use Rattle.fetch.specs.Rows.{entryOf, codeAt, rowStart, cellAt, fetchedOf, begunOf}
@@ -44,9 +44,9 @@ use Rattle.video.specs.declared.Reading.{Reading}
 use Rattle.video.specs.Scene.{sceneOf, cursorAt}
 use Rattle.video.specs.Look.{lookOf}
 use Rattle.video.specs.Cell.{cellDots}
-use Rattle.dots.specs.Stores.{spreadOf, wideOf, underOf, dotsBy}
+use Rattle.dots.specs.Stores.{spreadOf, wideOf, underOf, inkOf, reachOf}
 use Rattle.dots.specs.Width.{shades}
-use Rattle.tables.specs.Tables.{heldBy, cellBy, levelsOf, levelsAt, spreadsAt, lastSpreads}
+use Rattle.tables.specs.Tables.{heldBy, cellBy, levelsOf, levelsAt, wordsAt}
 use Rattle.line.specs.Line.{lineDots, lineLength, drawCheck, drawnOf}
 use Rattle.picture.specs.Picture.{pictureCheck, picturedOf}
 use Rattle.dots.specs.Half.{halfBy}
@@ -92,6 +92,9 @@ fetched-of-one p chars row = only (clocks (fetchedOf p chars row))
 pub begun-of-one : (p : Page) (chars : List ℕ) (row column : ℕ) → OneAnswer (λ r. r ≡ clocks (begunOf p chars row column))
 begun-of-one p chars row column = only (clocks (begunOf p chars row column))
 
+pub one-run-one : (b : Buffer) (start n : ℕ) → OneAnswer (λ r. r ≡ oneRun b start n)
+one-run-one b start n = only (oneRun b start n)
+
 pub row-start-one : (p : Page) (chars : List ℕ) (row : ℕ) → OneAnswer (λ r. r ≡ cell (rowStart p chars row))
 row-start-one p chars row = only (cell (rowStart p chars row))
 
@@ -118,11 +121,11 @@ start-one a = only (startOf a)
 pub visit-one : (s : PhraseAnswer) (p : Phrase) (i : ℕ) (a : Asked) → OneAnswer (λ r. r ≡ visitOf s p i a)
 visit-one s p i a = only (visitOf s p i a)
 
-pub start-mate-one : (o : Phrase) (after : ℕ) → OneAnswer (λ r. r ≡ mateStart o after)
-start-mate-one o after = only (mateStart o after)
+pub start-mate-one : (o : Phrase) → OneAnswer (λ r. r ≡ mateStart o)
+start-mate-one o = only (mateStart o)
 
-pub visit-mate-one : (s : Mate) (p : Phrase) (i : ℕ) (o : Phrase) (after : ℕ) → OneAnswer (λ r. r ≡ mateVisit s p i o after)
-visit-mate-one s p i o after = only (mateVisit s p i o after)
+pub visit-mate-one : (s : Mate) (p : Phrase) (i : ℕ) (o : Phrase) → OneAnswer (λ r. r ≡ mateVisit s p i o)
+visit-mate-one s p i o = only (mateVisit s p i o)
 
 pub start-pair-one : OneAnswer (λ r. r ≡ pairStart)
 start-pair-one = only pairStart
@@ -142,6 +145,9 @@ pub phrases-differ-one : (phrases : List Phrase) → OneAnswer (λ r. r ≡ phra
 phrases-differ-one phrases = only (phrasesDiffer phrases)
 
 -- ---- `latch`
+
+pub held-before-one : (p : Page) (chars attrs : List ℕ) (row : ℕ) → OneAnswer (λ r. r ≡ heldAt p chars attrs row 0)
+held-before-one p chars attrs row = only (heldAt p chars attrs row 0)
 
 pub held-at-one : (p : Page) (chars attrs : List ℕ) (row column : ℕ) → OneAnswer (λ r. r ≡ heldAt p chars attrs row column)
 held-at-one p chars attrs row column = only (heldAt p chars attrs row column)
@@ -200,8 +206,12 @@ wide-one word d = only (wideOf word d)
 pub under-one : (look : Look) → OneAnswer (λ r. r ≡ underOf look)
 under-one look = only (underOf look)
 
-pub put-cell-one : (low high symbol surround d : ℕ) (out : List ℕ) → OneAnswer (λ r. r ≡ dotsBy low high symbol surround d ++ drop d out)
-put-cell-one low high symbol surround d out = only (dotsBy low high symbol surround d ++ drop d out)
+pub inks-one : OneAnswer (λ r. r ≡ tab 288 inkOf)
+inks-one = only (tab 288 inkOf)
+
+pub put-cell-one : (levels word d : ℕ) (tight : Bool) (out : List ℕ)
+    → OneAnswer (λ r. r ≡ shades (levels % 4) (levels / 4) (reachOf tight d) word ++ drop (reachOf tight d) out)
+put-cell-one levels word d tight out = only (shades (levels % 4) (levels / 4) (reachOf tight d) word ++ drop (reachOf tight d) out)
 
 pub write-cell-one : (symbol surround word d : ℕ) (out : List ℕ) → OneAnswer (λ r. r ≡ shades symbol surround d (wideOf word d) ++ drop d out)
 write-cell-one symbol surround word d out = only (shades symbol surround d (wideOf word d) ++ drop d out)
@@ -227,11 +237,8 @@ looks-one s table = only (tab 128 (levelsOf s) ++ drop 128 table)
 pub fill-looks-one : (b : Board) (field n : ℕ) (table : List ℕ) → OneAnswer (λ r. r ≡ joined 0 n (levelsAt b field) ++ drop (n * 128) table)
 fill-looks-one b field n table = only (joined 0 n (levelsAt b field) ++ drop (n * 128) table)
 
-pub fill-spreads-one : (f : Font) (n d from : ℕ) (table : List ℕ) → OneAnswer (λ r. r ≡ joined 0 n (spreadsAt f d from) ++ drop (n * 256) table)
-fill-spreads-one f n d from table = only (joined 0 n (spreadsAt f d from) ++ drop (n * 256) table)
-
-pub fill-last-one : (f : Font) (n d : ℕ) (table : List ℕ) → OneAnswer (λ r. r ≡ lastSpreads f n d table)
-fill-last-one f n d table = only (lastSpreads f n d table)
+pub fill-words-one : (f : Font) (n d : ℕ) (table : List ℕ) → OneAnswer (λ r. r ≡ joined 0 n (wordsAt f d) ++ drop (n * 256) table)
+fill-words-one f n d table = only (joined 0 n (wordsAt f d) ++ drop (n * 256) table)
 
 -- ---- `line`
 

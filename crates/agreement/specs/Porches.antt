@@ -1,5 +1,6 @@
--- 02, R-2: which porch. Which pages are accepted is as it was when one number, 5, stood for all three faults; each of the three is told exactly where its fact
--- holds and none before it does; and the number beside is what the front porch misses. Assumes nothing.
+-- 02, R-2: which porch. A page is accepted exactly if neither 12 nor 4 refuses it, its back porch code is not 0, its front
+-- porch is at least 2, and 6 does not refuse it. Each of 13, 14 and 15 is answered exactly if its fact holds and none
+-- before it does, and the number beside it is what the front porch misses. Assumes nothing.
 use Prim.Native.Nat.{ℕ, _+_, _-_, _%_, _≤_}
 use mathlib.Core.Path.{_≡_, refl, sym, ap, _∙_}
 use mathlib.Core.Bool.{Bool, true, false, not, _&&_, _||_}
@@ -17,13 +18,12 @@ use Rattle.board.specs.Range.{addressRefused}
 use Rattle.timing.specs.Fields.{ir, restOf, hfpOf, htOf}
 use Rattle.timing.specs.Check.{reservedRefused, backPorchRefused, lineShort, frontPorchRefused, missing, widthRefused, pageCheck}
 
--- 5, as it was: HBP code 0, or HFP below 2
-abbrev pub porchThen : List ℕ → Bool
-porchThen irs = eqb (ir irs 2 % 8) 0 || ltb (hfpOf irs) 2
+-- 01: HBP code 0, or HFP below 2
+abbrev pub porchRefused : List ℕ → Bool
+porchRefused irs = eqb (ir irs 2 % 8) 0 || ltb (hfpOf irs) 2
 
--- whether such a page was accepted
-abbrev pub acceptedThen : Page → Bool
-acceptedThen p = pick (addressRefused p) false (pick (reservedRefused (p .irs)) false (pick (porchThen (p .irs)) false (pick (widthRefused (p .video .dots)) false true)))
+abbrev pub accepted : Page → Bool
+accepted p = not (addressRefused p) && not (reservedRefused (p .irs)) && not (porchRefused (p .irs)) && not (widthRefused (p .video .dots))
 
 -- the page check by its six facts
 abbrev order : (a r b l f w : Bool) → Clocks → Refusal
@@ -41,12 +41,12 @@ module _ (p : Page) where
   short-porch : lineShort irs ≡ true → frontPorchRefused irs ≡ true
   short-porch e = lt-ltb (hfpOf irs) 2 (omega (arith, ltb-true (htOf irs) (restOf irs) e))
 
-  pub accepted-as-before : doneOf (pageCheck p) ≡ acceptedThen p
-  accepted-as-before =
+  pub accepted-exactly : doneOf (pageCheck p) ≡ accepted p
+  accepted-exactly =
       ap doneOf by-facts ∙ go (addressRefused p) (reservedRefused irs) (backPorchRefused irs) (lineShort irs) (frontPorchRefused irs) (widthRefused (p .video .dots)) short-porch
     where
       go : (a r b l f w : Bool) → (l ≡ true → f ≡ true)
-          → doneOf (order a r b l f w (missing irs)) ≡ pick a false (pick r false (pick (b || f) false (pick w false true)))
+          → doneOf (order a r b l f w (missing irs)) ≡ not a && not r && not (b || f) && not w
       go true r b l f w s = refl
       go false true b l f w s = refl
       go false false true l f w s = refl

@@ -1,18 +1,27 @@
 -- The promises are not empty: worked pages that nothing refuses, as boards and as files, and promises read off them. Assumes nothing.
-use Prim.Native.Nat.{ℕ, _*_}
+use Prim.Native.Nat.{ℕ, _+_, _*_, _-_, _<_}
 use mathlib.Core.Path.{_≡_, refl}
-use mathlib.Core.List.{List, _++_}
+use mathlib.Core.Bool.{true}
+use mathlib.Core.List.{List, [], _∷_, _++_}
 use native.Mathlib.Omega.{arith}
+use borrow.Author.Tests.{ne-eqb}
 use lib.ListN.{length, replicate}
+use Rattle.lists.specs.Search.{anyBelow, any-some, first-lt}
 use Rattle.refusal.specs.declared.Refusal.the-variants.{Done}
 use Rattle.raster.specs.Moves.{Inside, advanceBy, toLast}
+use Rattle.raster.specs.Cells.{cellOf, startOf}
+use Rattle.raster.specs.Latch.{lastSet}
+use Rattle.board.specs.declared.Page.{Page}
 use Rattle.board.specs.declared.Board.{Board}
 use Rattle.board.specs.State.{boardOf}
 use Rattle.board.specs.Range.{addressRefused}
-use Rattle.fetch.specs.Rows.{codeAt}
+use Rattle.fetch.specs.Rows.{codeAt, entryOf, rowStart, cellAt, fetchedOf, fetchAt}
+use Rattle.latch.specs.Held.{heldAt}
 use Rattle.timing.specs.Fields.{bufferOf, countsOf}
 use Rattle.timing.specs.Check.{pageCheck, stateRefused, callCheck}
 use Rattle.shape.specs.Font.{Font, fontOf, fontRefused}
+use Rattle.catalogue.specs.There.{ownCheck, fetchesCell, tablePlaces, unfetchedAt, tablePlace, thereCheck}
+use Rattle.catalogue.specs.Back.{followsRow, rowsApart, backCheck}
 use Rattle.step.specs.Step.{stepCheck}
 use Rattle.files.specs.File.{readCheck, fileCheck, lengthRefused, longAt, headOf, fileOf}
 use Rattle.files.specs.Page.{wordAt, pageAt, tailOf}
@@ -24,7 +33,7 @@ use Rattle.agreement.specs.Cases.{page}
 use Rattle.agreement.specs.Steps.{after}
 use Rattle.agreement.specs.Frames.{frameClocks, every-frame}
 use Rattle.agreement.specs.Lines.{addressAt}
-use Rattle.agreement.specs.Rows.{row-from-start}
+use Rattle.agreement.specs.Rows.{row-from-table, row-from-start}
 use Rattle.agreement.specs.FilesFromC.{answerC, accepted-steps}
 
 -- A1's page, memories and font of zeros
@@ -96,3 +105,71 @@ font-taken = refl
 pub from-files : (n : ℕ)
     → answerC file numbers memory memory page-taken fontFile (font .words) (font .flags) (font .unshifted) (font .shifted) font-taken n .refusal ≡ 0
 from-files = accepted-steps file numbers memory memory page-taken fontFile (font .words) (font .flags) (font .unshifted) (font .shifted) font-taken .1
+
+-- ---- a page of the catalogue: version 2 in field mode, with the row table on and codes for its rows
+
+-- A1's registers with IR0[7] and IR2[7] set
+abbrev catalogued : (rows hact : ℕ) → (codes table : ℕ) → (version switches : ℕ) → Page
+catalogued rows hact codes table version switches = record {
+  version = version;
+  irs = (72 + 128 * codes) ∷ 34 ∷ (26 + 128 * table) ∷ 8 ∷ (rows - 1) ∷ (hact - 1) ∷ 0 ∷ 0 ∷ 0 ∷ 240 ∷ 0 ∷ 0 ∷ 0 ∷ 0 ∷ 0 ∷ [];
+  starts = record { start1 = 0; cursor = 0; start2 = 0 };
+  switches = switches;
+  video = record { dots = record { 0 = 8 }; strike = 0 };
+}
+
+pub coded : Board
+coded = boardOf (catalogued 24 80 1 1 2 17)
+
+-- every entry is 4040 hex: cell 64, double width; every cell sets reverse
+pub entries : List ℕ
+entries = replicate 16384 64
+
+pub reversed : List ℕ
+reversed = replicate 16384 129
+
+pub coded-taken : stepCheck coded entries reversed font ≡ Done
+unfolding coded entries reversed font callCheck pageCheck addressRefused stateRefused
+coded-taken = refl
+
+-- so the promise on rows speaks of cell 64 and of double width in row 5, and attributes run on
+pub coded-row : (addressAt coded entries reversed font 0 50 0 ≡ 64) × (codeAt (coded .page) entries 5 ≡ 1)
+unfolding coded entries codeAt entryOf advanceBy toLast bufferOf
+coded-row =
+    let shown = row-from-table coded entries reversed font coded-taken 5 0 (omega arith) (omega arith) refl in
+    (shown .stepped 0 0 (omega arith), refl)
+
+pub coded-held : heldAt (coded .page) entries reversed 0 1 ≡ 129
+unfolding coded entries reversed heldAt lastSet cellAt cellOf startOf countsOf codeAt entryOf advanceBy toLast bufferOf
+coded-held = refl
+
+-- ---- R-5's moves take something
+
+-- a sheet of one cell, and a page whose second entry is where its first row of one cell ends
+pub small : Board
+small = boardOf (catalogued 1 1 0 0 1 1)
+
+small-own : ownCheck small (length memory) ≡ Done
+unfolding small memory ownCheck callCheck pageCheck addressRefused stateRefused
+small-own = refl
+
+room-at-1 : unfetchedAt (small .page) memory 1 ≡ true
+unfolding small memory unfetchedAt fetchesCell anyBelow fetchAt fetchedOf countsOf codeAt rowStart startOf advanceBy toLast bufferOf
+room-at-1 = refl
+
+pub there-taken : thereCheck small memory ≡ Done
+unfolding small thereCheck tablePlace
+there-taken =
+    let n : ℕ = tablePlaces (small .page) in
+    let found : tablePlace (small .page) memory < n = first-lt (unfetchedAt (small .page) memory) n (any-some (unfetchedAt (small .page) memory) n 1 (omega arith) room-at-1) in
+    rw (small-own, ne-eqb (tablePlace (small .page) memory) n (λ e. absurd (omega (arith, e, found))))
+
+pub follows-on : Board
+follows-on = boardOf (catalogued 2 1 0 1 1 1)
+
+pub follow-entries : List ℕ
+follow-entries = 0 ∷ 0 ∷ 1 ∷ replicate 16381 0
+
+pub back-taken : backCheck follows-on follow-entries ≡ Done
+unfolding follows-on follow-entries backCheck ownCheck callCheck pageCheck addressRefused stateRefused rowsApart followsRow anyBelow entryOf advanceBy toLast bufferOf
+back-taken = refl

@@ -6,7 +6,7 @@ use mathlib.Core.List.{List}
 use borrow.Author.Tests.{eq-eqb, ne-eqb}
 use lib.Dec.{eqb}
 use Rattle.refusal.specs.declared.Refusal.the-variants.{Done}
-use Rattle.refusal.specs.Number.{numberOf, doneOf}
+use Rattle.refusal.specs.Number.{numberOf, besideOf, doneOf}
 use Rattle.refusal.specs.Laws.{done-is}
 use Rattle.timing.specs.Check.{pageCheck, sizeOf}
 use Rattle.files.specs.Page.{pageAt}
@@ -17,23 +17,24 @@ use Rattle.feldrime.specs.declared.BoardAnswer.{BoardAnswer}
 use Rattle.feldrime.specs.Answers.{answerOf}
 use Rattle.feldrime.specs.Pages.{sizeFor, boardFor}
 
--- one number for all three, and beside a refusal no lines and no dots
-abbrev pub agreed : (refused size board lines dots : ℕ) → Bool
-agreed refused size board lines dots = (eqb size refused && eqb board refused) && (eqb refused 0 || (eqb lines 0 && eqb dots 0))
+-- one number for all three, and one beside it; on a refusal no lines and no dots
+abbrev pub agreed : Answer → SizeAnswer → BoardAnswer → Bool
+agreed c s m =
+    (((eqb (s .refusal) (c .refusal) && eqb (s .beside) (c .beside)) && eqb (m .refusal) (c .refusal)) && eqb (m .beside) (c .beside))
+    && (eqb (c .refusal) 0 || (eqb (s .lines) 0 && eqb (s .dots) 0))
 
-agree : (numbers : List ℕ) → agreed (numberOf (numbersCheck numbers)) (sizeFor numbers .refusal) (boardFor numbers .refusal) (sizeFor numbers .lines) (sizeFor numbers .dots) ≡ true
+agree : (numbers : List ℕ) → agreed (answerOf (numbersCheck numbers)) (sizeFor numbers) (boardFor numbers) ≡ true
 unfolding numbersCheck sizeFor boardFor sizeOf
 agree numbers = go (numbersRefused numbers) refl (doneOf (pageCheck (pageAt numbers 1))) refl
   where
     go : (t : Bool) → numbersRefused numbers ≡ t → (d : Bool) → doneOf (pageCheck (pageAt numbers 1)) ≡ d
-        → agreed (numberOf (numbersCheck numbers)) (sizeFor numbers .refusal) (boardFor numbers .refusal) (sizeFor numbers .lines) (sizeFor numbers .dots) ≡ true
+        → agreed (answerOf (numbersCheck numbers)) (sizeFor numbers) (boardFor numbers) ≡ true
     go true t d e = rw t
     go false t true e = rw (t, done-is (pageCheck (pageAt numbers 1)) e)
-    go false t false e = rw (t, e, eq-eqb (numberOf (pageCheck (pageAt numbers 1))) _ refl)
+    go false t false e = rw (t, e, eq-eqb (numberOf (pageCheck (pageAt numbers 1))) _ refl, eq-eqb (besideOf (pageCheck (pageAt numbers 1))) _ refl)
 
 pub calls-agree : (numbers : List ℕ) (c : Answer) (s : SizeAnswer) (m : BoardAnswer)
-    → c ≡ answerOf (numbersCheck numbers) → s ≡ sizeFor numbers → m ≡ boardFor numbers
-    → agreed (c .refusal) (s .refusal) (m .refusal) (s .lines) (s .dots) ≡ true
+    → c ≡ answerOf (numbersCheck numbers) → s ≡ sizeFor numbers → m ≡ boardFor numbers → agreed c s m ≡ true
 calls-agree numbers c s m p q r = rw (p, q, r) (agree numbers)
 
 -- numbers that are refused

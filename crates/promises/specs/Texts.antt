@@ -11,7 +11,7 @@ use lib.Seq.{ext-getD, length-take-le, getD-take, getD-drop}
 use Rattle.lists.specs.Choice.{pick}
 use Rattle.lists.specs.Tab.{tab, same-tab, length-tab, getD-tab}
 use Rattle.refusal.specs.declared.Refusal.the-variants.{Done}
-use Rattle.refusal.specs.Number.{numberOf, doneOf}
+use Rattle.refusal.specs.Number.{numberOf, besideOf, doneOf}
 use Rattle.refusal.specs.Laws.{done-is}
 use Rattle.board.specs.declared.Board.{Board}
 use Rattle.raster.specs.Moves.{advanceBy-lt}
@@ -175,16 +175,16 @@ module _ (numbers chars : List ℕ) (row : ℕ) (text : List ℕ) (room : 256 �
 -- ---- both calls
 
 pub calls-agree : (numbers chars : List ℕ) (row : ℕ) {a : CellsAnswer} {r : RunAnswer} → a ≡ cellsFor numbers chars row 256 → r ≡ runFor numbers chars row
-    → (eqb (a .refusal) (r .refusal) && leb (r .count) (a .count)) ≡ true
+    → ((eqb (a .refusal) (r .refusal) && eqb (a .beside) (r .beside)) && leb (r .count) (a .count)) ≡ true
 unfolding cellsFor runFor cellsGiven
 calls-agree numbers chars row {a} {r} e q = go (numbersRefused numbers) refl
   where
     b : Board
     b = numbersBoard numbers
 
-    go : (t : Bool) → numbersRefused numbers ≡ t → (eqb (a .refusal) (r .refusal) && leb (r .count) (a .count)) ≡ true
+    go : (t : Bool) → numbersRefused numbers ≡ t → ((eqb (a .refusal) (r .refusal) && eqb (a .beside) (r .beside)) && leb (r .count) (a .count)) ≡ true
     go true t = rw (e, q, t)
     go false t =
-        let same : numberOf (cellsCheck b (length chars) row 256) ≡ numberOf (spanOf b chars row .refusal)
-        = ap numberOf (cells-as-run b (length chars) row 256 (omega arith) ∙ sym (span-number b chars row (spanOf b chars row) refl)) in
-        rw (e, q, t, eq-eqb _ _ same) (le-leb _ _ (run-least b chars row 256 (omega arith)))
+        let same : cellsCheck b (length chars) row 256 ≡ spanOf b chars row .refusal
+        = cells-as-run b (length chars) row 256 (omega arith) ∙ sym (span-number b chars row (spanOf b chars row) refl) in
+        rw (e, q, t, eq-eqb _ _ (ap numberOf same), eq-eqb _ _ (ap besideOf same)) (le-leb _ _ (run-least b chars row 256 (omega arith)))

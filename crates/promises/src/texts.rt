@@ -40,12 +40,12 @@ pub fn text_begins<'a>(numbers: &[u8], chars: &'a [u8], row: u32, text: &mut [u8
     crate::runs::run_taken(numbers, chars, row)
 }
 
-// Both calls refuse a row by the same number, and its cells are at least as many as its run has.
+// Both calls refuse a row by the same number, with the same beside it, and its cells are at least as many as its run has.
 pub fn cells_agree(numbers: &[u8], chars: &[u8], row: u32) -> bool
     ensures { λ r. ⌜ r ≡ true ⌝ }
 {
     let mut cells = [0u16; 256];
     let given = feldrime::feldrime_row_cells(numbers, chars, row, &mut cells);
     let run = feldrime::feldrime_row_run(numbers, chars, row);
-    (given.refusal == run.refusal) & (run.count <= given.count)
+    (given.refusal == run.refusal) & (given.beside == run.beside) & (run.count <= given.count)
 }

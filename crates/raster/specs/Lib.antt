@@ -11,7 +11,7 @@
 --     Fed        what is asked of a Feed: its addresses have 14 bits
 --     Tallied    what is asked of a Tally: it counts the Feed's moves, one by one
 --     lastSet    of some cells the attribute byte of the last with AFLG: what is valid after them in field mode
---     Beam       what the board's beam carries: a cell's address, and such a byte beside it. Its Carrier and Rows are those of cells with the byte added
+--     Row        what the board's beam carries: a cell's address, such a byte, and its row's code. Its Carrier and Rows are those of cells with these added
 --
 -- One row followed through them: row 1 of A1's page (80 columns, rows of 10 lines, no table, screen start 1 at 0).
 --     Feed       at row 1 the address carries on: `begins` gives 80, which is where row 0 left it
@@ -23,7 +23,7 @@
 --     Laws       `walk` 1 4 is `move` 1 3 of `walk` 1 3; `start` 2 is `begin` 2 of what row 1 leaves, 160
 --     Fed, Tallied     0 and every address are below 16,384, and clock 3 moves on because 3 is below 80: so the Laws hold
 --     lastSet    in field mode, with AFLG in cell 70 alone and 83 moves done, it is that cell's byte
---     Beam       at clock 3: address 83 and that byte; the row keeps address 80 and that byte, which row 0 left
+--     Row        at clock 3: address 83, that byte and the row's code; the row keeps address 80 and that byte, which row 0 left, and the code
 pub mod Tick
 pub mod Moves
 pub mod Walk

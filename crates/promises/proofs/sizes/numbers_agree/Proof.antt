@@ -5,7 +5,7 @@ use Rattle.promises.proofs.sizes.numbers_agree.Tie as tie
 
 returns : tie.Need-returns
 returns c =
-    let made = c .before .before .before .before in
+    let made = c .before .before .before .before .before .before .before .before in
     calls-agree _ _ _ _ (made .before .before .feldrime-page-check .ensures) (made .before .feldrime-page-size .ensures) (made .feldrime-board-of .ensures)
 
 pub numbers-agree-spec : {M : Type 1} → statement M

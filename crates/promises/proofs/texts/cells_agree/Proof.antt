@@ -5,7 +5,7 @@ use Rattle.promises.proofs.texts.cells_agree.Tie as tie
 
 returns : tie.Need-returns
 returns c =
-    let run = c .before .before .before .before in
+    let run = c .before .before .before .before .before .before in
     calls-agree _ _ _ (run .before .before .feldrime-row-cells .ensures .0) (run .feldrime-row-run .ensures)
 
 pub cells-agree-spec : {M : Type 1} → statement M
