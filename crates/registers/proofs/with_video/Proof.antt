@@ -1,9 +1,10 @@
+use mathlib.Core.Path.{refl}
 use borrow.Author.Needs.{needs}
 use Rattle.registers.proofs.with_video.Statement.{statement}
 use Rattle.registers.proofs.with_video.Tie as tie
 
 returns : tie.Need-returns
-returns c = cc
+returns c = rw (c .before .choose2 .ensures .0, c .before .before .choose .ensures .0) refl
 
 pub with-video-spec : {M : Type 1} → statement M
 with-video-spec =

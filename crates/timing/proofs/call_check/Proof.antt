@@ -1,3 +1,4 @@
+use mathlib.Core.Path.{refl}
 use borrow.Author.Needs.{needs}
 use Rattle.timing.specs.Check.{callCheck}
 use Rattle.timing.proofs.call_check.Statement.{statement}
@@ -5,7 +6,13 @@ use Rattle.timing.proofs.call_check.Tie as tie
 
 returns : tie.Need-returns
 unfolding callCheck
-returns c = cc
+returns c =
+    rw (
+      c .call-order .ensures,
+      c .before .state-refused .ensures,
+      c .before .before .is-done .ensures,
+      c .before .before .before .page-check .ensures,
+    ) refl
 
 pub call-check-spec : {M : Type 1} → statement M
 call-check-spec =

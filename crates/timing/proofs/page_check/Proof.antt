@@ -1,3 +1,4 @@
+use mathlib.Core.Path.{refl}
 use borrow.Author.Needs.{needs}
 use Rattle.timing.specs.Check.{pageCheck}
 use Rattle.timing.proofs.page_check.Statement.{statement}
@@ -5,7 +6,17 @@ use Rattle.timing.proofs.page_check.Tie as tie
 
 returns : tie.Need-returns
 unfolding pageCheck
-returns c = cc
+returns c =
+    rw (
+      c .first-of .ensures,
+      c .before .missing .ensures,
+      c .before .before .width-refused .ensures,
+      c .before .before .before .front-porch-refused .ensures,
+      c .before .before .before .before .line-short .ensures,
+      c .before .before .before .before .before .back-porch-refused .ensures,
+      c .before .before .before .before .before .before .reserved-refused .ensures,
+      c .before .before .before .before .before .before .before .address-refused .ensures,
+    ) refl
 
 pub page-check-spec : {M : Type 1} → statement M
 page-check-spec =

@@ -5,7 +5,13 @@ use Rattle.timing.proofs.timing_of.Tie as tie
 
 returns : tie.Need-returns
 unfolding timingOf
-returns c = cc
+returns c = λ i. record {
+  hsync = c .before .before .before .before .hsync-of .ensures i;
+  hfp = c .before .before .before .hfp-of .ensures i;
+  vfp = c .before .before .vfp-of .ensures i;
+  vsync = c .before .vsync-of .ensures i;
+  counts = c .counts-of .ensures i;
+}
 
 pub timing-of-spec : {M : Type 1} → statement M
 timing-of-spec =
