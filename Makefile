@@ -1,5 +1,9 @@
-# make install [PREFIX=/usr/local] [DESTDIR=]: the header, the library as an archive and as a shared library, feldrime.pc, and the programs.
-# What is missing is built first. The library is for x86-64.
+# make [all]                                      builds the library, archive and shared library, and the programs
+# make install [PREFIX=/usr/local] [DESTDIR=]     installs these, the header and feldrime.pc, and builds what is missing
+# make uninstall [PREFIX=/usr/local] [DESTDIR=]   removes the files that install put there, and leaves the folders
+# make check                                      runs ./check
+# make clean                                      removes target/, where all is built, and out/, where ./draw draws
+# The library is for x86-64.
 PREFIX = /usr/local
 DESTDIR =
 SHELL = /bin/bash
@@ -9,7 +13,7 @@ version := $(shell sed -n 's/^\#define FELDRIME_VERSION //p' include/feldrime.h)
 shared = target/shared/libfeldrime.so.$(version)
 tools = set -euo pipefail; . tools/program.sh;
 
-.PHONY: all install
+.PHONY: all install uninstall check clean
 
 all:
 	@$(tools) build_program
@@ -23,6 +27,22 @@ install: all
 	install -m 644 target/staticlib/libfeldrime.a "$(DESTDIR)$(PREFIX)/lib"
 	install -m 755 $(shared) "$(DESTDIR)$(PREFIX)/lib"
 	ln -sf libfeldrime.so.$(version) "$(DESTDIR)$(PREFIX)/lib/libfeldrime.so"
-	sed -e 's|@PREFIX@|$(PREFIX)|' -e 's|@VERSION@|$(version)|' tools/feldrime.pc.in > "$(DESTDIR)$(PREFIX)/lib/pkgconfig/feldrime.pc"
+	sed -e 's|@PREFIX@|$(PREFIX)|' -e 's|@VERSION@|$(version)|' tools/feldrime.pc.in \
+		> "$(DESTDIR)$(PREFIX)/lib/pkgconfig/feldrime.pc"
 	install -m 755 target/feldrime/feldrime "$(DESTDIR)$(PREFIX)/bin/feldrime"
 	install -m 755 target/listing/feldrime-listing "$(DESTDIR)$(PREFIX)/bin/feldrime-listing"
+
+uninstall:
+	rm -f "$(DESTDIR)$(PREFIX)/include/feldrime.h"
+	rm -f "$(DESTDIR)$(PREFIX)/lib/libfeldrime.a"
+	rm -f "$(DESTDIR)$(PREFIX)/lib/libfeldrime.so.$(version)"
+	rm -f "$(DESTDIR)$(PREFIX)/lib/libfeldrime.so"
+	rm -f "$(DESTDIR)$(PREFIX)/lib/pkgconfig/feldrime.pc"
+	rm -f "$(DESTDIR)$(PREFIX)/bin/feldrime"
+	rm -f "$(DESTDIR)$(PREFIX)/bin/feldrime-listing"
+
+check:
+	./check
+
+clean:
+	rm -rf target out

@@ -154,7 +154,7 @@ static size_t read_file(const char *name, uint8_t *bytes, size_t room)
 int read_samples(struct set *set, char *const names[], size_t count)
 {
     static struct font font;
-    static uint8_t file[FELDRIME_PAGE_FILE];
+    static uint8_t file[FELDRIME_PAGE_FILE + 1]; /* one more, so that a file that is too long is refused */
     size_t size = count == 0 ? 0 : read_file(names[0], file, sizeof file);
 
     set->name = "samples";

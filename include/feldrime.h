@@ -7,6 +7,10 @@
      feldrime_read_font(&font, bytes, count)                        takes a font file apart
      feldrime_draw(&page, &font, field, picture, sizeof picture)    draws all lines, a byte for each dot
 
+   bytes is the whole file. A program reads it into a buffer with room for one byte more than FELDRIME_PAGE_FILE or
+   FELDRIME_FONT_FILE, and hands over all that it read. If it asks for no more than the right size, a file that is too
+   long is cut to that size and accepted.
+
    feldrime_size_of(&page) tells how many lines the picture has and how many dots a line has. What blinks goes by the
    field count, which is the frame's number modulo 256; a still picture is field 0. examples/draw.c does just this.
    feldrime_draw_line draws a single line, feldrime_cells_of tells which cells of the memories a row shows, and
@@ -29,8 +33,8 @@
      2, which is HACT + HSYNC + HBP + 2 - HT; else it is 0. On a refusal the results are 0, unless the call says otherwise.
      Compare answers field by field, since some have unused bytes between the fields.
    - The library keeps nothing between calls, and has no state of its own. Threads may call it at the same time, as long
-     as a buffer that is being written is used by one call at a time. feldrime_picture_draw needs at most 80 KB of stack,
-     feldrime_to_table at most 20 KB, the other calls little. */
+     as a buffer that is being written is used by one call at a time. FELDRIME_STACK bytes of stack are enough for every
+     call, and FELDRIME_STACK_SMALL for all but feldrime_picture_draw and feldrime_to_table. */
 #ifndef FELDRIME_H
 #define FELDRIME_H
 
@@ -56,9 +60,12 @@ enum {
     FELDRIME_LINE = 3072,       /* room for the longest line: 256 cells of 12 dots */
     FELDRIME_PICTURE = 6291456, /* room for the largest picture: 2048 such lines */
     FELDRIME_CELLS = 256,       /* room for the cells of the longest row */
-    FELDRIME_PAGE_FILE = 32797, /* a page file has exactly so many bytes */
-    FELDRIME_FONT_FILE = 2455   /* and a font file so many */
+    FELDRIME_PAGE_FILE = 32797, /* a page file has exactly so many bytes; a buffer for reading one has one more */
+    FELDRIME_FONT_FILE = 2455   /* and a font file so many; its buffer too has one more */
 };
+
+/* Bytes of stack, with what a call's arguments take, and with what the dynamic linker takes at the first call. */
+enum { FELDRIME_STACK = 24576, FELDRIME_STACK_SMALL = 8192 };
 
 /* The level of a dot. */
 enum { FELDRIME_BLACK = 0, FELDRIME_GRAY = 1, FELDRIME_WHITE = 2 };

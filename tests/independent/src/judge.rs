@@ -41,7 +41,7 @@ pub fn fault(number: u32, holds: bool) -> Fault {
 
 /// "1: version byte missing or not 1; 2: length field or bytes present wrong"; R-1 for pages: "1 now means neither 1 nor 2"
 pub fn file(file: &[u8], versions: &[u8], length: u32) -> Vec<Fault> {
-    let known = file.first().is_some_and(|version| versions.contains(version));
+    let known = matches!(file.first(), Some(version) if versions.contains(version));
     let field = file.get(1..5).map(|b| u32::from_be_bytes([b[0], b[1], b[2], b[3]]));
     vec![fault(1, !known), fault(2, field != Some(length) || file.len() != 5 + length as usize)]
 }

@@ -119,7 +119,8 @@ impl Met {
             ("20", _) => 2,
             _ => return,
         };
-        self.asked.entry(head.map(str::to_string).into()).or_default()[outcome] += 1;
+        let [head, of] = head.map(str::to_string);
+        self.asked.entry((head, of)).or_default()[outcome] += 1;
     }
 
     /// Prints four tables and gives how many of their allowed cells are empty.
