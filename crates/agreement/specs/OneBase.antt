@@ -60,6 +60,18 @@ clocks-during-one a from n = only (during (from .0) (n .0) (a .0))
 pub clocks-remainder-one : (a n : Clocks) → OneAnswer (λ r. r ≡ clocks (a .0 % n .0))
 clocks-remainder-one a n = only (clocks (a .0 % n .0))
 
+pub clocks-is-odd-one : (a : Clocks) → OneAnswer (λ r. r ≡ eqb (a .0 % 2) 1)
+clocks-is-odd-one a = only (eqb (a .0 % 2) 1)
+
+pub clocks-cells-one : (a : Clocks) → OneAnswer (λ r. r ≡ a .0)
+clocks-cells-one a = only (a .0)
+
+pub clocks-pairs-one : (a : Clocks) → OneAnswer (λ r. r ≡ a .0 / 2)
+clocks-pairs-one a = only (a .0 / 2)
+
+pub clocks-pairs-begun-one : (a : Clocks) → OneAnswer (λ r. r ≡ (a .0 + 1) / 2)
+clocks-pairs-begun-one a = only ((a .0 + 1) / 2)
+
 pub lines-below-one : (a b : Lines) → OneAnswer (λ r. r ≡ ltb (a .0) (b .0))
 lines-below-one a b = only (ltb (a .0) (b .0))
 
@@ -87,8 +99,17 @@ lines-quotient-one a n = only (a .0 / n .0)
 pub lines-remainder-one : (a n : Lines) → OneAnswer (λ r. r ≡ lines (a .0 % n .0))
 lines-remainder-one a n = only (lines (a .0 % n .0))
 
+pub lines-half-one : (a : Lines) → OneAnswer (λ r. r ≡ lines (a .0 / 2))
+lines-half-one a = only (lines (a .0 / 2))
+
+pub lines-places-one : (a : Lines) → OneAnswer (λ r. r ≡ a .0)
+lines-places-one a = only (a .0)
+
 pub dots-below-one : (a b : Dots) → OneAnswer (λ r. r ≡ ltb (a .0) (b .0))
 dots-below-one a b = only (ltb (a .0) (b .0))
+
+pub dots-places-one : (a : Dots) → OneAnswer (λ r. r ≡ a .0)
+dots-places-one a = only (a .0)
 
 pub clocks-of-one : (n : Lines) (line : Clocks) → OneAnswer (λ r. r ≡ clocksOf n line)
 clocks-of-one n line = only (clocksOf n line)
@@ -115,8 +136,8 @@ is-done-one x = only (doneOf x)
 pub advance-one-one : (b : Buffer) (c : Cell) → OneAnswer (λ r. r ≡ cell (advance b (c .address)))
 advance-one-one b c = only (cell (advance b (c .address)))
 
-pub advance-by-one : (b : Buffer) (k : Clocks) (c : Cell) → OneAnswer (λ r. r ≡ cell (advanceBy b (k .0) (c .address)))
-advance-by-one b k c = only (cell (advanceBy b (k .0) (c .address)))
+pub advance-by-one : (b : Buffer) (k : ℕ) (c : Cell) → OneAnswer (λ r. r ≡ cell (advanceBy b k (c .address)))
+advance-by-one b k c = only (cell (advanceBy b k (c .address)))
 
 pub latched-one : (byte held : ℕ) → OneAnswer (λ r. r ≡ latched byte held)
 latched-one byte held = only (latched byte held)
@@ -133,8 +154,8 @@ is-top-one k = only (isTop k)
 pub is-bottom-one : (k : Code) → OneAnswer (λ r. r ≡ isBottom k)
 is-bottom-one k = only (isBottom k)
 
-pub again-at-one : (k : Code) (column : ℕ) → OneAnswer (λ r. r ≡ againAt k column)
-again-at-one k column = only (againAt k column)
+pub again-at-one : (k : Code) (column : Clocks) → OneAnswer (λ r. r ≡ againAt k (column .0))
+again-at-one k column = only (againAt k (column .0))
 
 -- ---- `board`
 

@@ -11,7 +11,7 @@ use Rattle.lists.specs.Answer.{OneAnswer, only, only-both, only-four}
 use Rattle.lists.specs.Join.{joined}
 use Rattle.lists.specs.Tab.{tab}
 use Rattle.units.specs.declared.Dots.{Dots}
-use Rattle.units.specs.Units.{clocks, lines}
+use Rattle.units.specs.Units.{lines}
 use Rattle.refusal.specs.declared.Refusal.{Refusal}
 use Rattle.refusal.specs.Number.{numberOf}
 use Rattle.raster.specs.declared.Buffer.{Buffer}
@@ -86,11 +86,11 @@ entry-one p chars row = only (cell (entryOf p chars row))
 pub code-at-one : (p : Page) (chars : List ℕ) (row : ℕ) → OneAnswer (λ r. r ≡ codeAt p chars row)
 code-at-one p chars row = only (codeAt p chars row)
 
-pub fetched-of-one : (p : Page) (chars : List ℕ) (row : ℕ) → OneAnswer (λ r. r ≡ clocks (fetchedOf p chars row))
-fetched-of-one p chars row = only (clocks (fetchedOf p chars row))
+pub fetched-of-one : (p : Page) (chars : List ℕ) (row : ℕ) → OneAnswer (λ r. r ≡ fetchedOf p chars row)
+fetched-of-one p chars row = only (fetchedOf p chars row)
 
-pub begun-of-one : (p : Page) (chars : List ℕ) (row column : ℕ) → OneAnswer (λ r. r ≡ clocks (begunOf p chars row column))
-begun-of-one p chars row column = only (clocks (begunOf p chars row column))
+pub begun-of-one : (p : Page) (chars : List ℕ) (row column : ℕ) → OneAnswer (λ r. r ≡ begunOf p chars row column)
+begun-of-one p chars row column = only (begunOf p chars row column)
 
 pub one-run-one : (b : Buffer) (start n : ℕ) → OneAnswer (λ r. r ≡ oneRun b start n)
 one-run-one b start n = only (oneRun b start n)

@@ -14,8 +14,6 @@ use borrow.Author.Tests.{lt-ltb, ltb-false, eq-eqb, ne-eqb, not-false}
 use lib.Dec.{eqb, ltb}
 use lib.ListN.{length, getD, set, take, drop, replicate, length-set, getD-replicate}
 use lib.Seq.{ext-getD, getD-set-same, getD-set-other}
-use Rattle.units.specs.declared.Clocks.{Clocks}
-use Rattle.units.specs.Units.{clocks}
 use Rattle.lists.specs.Choice.{pick}
 use Rattle.lists.specs.Fill.{lent}
 use Rattle.lists.specs.Tab.{tab, length-tab, getD-tab, same-tab, tab-turn}
@@ -170,8 +168,8 @@ unfoldable pub sheetPlace : Page → ℕ
 sheetPlace p = firstBelow (freeIn (sheetMarks p) (tableSize p)) (tablePlaces p)
 
 -- in the words of the calls that find it
-pub place-found : (p : Page) {t : Timing} {u : Buffer} {k : Clocks} {marks : List ℕ} {r : ℕ} → t ≡ timingOf (p .irs) → u ≡ bufferOf (p .irs) → k ≡ clocks (t .counts .rows * t .counts .hact .0)
-    → marks ≡ markedBy u (p .starts .start1) (replicate 16384 0) (k .0) → r ≡ firstBelow (freeIn marks (2 * t .counts .rows)) (16385 - 2 * t .counts .rows) → r ≡ sheetPlace p
+pub place-found : (p : Page) {t : Timing} {u : Buffer} {k : ℕ} {marks : List ℕ} {r : ℕ} → t ≡ timingOf (p .irs) → u ≡ bufferOf (p .irs) → k ≡ t .counts .rows * t .counts .hact .0
+    → marks ≡ markedBy u (p .starts .start1) (replicate 16384 0) k → r ≡ firstBelow (freeIn marks (2 * t .counts .rows)) (16385 - 2 * t .counts .rows) → r ≡ sheetPlace p
 unfolding timingOf countsOf sheetPlace sheetMarks
 place-found p te ue ke me re = rw (me, ue, ke, te) at re
 

@@ -67,26 +67,20 @@ fn place_for(p: board::Page) -> usize
     let irs = p.irs;
     let t = timing::timing_of(irs);
     let rows = t.counts.rows;
-    let cells = t.counts.hact.times(rows);
+    let cells = t.counts.hact.times(rows).cells();
     let start = raster::Cell {
         address: p.starts.start1,
     };
     let mut marks = [0u8; 16384];
-    mark(&mut marks, timing::buffer_of(irs), start, cells.0);
+    mark(&mut marks, timing::buffer_of(irs), start, cells);
     lowest(&marks, 2 * rows as usize)
 }
 
 // Writes where each row of a sheet starts, low byte first.
-fn put_table(
-    out: &mut [u8],
-    buffer: raster::Buffer,
-    start: raster::Cell,
-    columns: units::Clocks,
-    rows: usize,
-)
-    requires { ⌜ (2 * rows ≤ length (now out)) × (rows ≤ 128) × (columns .0 ≤ 256) × Bounded buffer × (start .address < 16384) ⌝ }
+fn put_table(out: &mut [u8], buffer: raster::Buffer, start: raster::Cell, columns: u32, rows: usize)
+    requires { ⌜ (2 * rows ≤ length (now out)) × (rows ≤ 128) × (columns ≤ 256) × Bounded buffer × (start .address < 16384) ⌝ }
     ensures { λ _. ⌜ now (out .exit)
-        ≡ tab (2 * rows) (entryByte buffer (start .address) (columns .0)) ++ drop (2 * rows) (now (out .entry)) ⌝ }
+        ≡ tab (2 * rows) (entryByte buffer (start .address) columns) ++ drop (2 * rows) (now (out .entry)) ⌝ }
 {
     let mut cell = start;
     let mut r: usize = 0;
@@ -164,12 +158,13 @@ fn write_table(chars: &mut [u8], p: board::Page, place: usize)
     let start = raster::Cell {
         address: p.starts.start1,
     };
+    let columns = t.counts.hact.cells();
     let rows = t.counts.rows as usize;
     put_table(
         &mut chars[place..],
         timing::buffer_of(irs),
         start,
-        t.counts.hact,
+        columns,
         rows,
     );
 }
@@ -202,11 +197,12 @@ fn rows_apart(p: board::Page, chars: &[u8]) -> bool
     let irs = p.irs;
     let t = timing::timing_of(irs);
     let buffer = timing::buffer_of(irs);
+    let columns = t.counts.hact.cells();
     let n = t.counts.rows - 1;
     let mut apart = false;
     let mut r: u32 = 0;
     while r < n {
-        let end = raster::advance_by(buffer, t.counts.hact, fetch::entry(p, chars, r));
+        let end = raster::advance_by(buffer, columns, fetch::entry(p, chars, r));
         let next = fetch::entry(p, chars, r + 1);
         apart = apart | (next.address != end.address);
         r += 1;

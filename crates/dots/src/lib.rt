@@ -187,7 +187,7 @@ pub fn draw_cell(out: &mut [u8], look: video::Look, word: u16, width: units::Dot
     requires { ⌜ (word < 1024) × (6 ≤ width .0) × (width .0 ≤ 12) × (width .0 ≤ length (now out)) ⌝ }
     ensures { λ _. ⌜ now (out .exit) ≡ cellDots look word (width .0) ++ drop (width .0) (now (out .entry)) ⌝ }
 {
-    write_cell(out, look.symbol, under(look), word, width.0 as usize);
+    write_cell(out, look.symbol, under(look), word, width.places());
 }
 
 // The dots of a column of double width: its cell's, each twice, from a place on.

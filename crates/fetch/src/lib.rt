@@ -1,11 +1,10 @@
 // Which cell is fetched: the row table, a row's start, the cell at a column, a row's first run, and all of a row's cells.
 ghost use mathlib.Core.Path.{_≡_};
 ghost use mathlib.Core.List.{_++_};
-ghost use Prim.Native.Nat.{_<_, _≤_, _+_};
+ghost use Prim.Native.Nat.{min, _<_, _≤_, _+_};
 ghost use denote.Ref.{ptr};
 ghost use lib.ListN.{length, drop};
 ghost use Rattle.lists.specs.Tab.{tab};
-ghost use Rattle.units.specs.Units.{clocks};
 ghost use Rattle.raster.specs.Moves.{cell, Bounded};
 ghost use Rattle.refusal.specs.Number.{numberOf};
 ghost use Rattle.fetch.specs.Rows.{byteAt, entryOf, codeAt, rowStart, cellAt, fetchedOf, movedOf, begunOf};
@@ -30,6 +29,12 @@ fn wide(x: u8) -> u16
     ensures { λ r. ⌜ r ≡ x ⌝ }
 {
     x as u16
+}
+
+fn least(a: u32, b: u32) -> u32
+    ensures { λ r. ⌜ r ≡ min a b ⌝ }
+{
+    if a < b { a } else { b }
 }
 
 // The character byte at an address.
@@ -66,50 +71,50 @@ pub fn code_at(p: board::Page, chars: &[u8], row: u32) -> u8
 }
 
 // How many cells a row fetches.
-pub fn fetched_of(p: board::Page, chars: &[u8], row: u32) -> units::Clocks
+pub fn fetched_of(p: board::Page, chars: &[u8], row: u32) -> u32
     requires { ⌜ (length (now chars) ≡ 16384) × (row < 8192) ⌝ }
-    ensures { λ r. ⌜ r ≡ clocks (fetchedOf p (now (chars .entry)) row) ⌝ }
+    ensures { λ r. ⌜ r ≡ fetchedOf p (now (chars .entry)) row ⌝ }
 {
     let irs = p.irs;
     let t = timing::timing_of(irs);
     let hact = t.counts.hact;
     let code = raster::code_of(code_at(p, chars, row));
     if raster::is_wide(code) {
-        return units::Clocks((hact.0 + 1) / 2);
+        return hact.pairs_begun();
     }
-    hact
+    hact.cells()
 }
 
 // How many of them it has moved on from by a column.
-fn moved_of(p: board::Page, chars: &[u8], row: u32, column: units::Clocks) -> units::Clocks
+fn moved_of(p: board::Page, chars: &[u8], row: u32, column: units::Clocks) -> u32
     requires { ⌜ (length (now chars) ≡ 16384) × (row < 8192) ⌝ }
-    ensures { λ r. ⌜ r ≡ clocks (movedOf p (now (chars .entry)) row (column .0)) ⌝ }
+    ensures { λ r. ⌜ r ≡ movedOf p (now (chars .entry)) row (column .0) ⌝ }
 {
     let irs = p.irs;
     let t = timing::timing_of(irs);
     if column.below(t.counts.hact) {
         let code = raster::code_of(code_at(p, chars, row));
         if raster::is_wide(code) {
-            return units::Clocks(column.0 / 2);
+            return column.pairs();
         }
-        return column;
+        return column.cells();
     }
     fetched_of(p, chars, row)
 }
 
 // How many it has fetched before a column.
-pub fn begun_of(p: board::Page, chars: &[u8], row: u32, column: units::Clocks) -> units::Clocks
+pub fn begun_of(p: board::Page, chars: &[u8], row: u32, column: units::Clocks) -> u32
     requires { ⌜ (length (now chars) ≡ 16384) × (row < 8192) ⌝ }
-    ensures { λ r. ⌜ r ≡ clocks (begunOf p (now (chars .entry)) row (column .0)) ⌝ }
+    ensures { λ r. ⌜ r ≡ begunOf p (now (chars .entry)) row (column .0) ⌝ }
 {
     let irs = p.irs;
     let t = timing::timing_of(irs);
     let n = column.least(t.counts.hact);
     let code = raster::code_of(code_at(p, chars, row));
     if raster::is_wide(code) {
-        return units::Clocks((n.0 + 1) / 2);
+        return n.pairs_begun();
     }
-    n
+    n.cells()
 }
 
 // A row's start.
@@ -122,11 +127,11 @@ pub fn row_start(p: board::Page, chars: &[u8], row: u32) -> raster::Cell
         return entry(p, chars, row);
     }
     let t = timing::timing_of(irs);
-    let moves = t.counts.hact.times(row);
+    let before = t.counts.hact.times(row);
     let start = raster::Cell {
         address: p.starts.start1,
     };
-    raster::advance_by(timing::buffer_of(irs), moves, start)
+    raster::advance_by(timing::buffer_of(irs), before.cells(), start)
 }
 
 // The cell at a column of a row, at once.
@@ -141,16 +146,15 @@ pub fn cell_at(p: board::Page, chars: &[u8], row: u32, column: units::Clocks) ->
 }
 
 // How many of a row's cells stand side by side from its start on.
-fn run_count(p: board::Page, cells: units::Clocks, start: u16) -> units::Clocks
+fn run_count(p: board::Page, cells: u32, start: u16) -> u32
     requires { ⌜ start < 16384 ⌝ }
-    ensures { λ r. ⌜ r ≡ clocks (runCount p (cells .0) start) ⌝ }
+    ensures { λ r. ⌜ r ≡ runCount p cells start ⌝ }
 {
     let irs = p.irs;
     let b = timing::buffer_of(irs);
     let at = start as u32;
     let to_last = (b.last as u32 + 16384 - at % 16384) % 16384;
-    let to_top = units::Clocks(16384 - at);
-    cells.least(units::Clocks(to_last + 1).least(to_top))
+    least(cells, least(to_last + 1, 16384 - at))
 }
 
 // Whether n cells from a cell on are one run: neither the last buffer address nor 16383 comes before the last of them.
@@ -190,7 +194,7 @@ pub fn span_of(b: board::Board, chars: &[u8], row: u32) -> Span
         return Span {
             refusal: refused,
             start: start.address as usize,
-            count: run_count(page, cells, start.address).0 as usize,
+            count: run_count(page, cells, start.address) as usize,
         };
     }
     Span {
@@ -245,8 +249,7 @@ pub fn row_cells(b: board::Board, chars: &[u8], row: u32, cells: &mut [u16]) -> 
     let irs = page.irs;
     let refused = cells_check(b, chars.len(), row, cells.len());
     if refusal::is_done(refused) {
-        let n = fetched_of(page, chars, row);
-        let count = n.0 as usize;
+        let count = fetched_of(page, chars, row) as usize;
         let start = row_start(page, chars, row);
         put_cells(cells, timing::buffer_of(irs), start, count);
         return RowCells {

@@ -53,7 +53,7 @@ fn last_round(attrs: &[u8], buffer: raster::Buffer, start: raster::Cell, n: u32)
     let mut left = n;
     while 0 < left {
         left -= 1;
-        let cell = raster::advance_by(buffer, units::Clocks(left), start);
+        let cell = raster::advance_by(buffer, left, start);
         let byte = attrs[cell.address as usize];
         if 128 <= byte {
             return byte;
@@ -88,7 +88,7 @@ fn held_above(p: board::Page, chars: &[u8], attrs: &[u8], row: u32) -> u8
         left -= 1;
         let n = fetch::fetched_of(p, chars, left);
         let start = fetch::row_start(p, chars, left);
-        let byte = last_in_row(attrs, buffer, start, n.0);
+        let byte = last_in_row(attrs, buffer, start, n);
         if byte != 0 {
             return byte;
         }
@@ -125,7 +125,7 @@ pub fn held_at(
     let irs = p.irs;
     let n = fetch::begun_of(p, chars, row, column);
     let start = fetch::row_start(p, chars, row);
-    let byte = last_in_row(attrs, timing::buffer_of(irs), start, n.0);
+    let byte = last_in_row(attrs, timing::buffer_of(irs), start, n);
     if byte != 0 {
         return byte;
     }

@@ -81,10 +81,10 @@ pub length-column : (w : Walk) (row looks words flags : List ℕ) (c : ℕ) → 
 unfolding columnFor dotsFor
 length-column w row looks words flags c = length-shades _ _ (w .width .0) _
 
-pub as-column : (w : Walk) (row looks words flags : List ℕ) (c : ℕ) (out rest : List ℕ)
-    → out ≡ dotsFor w looks words flags (getD row c 0) ++ rest → out ≡ columnFor w row looks words flags c ++ rest
+pub as-column : (w : Walk) (row looks words flags : List ℕ) (c : ℕ) {d : ℕ} (out old : List ℕ) → d ≡ w .width .0
+    → out ≡ dotsFor w looks words flags (getD row c 0) ++ drop (w .width .0) old → out ≡ columnFor w row looks words flags c ++ drop d old
 unfolding columnFor
-as-column w row looks words flags c out rest e = e
+as-column w row looks words flags c out old e q = rw e q
 
 -- the cells that are asked for, by the two ways to draw them
 module _ (w : Walk) (row looks words flags : List ℕ) (columns : ℕ) {wide : Bool} (k : Ready w row looks words flags (fetchedFor wide columns)) where

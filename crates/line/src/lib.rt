@@ -34,25 +34,16 @@ fn put(out: &mut [u8], w: Walk, looks: &[u8], words: &[u16], flags: &[u8], numbe
 }
 
 // Writes the dots of n cells, each into its own stretch.
-fn cells(
-    out: &mut [u8],
-    w: Walk,
-    row: &[u16],
-    looks: &[u8],
-    words: &[u16],
-    flags: &[u8],
-    n: units::Clocks,
-)
-    requires { ⌜ Ready w (now row) (now looks) (now words) (now flags) (n .0) ⌝ }
-    requires { ⌜ n .0 * w .width .0 ≤ length (now out) ⌝ }
+fn cells(out: &mut [u8], w: Walk, row: &[u16], looks: &[u8], words: &[u16], flags: &[u8], n: usize)
+    requires { ⌜ Ready w (now row) (now looks) (now words) (now flags) n ⌝ }
+    requires { ⌜ n * w .width .0 ≤ length (now out) ⌝ }
     ensures { λ _. ⌜ now (out .exit)
-        ≡ joined 0 (n .0) (columnFor w (now (row .entry)) (now (looks .entry)) (now (words .entry)) (now (flags .entry)))
-        ++ drop (n .0 * w .width .0) (now (out .entry)) ⌝ }
+        ≡ joined 0 n (columnFor w (now (row .entry)) (now (looks .entry)) (now (words .entry)) (now (flags .entry)))
+        ++ drop (n * w .width .0) (now (out .entry)) ⌝ }
 {
-    let count = n.0 as usize;
-    let d = w.width.0 as usize;
+    let d = w.width.places();
     let mut c = 0;
-    while c < count {
+    while c < n {
         let a = c * d;
         put(&mut out[a..], w, looks, words, flags, row[c], d);
         c += 1;
@@ -78,11 +69,13 @@ fn columns(
 {
     if wide {
         let mut halves = [0u8; 1536];
-        let count = units::Clocks((n.0 + 1) / 2);
+        let count = n.pairs_begun() as usize;
         cells(&mut halves, w, row, looks, words, flags, count);
-        dots::double(out, &halves, n.0 as usize * w.width.0 as usize);
+        let length = units::dots_of(n, w.width).places();
+        dots::double(out, &halves, length);
     } else {
-        cells(out, w, row, looks, words, flags, n);
+        let count = n.cells() as usize;
+        cells(out, w, row, looks, words, flags, count);
     }
 }
 
@@ -119,7 +112,7 @@ fn line_check(p: board::Page, line: units::Lines, room: usize) -> refusal::Refus
     if timing::visible_of(irs).at_most(line) {
         return refusal::Refusal::Range;
     }
-    if room < units::dots_of(t.counts.hact, p.video.dots).0 as usize {
+    if room < units::dots_of(t.counts.hact, p.video.dots).places() {
         return refusal::Refusal::Room;
     }
     refusal::Refusal::Done
@@ -173,7 +166,7 @@ pub fn whole_line(
         timing::buffer_of(irs),
         start,
         held,
-        n.0 as usize,
+        n as usize,
     );
     tables::looks(&mut looks, video::scene_of(b, scan, field));
     let wide = raster::is_wide(code);

@@ -157,7 +157,7 @@ pub fn listing_line(
     if !refusal::is_done(refused) {
         return nothing(refused);
     }
-    let n = timing::page_size(b.page).dots.0 as usize;
+    let n = timing::page_size(b.page).dots.places();
     finish_line(out, n);
     Listed {
         refusal: refused,

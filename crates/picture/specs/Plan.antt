@@ -6,7 +6,6 @@ use mathlib.Core.List.{List, _++_}
 use native.Mathlib.Numerals.{add-one}
 use native.Mathlib.Omega.{arith}
 use lib.ListN.{length, getD, take, drop, List·getD-append}
-use Rattle.units.specs.declared.Clocks.{Clocks}
 use Rattle.units.specs.declared.Lines.{Lines}
 use Rattle.units.specs.Units.{clocks, lines}
 use Rattle.lists.specs.Choice.{pick}
@@ -178,7 +177,7 @@ module _ (p : Plan) (page : Page) (chars attrs : List ℕ) (r : ℕ) {byte held 
   as-row-at shown looks out part z e = (rw (v, q, ke, be) at e) ∙ ap (λ (i : ℕ). rowDrawn p page chars attrs shown looks r ++ drop i part) (sym z)
 
   -- so many cells
-  pub counted : p ≡ planOf page → (n : Clocks) → n ≡ clocks (fetchedOf page chars r) → n .0 ≡ fetchedFor (isWide k) (p .columns .0)
+  pub counted : p ≡ planOf page → (n : ℕ) → n ≡ fetchedOf page chars r → n ≡ fetchedFor (isWide k) (p .columns .0)
   unfolding planOf fetchedOf countsOf
   counted e n c = rw (e, c, ke, be)
 

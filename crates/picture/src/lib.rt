@@ -47,17 +47,10 @@ fn put(
         ≡ cellDotsOf (now (shown .entry)) (now (looks .entry)) (reachOf tight (p .dots .0)) (scan .0) number
         ++ drop (reachOf tight (p .dots .0)) (now (out .entry)) ⌝ }
 {
-    let s = scan.0 as usize;
+    let s = scan.places();
     let code = s * 256 + (number % 256) as usize;
     let mark = s * 128 + (number / 256) as usize;
-    dots::put_cell(
-        out,
-        inks,
-        looks[mark],
-        shown[code],
-        p.dots.0 as usize,
-        tight,
-    );
+    dots::put_cell(out, inks, looks[mark], shown[code], p.dots.places(), tight);
 }
 
 // So many cells of a line. All but the last may be stored with some dots too many, over which the next cell is drawn.
@@ -69,16 +62,16 @@ fn draw_cells(
     looks: &[u8],
     inks: &[u64],
     scan: units::Lines,
-    n: units::Clocks,
+    n: usize,
 )
-    requires { ⌜ Sheet p (now shown) (now looks) (now inks) × (length (now cells) ≡ 256) × ((i : ℕ) → i < n .0 → getD (now cells) i 0 < 32768) ⌝ }
-    requires { ⌜ (scan .0 < p .lines .0) × (0 < n .0) × (n .0 ≤ 256) × (n .0 * p .dots .0 ≤ length (now out)) ⌝ }
+    requires { ⌜ Sheet p (now shown) (now looks) (now inks) × (length (now cells) ≡ 256) × ((i : ℕ) → i < n → getD (now cells) i 0 < 32768) ⌝ }
+    requires { ⌜ (scan .0 < p .lines .0) × (0 < n) × (n ≤ 256) × (n * p .dots .0 ≤ length (now out)) ⌝ }
     ensures { λ _. ⌜ now (out .exit)
-        ≡ joined 0 (n .0) (cellFrom (now (cells .entry)) (now (shown .entry)) (now (looks .entry)) (p .dots .0) (scan .0))
-        ++ drop (n .0 * p .dots .0) (now (out .entry)) ⌝ }
+        ≡ joined 0 n (cellFrom (now (cells .entry)) (now (shown .entry)) (now (looks .entry)) (p .dots .0) (scan .0))
+        ++ drop (n * p .dots .0) (now (out .entry)) ⌝ }
 {
-    let last = n.0 as usize - 1;
-    let d = p.dots.0 as usize;
+    let last = n - 1;
+    let d = p.dots.places();
     let mut i = 0;
     while i < last {
         let a = i * d;
@@ -118,11 +111,12 @@ fn draw_columns(
     let n = p.columns;
     if wide {
         let mut halves = [0u8; 1536];
-        let count = units::Clocks((n.0 + 1) / 2);
+        let count = n.pairs_begun() as usize;
         draw_cells(&mut halves, p, cells, shown, looks, inks, scan, count);
         dots::double(out, &halves, p.width);
     } else {
-        draw_cells(out, p, cells, shown, looks, inks, scan, n);
+        let count = n.cells() as usize;
+        draw_cells(out, p, cells, shown, looks, inks, scan, count);
     }
 }
 
@@ -142,7 +136,7 @@ fn draw_lines(
         ≡ joined 0 (p .lines .0) (lineFrom p k (now (cells .entry)) (now (shown .entry)) (now (looks .entry)))
         ++ drop (p .lines .0 * p .width) (now (out .entry)) ⌝ }
 {
-    let n = p.lines.0 as usize;
+    let n = p.lines.places();
     let width = p.width;
     let wide = raster::is_wide(k);
     let mut s: usize = 0;
@@ -159,7 +153,7 @@ fn draw_row(
     out: &mut [u8],
     p: Plan,
     k: raster::Code,
-    n: units::Clocks,
+    n: u32,
     chars: &[u8],
     attrs: &[u8],
     shown: &[u16],
@@ -169,7 +163,7 @@ fn draw_row(
     held: u8,
 ) -> u8
     requires { ⌜ Sheet p (now shown) (now looks) (now inks) × (length (now chars) ≡ 16384) × (length (now attrs) ≡ 16384) ⌝ }
-    requires { ⌜ (n .0 ≡ fetchedFor (isWide k) (p .columns .0)) × (start .address < 16384) × (p .lines .0 * p .width ≤ length (now out)) ⌝ }
+    requires { ⌜ (n ≡ fetchedFor (isWide k) (p .columns .0)) × (start .address < 16384) × (p .lines .0 * p .width ≤ length (now out)) ⌝ }
     ensures { λ r. ⌜ (r ≡ heldBy (p .reading .runs) (now (attrs .entry)) (p .buffer) held (start .address) (fetchedFor (isWide k) (p .columns .0)))
         × (now (out .exit)
         ≡ rowFrom p k (now (chars .entry)) (now (attrs .entry)) (now (shown .entry)) (now (looks .entry)) held (start .address)
@@ -186,7 +180,7 @@ fn draw_row(
         buffer,
         start,
         held,
-        n.0 as usize,
+        n as usize,
     );
     draw_lines(out, p, k, &cells, shown, looks, inks);
     valid
@@ -243,8 +237,8 @@ fn plan_of(p: board::Page) -> Plan
     let columns = t.counts.hact;
     let dots = p.video.dots;
     let lines = t.counts.lines;
-    let width = units::dots_of(columns, dots).0 as usize;
-    let size = lines.0 as usize * width;
+    let width = units::dots_of(columns, dots).places();
+    let size = lines.places() * width;
     Plan {
         columns: columns,
         dots: dots,
@@ -299,7 +293,7 @@ fn by_rows(
 {
     let page = b.page;
     let lines = p.lines;
-    let d = p.dots.0 as usize;
+    let d = p.dots.places();
     let mut shown = [0u16; 4096];
     let mut looks = [0u8; 2048];
     let mut inks = [0u64; 288];
@@ -327,7 +321,7 @@ fn by_lines(
         ≡ pictureDots b (now (chars .entry)) (now (attrs .entry)) (lentFont words flags unshifted shifted) field
         ++ drop (pictureLength (b .page)) (now (out .entry)) ⌝ }
 {
-    let n = p.rows as usize * p.lines.0 as usize;
+    let n = p.lines.times(p.rows).places();
     let width = p.width;
     let mut l: usize = 0;
     while l < n {
@@ -366,7 +360,7 @@ fn whole_picture(
         ++ drop (pictureLength (b .page)) (now (out .entry)) ⌝ }
 {
     let p = plan_of(b.page);
-    if p.columns.times(p.rows).below(units::Clocks(256)) {
+    if p.columns.times(p.rows).cells() < 256 {
         by_lines(
             out,
             b,

@@ -171,7 +171,7 @@ fn ends_at(p: board::Page, k: raster::Code, clock: units::Clocks) -> bool
     let irs = p.irs;
     let t = timing::timing_of(irs);
     let next = clock.plus(units::Clocks(1));
-    !raster::is_wide(k) | ((clock.0 % 2 == 1) | next.same(t.counts.hact))
+    !raster::is_wide(k) | (clock.is_odd() | next.same(t.counts.hact))
 }
 
 // Past a clock: the cell that it fetches is latched where it has AFLG, and after a cell's last column the beam moves on.
@@ -185,7 +185,7 @@ fn past_cell(p: board::Page, attrs: &[u8], clock: units::Clocks, x: raster::Row)
         address: next_cell(p, ends_at(p, raster::code_of(code), clock), at),
         latch: next_latch(
             p,
-            raster::again_at(raster::code_of(code), clock.0),
+            raster::again_at(raster::code_of(code), clock),
             attrs[at as usize],
             x.latch,
         ),

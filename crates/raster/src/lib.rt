@@ -93,10 +93,10 @@ pub fn is_bottom(k: Code) -> bool
 }
 
 // Whether a column shows the cell of the column before it again.
-pub fn again_at(k: Code, column: u32) -> bool
-    ensures { λ r. ⌜ r ≡ againAt k column ⌝ }
+pub fn again_at(k: Code, column: units::Clocks) -> bool
+    ensures { λ r. ⌜ r ≡ againAt k (column .0) ⌝ }
 {
-    is_wide(k) & (column % 2 == 1)
+    is_wide(k) & column.is_odd()
 }
 
 // What is valid at a cell: its attribute byte where AFLG is set, else what was valid before it.
@@ -119,22 +119,21 @@ pub fn advance_one(b: Buffer, c: Cell) -> Cell
     }
 }
 
-// The cell k moves after this one: one for each of k active clocks.
-pub fn advance_by(b: Buffer, k: units::Clocks, c: Cell) -> Cell
-    ensures { λ r. ⌜ r ≡ cell (advanceBy b (k .0) (c .address)) ⌝ }
+// The cell k cells after this one.
+pub fn advance_by(b: Buffer, k: u32, c: Cell) -> Cell
+    ensures { λ r. ⌜ r ≡ cell (advanceBy b k (c .address)) ⌝ }
 {
     let first = b.first as u32;
     let last = b.last as u32;
     let a = c.address as u32 % 16384;
     let d = (last + 16384 - a) % 16384;
-    let moves = k.0;
-    if moves <= d {
+    if k <= d {
         return Cell {
-            address: ((a + moves) % 16384) as u16,
+            address: ((a + k) % 16384) as u16,
         };
     }
     let p = (last + 16384 - first % 16384) % 16384 + 1;
     Cell {
-        address: ((first + (moves - d - 1) % p) % 16384) as u16,
+        address: ((first + (k - d - 1) % p) % 16384) as u16,
     }
 }

@@ -96,7 +96,7 @@ pub fn row_asked(b: board::Board, chars: &[u8], row: u32) -> Asked
     if refusal::is_done(refused) {
         let n = fetch::fetched_of(page, chars, row);
         let start = fetch::row_start(page, chars, row);
-        let e = row_ends(timing::buffer_of(irs), start, n.0);
+        let e = row_ends(timing::buffer_of(irs), start, n);
         return Asked {
             refusal: 0,
             beside: 0,

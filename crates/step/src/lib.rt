@@ -114,7 +114,7 @@ fn cell_shown(
     let scene = scene_in(b, row);
     let cursor = video::cursor_at(scene, address);
     let byte = attrs[address];
-    let again = raster::again_at(raster::code_of(row), b.place.clock.0);
+    let again = raster::again_at(raster::code_of(row), b.place.clock);
     let counted = video::counted_byte(video::reading_of(page), again, byte);
     let valid = raster::latched(counted, held);
     let hidden = board::setters_hidden(page);
@@ -193,8 +193,8 @@ fn column_dots(b: board::Board, wide: bool, s: Shown) -> [u8; 12]
     dots::draw_cell(&mut cell, look, s.word, b.page.video.dots);
     if wide {
         let mut out = [0u8; 12];
-        let d = b.page.video.dots.0 as usize;
-        let from = half_from(b.place.clock.0 % 2 == 1, d);
+        let d = b.page.video.dots.places();
+        let from = half_from(b.place.clock.is_odd(), d);
         dots::halve(&mut out, &cell, from, d);
         return out;
     }

@@ -150,7 +150,7 @@ pub fn fill_looks(table: &mut [u8], b: board::Board, field: u8, n: units::Lines)
     requires { ⌜ (n .0 ≤ 16) × (n .0 * 128 ≤ length (now table)) ⌝ }
     ensures { λ _. ⌜ now (table .exit) ≡ joined 0 (n .0) (levelsAt b field) ++ drop (n .0 * 128) (now (table .entry)) ⌝ }
 {
-    let count = n.0 as usize;
+    let count = n.places();
     let mut s: usize = 0;
     while s < count {
         let scene = video::scene_of(b, units::Lines(s as u32), field);
@@ -201,7 +201,7 @@ pub fn fill_words(
     ensures { λ _. ⌜ now (table .exit)
         ≡ joined 0 (n .0) (wordsAt (lentFont words flags unshifted shifted) d) ++ drop (n .0 * 256) (now (table .entry)) ⌝ }
 {
-    let count = n.0 as usize;
+    let count = n.places();
     let mut s: usize = 0;
     while s < count {
         let scan = units::Lines(s as u32);

@@ -1,5 +1,7 @@
 // The three units of the papers: character clocks, scan lines, dots. A count of one is never added to a count of another.
-// Only here is a count's plain number worked with: sums and comparisons within a unit, and the conversions between them.
+// Only here is a count's plain number worked with: sums and comparisons within a unit, the conversions between them, and
+// those to cells of a row and places of a buffer, which are plain numbers. Elsewhere it is only told: to C, beside a
+// refusal, in a file and in the listing.
 ghost use mathlib.Core.Path.{_≡_};
 ghost use Prim.Native.Nat.{min, _+_, _-_, _*_, _/_, _%_, _<_, _^_};
 ghost use lib.Dec.{eqb, ltb, leb};
@@ -88,6 +90,34 @@ impl Clocks {
     {
         Clocks(self.0 % line.0)
     }
+
+    // The second clock of a pair, where they are counted from 0.
+    pub fn is_odd(self) -> bool
+        ensures { λ r. ⌜ r ≡ eqb (self .0 % 2) 1 ⌝ }
+    {
+        self.0 % 2 == 1
+    }
+
+    // The cells that are shown in so many clocks, one each.
+    pub fn cells(self) -> u32
+        ensures { λ r. ⌜ r ≡ self .0 ⌝ }
+    {
+        self.0
+    }
+
+    // The cells of double width that are over after so many clocks, a pair each.
+    pub fn pairs(self) -> u32
+        ensures { λ r. ⌜ r ≡ self .0 / 2 ⌝ }
+    {
+        self.0 / 2
+    }
+
+    // The cells of double width that are begun in them: half of the clocks, rounded up.
+    pub fn pairs_begun(self) -> u32
+        ensures { λ r. ⌜ r ≡ (self .0 + 1) / 2 ⌝ }
+    {
+        self.0 / 2 + self.0 % 2
+    }
 }
 
 impl Lines {
@@ -154,6 +184,20 @@ impl Lines {
     {
         Lines(self.0 % n.0)
     }
+
+    // Half of them, rounded down.
+    pub fn half(self) -> Lines
+        ensures { λ r. ⌜ r ≡ lines (self .0 / 2) ⌝ }
+    {
+        Lines(self.0 / 2)
+    }
+
+    // The places that so many lines take in a buffer or a table, one each.
+    pub fn places(self) -> usize
+        ensures { λ r. ⌜ r ≡ self .0 ⌝ }
+    {
+        self.0 as usize
+    }
 }
 
 impl Dots {
@@ -161,6 +205,13 @@ impl Dots {
         ensures { λ r. ⌜ r ≡ ltb (self .0) (n .0) ⌝ }
     {
         self.0 < n.0
+    }
+
+    // The places that so many dots take in a buffer, one each.
+    pub fn places(self) -> usize
+        ensures { λ r. ⌜ r ≡ self .0 ⌝ }
+    {
+        self.0 as usize
     }
 }
 

@@ -244,10 +244,10 @@ pub fn scan_of(k: raster::Code, of: units::Lines, line: units::Lines) -> units::
     ensures { λ r. ⌜ r ≡ lines (scanOf k (of .0) (line .0)) ⌝ }
 {
     if raster::is_top(k) {
-        return units::Lines(line.0 / 2);
+        return line.half();
     }
     if raster::is_bottom(k) {
-        return units::Lines((of.0 + line.0) / 2);
+        return of.plus(line).half();
     }
     line
 }

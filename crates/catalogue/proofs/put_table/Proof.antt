@@ -13,8 +13,8 @@ use Rattle.catalogue.proofs.put_table.Tie as tie
 
 abbrev Inv-loop : tie.InvT-loop
 Inv-loop out₀ buffer columns rows first r₀ out here r =
-    (r ≤ rows) × (length out ≡ length out₀) × (here ≡ cell (advanceBy buffer (r * columns .0) (first .address)))
-    × (out ≡ tab (2 * r) (entryByte buffer (first .address) (columns .0)) ++ drop (2 * r) out₀)
+    (r ≤ rows) × (length out ≡ length out₀) × (here ≡ cell (advanceBy buffer (r * columns) (first .address)))
+    × (out ≡ tab (2 * r) (entryByte buffer (first .address) (columns)) ++ drop (2 * r) out₀)
 
 abbrev μ-loop : tie.MeasureT-loop
 μ-loop out₀ buffer columns rows first r₀ out here r = rows - r
@@ -25,7 +25,7 @@ loop-holds c =
     let start = c .before in (
       omega arith,
       refl,
-      ap cell (sym (ap (λ (k : ℕ). advanceBy (start .args .buffer) k (start .args .start .address)) (zero-mul (start .args .columns .0)) ∙ advanceBy-zero _ _ (start .pre .4))),
+      ap cell (sym (ap (λ (k : ℕ). advanceBy (start .args .buffer) k (start .args .start .address)) (zero-mul (start .args .columns)) ∙ advanceBy-zero _ _ (start .pre .4))),
       refl,
     )
 
@@ -36,7 +36,7 @@ room c =
     let start = c .before .before .before in (
       omega (arith, loop .inv .1, start .pre .0, c .loop-test .taken),
       omega (arith, start .pre .1, c .loop-test .taken),
-      rw (loop .inv .2) (advanceBy-lt (start .args .buffer) (loop .r * start .args .columns .0) (start .args .start .address)),
+      rw (loop .inv .2) (advanceBy-lt (start .args .buffer) (loop .r * start .args .columns) (start .args .start .address)),
     )
 
 mul-out : tie.Need-mul-out Inv-loop μ-loop
@@ -73,7 +73,7 @@ returns c =
     let loop = c .before .loop in
     let start = c .before .before .before in
     let all : 2 * loop .r ≡ 2 * start .args .rows = omega (arith, loop .inv .0, c .loop-test .left) in
-    loop .inv .3 ∙ ap (λ (k : ℕ). tab k (entryByte (start .args .buffer) (start .args .start .address) (start .args .columns .0)) ++ drop k (start .args .out .now)) all
+    loop .inv .3 ∙ ap (λ (k : ℕ). tab k (entryByte (start .args .buffer) (start .args .start .address) (start .args .columns)) ++ drop k (start .args .out .now)) all
 
 pub put-table-spec : {M : Type 1} → statement M
 put-table-spec =

@@ -9,33 +9,33 @@ use Rattle.catalogue.proofs.rows_apart.Statement.{statement}
 use Rattle.catalogue.proofs.rows_apart.Tie as tie
 
 abbrev Inv-loop : tie.InvT-loop
-Inv-loop p chars t buffer n apart₀ r₀ apart r = (r ≤ n) × (apart ≡ anyBelow (apartBy p chars) r)
+Inv-loop p chars buffer columns n apart₀ r₀ apart r = (r ≤ n) × (apart ≡ anyBelow (apartBy p chars) r)
 
 abbrev μ-loop : tie.MeasureT-loop
-μ-loop p chars t buffer n apart₀ r₀ apart r = n - r
+μ-loop p chars buffer columns n apart₀ r₀ apart r = n - r
 
 few : (c : tie.After-timing-of Inv-loop μ-loop) → (1 ≤ c .timing-of .result .counts .rows) × (c .timing-of .result .counts .rows ≤ 128)
 unfolding timingOf countsOf
 few c = rw (c .timing-of .ensures) (omega arith, omega arith)
 
 sub-n : tie.Need-sub-n Inv-loop μ-loop
-sub-n c = few (c .before .before) .0
+sub-n c = few (c .before .before .before) .0
 
 loop-holds : tie.Need-loop-holds Inv-loop μ-loop
 unfolding anyBelow
 loop-holds c = (omega arith, refl)
 
 low : (c : tie.In-loop Inv-loop μ-loop) → c .before .loop .r < 128
-low c = omega (arith, few (c .before .before .before .before) .1, c .loop-test .taken)
+low c = omega (arith, few (c .before .before .before .before .before) .1, c .loop-test .taken)
 
 entry-requires : tie.Need-entry-requires Inv-loop μ-loop
-entry-requires c κs = (c .before .before .before .before .before .before .before .pre .1, omega (arith, low c))
+entry-requires c κs = (c .before .before .before .before .before .before .before .before .pre .1, omega (arith, low c))
 
 add-entry : tie.Need-add-entry Inv-loop μ-loop
 add-entry c = omega (arith, low (c .before .before))
 
 entry-requires-2 : tie.Need-entry-requires-2 Inv-loop μ-loop
-entry-requires-2 c κs = let i = c .before .before in (i .before .before .before .before .before .before .before .pre .1, omega (arith, low i))
+entry-requires-2 c κs = let i = c .before .before in (i .before .before .before .before .before .before .before .before .pre .1, omega (arith, low i))
 
 add-r : tie.Need-add-r Inv-loop μ-loop
 add-r c = omega (arith, low (c .before .before .before .before .before))
@@ -44,14 +44,15 @@ loop-again : tie.Need-loop-again Inv-loop μ-loop
 loop-again c =
     let next = c .before .before in
     let i = next .before .before .before in
-    let timed = i .before .before .before .before in (
+    let counted = i .before .before .before in
+    let timed = counted .before .before in (
       omega (arith, i .loop-test .taken),
-      apart-more _ _ _ (timed .timing-of .ensures) (i .before .before .before .buffer-of .ensures) (next .before .before .entry .ensures) (next .before .advance-by .ensures) (next .entry2 .ensures) (i .before .loop .inv .1),
+      apart-more _ _ _ (timed .timing-of .ensures) (counted .before .buffer-of .ensures) (next .before .before .entry .ensures) (rw (counted .cells .ensures) at (next .before .advance-by .ensures)) (next .entry2 .ensures) (i .before .loop .inv .1),
     )
 
 returns : tie.Need-returns Inv-loop μ-loop
 returns c =
-    let timed = c .before .before .before .before in
+    let timed = c .before .before .before .before .before in
     let all : c .before .loop .r ≡ timed .timing-of .result .counts .rows - 1 = omega (arith, c .before .loop .inv .0, c .loop-test .left) in
     apart-all _ _ (timed .timing-of .ensures) all (c .before .loop .inv .1)
 
@@ -61,6 +62,7 @@ rows-apart-spec =
     (tie.spec
     Inv-loop
     μ-loop
+    (λ c κs. search needs)
     (λ c κs. search needs)
     (λ c κs. search needs)
     sub-n

@@ -11,9 +11,9 @@ returns : tie.Need-returns
 returns c =
     let drawn = c .before .before in
     let start = drawn .before .before .before .before .before in
-    (rw (drawn .before .before .under .ensures) at (drawn .write-cell .ensures))
+    (rw (drawn .before .places .ensures, drawn .before .before .under .ensures) at (drawn .write-cell .ensures))
     ∙ ap (λ (l : List ℕ). l ++ drop (start .args .width .0) (start .args .out .now)) (cell-shades (start .args .look) (start .args .word) (start .args .width .0) (start .pre .0) (start .pre .2))
 
 pub draw-cell-spec : {M : Type 1} → statement M
 draw-cell-spec =
-    tie.close (tie.spec (λ c κs. search needs) (λ c. search needs) (λ c κs. search needs) (λ c. search needs) returns)
+    tie.close (tie.spec (λ c κs. search needs) (λ c κs. search needs) (λ c κs. search needs) (λ c. search needs) returns)

@@ -27,21 +27,21 @@ fetched-of-requires c κs =
 
 row-start-requires : tie.Need-row-start-requires
 row-start-requires c κs =
-    let k = passed (c .before .before) .0 in
+    let k = passed (c .before) .0 in
     (k .whole, omega (arith, k .row-lt))
 
 put-cells-requires : tie.Need-put-cells-requires
 put-cells-requires c κs =
-    let k = passed (c .before .before .before .before .before) in
+    let k = passed (c .before .before .before .before) in
     let few = fetched-small _ _ _ .1 in
-    rw (c .buffer-of .ensures, c .before .before .row-start .ensures, c .before .before .before .before .fetched-of .ensures)
+    rw (c .buffer-of .ensures, c .before .before .row-start .ensures, c .before .before .before .fetched-of .ensures)
     (buffer-bounded _, row-start-lt _ _ (k .0 .page) _, le-trans few (k .1))
 
 returns : tie.Need-returns
 returns c =
     let put = c .before .before in
     let start = put .before .before .before in
-    let counted = start .before .before in
+    let counted = start .before in
     let then = counted .before in
     let check = then .before .before .cells-check .ensures in
     cells-given _ _ _ _ (checked check (then .before .is-done .ensures) (then .if1 .taken))

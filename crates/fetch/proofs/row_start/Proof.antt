@@ -19,8 +19,9 @@ times-requires c κs =
 returns-2 : tie.Need-returns-2
 unfolding timingOf countsOf
 returns-2 c =
-    let left = c .before .before .before .before in
-    c .advance-by .ensures ∙ rw (c .before .buffer-of .ensures, c .before .before .times .ensures, c .before .before .before .timing-of .ensures)
+    let left = c .before .before .before .before .before in
+    c .advance-by .ensures
+    ∙ rw (c .before .cells .ensures, c .before .before .buffer-of .ensures, c .before .before .before .times .ensures, c .before .before .before .before .timing-of .ensures)
     (ap cell (start-sheet _ _ _ (sym (left .before .table-of .ensures) ∙ left .if1 .left)))
 
 pub row-start-spec : {M : Type 1} → statement M
@@ -32,6 +33,7 @@ row-start-spec =
     returns
     (λ c κs. search needs)
     times-requires
+    (λ c κs. search needs)
     (λ c κs. search needs)
     (λ c κs. search needs)
     returns-2)

@@ -9,8 +9,6 @@ use lib.ListN.{length}
 use Rattle.lists.specs.Choice.{pass}
 use Rattle.refusal.specs.declared.Refusal.{Refusal}
 use Rattle.refusal.specs.Number.{doneOf}
-use Rattle.units.specs.declared.Clocks.{Clocks}
-use Rattle.units.specs.Units.{clocks}
 use Rattle.raster.specs.declared.Cell.{Cell}
 use Rattle.raster.specs.Moves.{cell}
 use Rattle.refusal.specs.Laws.{done-is, checked}
@@ -25,8 +23,8 @@ use Rattle.fetch.proofs.span_of.Tie as tie
 fits : (b : Board) (chars : List ℕ) (row : ℕ) (s : Span) → s ≡ spanOf b chars row → (s .start + s .count ≤ 16384) × (s .start + s .count ≤ length chars)
 fits b chars row s e = rw e (span-small b chars row)
 
-shown : (b : Board) (chars : List ℕ) (row : ℕ) (x : Refusal) (m : Clocks) (a : Cell) (n : Clocks) → x ≡ runCheck b (length chars) row → doneOf (runCheck b (length chars) row) ≡ true
-    → m ≡ clocks (fetchedOf (b .page) chars row) → a ≡ cell (rowStart (b .page) chars row) → n ≡ clocks (runCount (b .page) (m .0) (a .address)) → span x (a .address) (n .0) ≡ spanOf b chars row
+shown : (b : Board) (chars : List ℕ) (row : ℕ) (x : Refusal) (m : ℕ) (a : Cell) (n : ℕ) → x ≡ runCheck b (length chars) row → doneOf (runCheck b (length chars) row) ≡ true
+    → m ≡ fetchedOf (b .page) chars row → a ≡ cell (rowStart (b .page) chars row) → n ≡ runCount (b .page) m (a .address) → span x (a .address) n ≡ spanOf b chars row
 unfolding spanOf
 shown b chars row x m a n p t f q r = rw (t, p, r, f, q)
 
@@ -48,11 +46,11 @@ run-count-requires c κs = rw (c .before .row-start .ensures) (row-start-lt _ _ 
 
 returns : tie.Need-returns
 returns c =
-    let fetched = c .before .before .before .before in
+    let fetched = c .before .before .before in
     let then = fetched .before in
     let check = then .before .before .run-check .ensures in
     let same = shown _ _ _ _ _ _ _ check (checked check (then .before .is-done .ensures) (then .if1 .taken))
-    (fetched .fetched-of .ensures) (c .before .before .before .row-start .ensures) (c .before .run-count .ensures) in
+    (fetched .fetched-of .ensures) (c .before .before .row-start .ensures) (c .run-count .ensures) in
     (same, fits _ _ _ _ same .0, fits _ _ _ _ same .1)
 
 returns-2 : tie.Need-returns-2

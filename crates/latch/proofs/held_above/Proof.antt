@@ -1,11 +1,10 @@
 use Prim.Native.Nat.{ℕ, _-_, _≤_}
-use mathlib.Core.Path.{_≡_, refl, sym, ap, _∙_}
+use mathlib.Core.Path.{_≡_, refl, sym, _∙_}
 use mathlib.Core.List.{List}
 use native.Mathlib.Omega.{arith}
 use borrow.Author.Needs.{needs}
 use Rattle.raster.specs.Latch.{lastSet}
 use Rattle.board.specs.declared.Page.{Page}
-use Rattle.units.specs.declared.Clocks.{Clocks}
 use Rattle.timing.specs.Fields.{bufferOf}
 use Rattle.fetch.specs.Rows.{rowStart, fetchedOf}
 use Rattle.latch.specs.Held.{heldAt}
@@ -45,7 +44,7 @@ module _ (c : lts.After-last-in-row (buffer-of-reads.Asked, buffer-of-reads.Lear
   looked : byte ≡ lastSet (rowByte attrs (bufferOf (p .irs)) (rowStart p chars (left - 1))) 0 (fetchedOf p chars (left - 1))
   looked =
       looked-in p chars attrs (c .before .before .before .before .before .before .before .before .before .pre .3) (left - 1) (fetchedOf p chars (left - 1)) (c .before .before .before .before .before .buffer-of .ensures) (c .before .row-start .ensures)
-      (ap (λ (k : Clocks). k .0) (c .before .before .fetched-of .ensures)) (c .last-in-row .ensures)
+      (c .before .before .fetched-of .ensures) (c .last-in-row .ensures)
 
   found : (byte ≡ 0 → ⊥) → byte ≡ heldAt p chars attrs left 0
   found = found-above p chars attrs (c .before .before .before .before .before .before .before .before .before .pre .3) left byte (c .before .before .before .loop-test .taken) looked

@@ -1,11 +1,10 @@
 use Prim.Native.Nat.{ℕ, min}
-use mathlib.Core.Path.{_≡_, sym, ap, _∙_}
+use mathlib.Core.Path.{_≡_, sym, _∙_}
 use mathlib.Core.Bool.{true}
 use mathlib.Core.List.{List}
 use native.Mathlib.Omega.{arith}
 use borrow.Author.Needs.{needs}
 use borrow.Author.Tests.{not-true, not-false}
-use Rattle.units.specs.declared.Clocks.{Clocks}
 use Rattle.raster.specs.Latch.{lastSet}
 use Rattle.board.specs.declared.Page.{Page}
 use Rattle.board.specs.Modes.{fieldMode}
@@ -53,7 +52,7 @@ module _ (c : lts.After-last-in-row (field-mode-reads.Asked, field-mode-reads.Le
   looked : byte ≡ lastSet (rowByte attrs (bufferOf (p .irs)) (rowStart p chars row)) 0 (begunOf p chars row (min column (hactOf (p .irs))))
   looked =
       looked-in p chars attrs runs row (begunOf p chars row (min column (hactOf (p .irs)))) (c .before .buffer-of .ensures) (c .before .before .row-start .ensures)
-      (ap (λ (k : Clocks). k .0) (c .before .before .before .begun-of .ensures) ∙ sym (begun-least p chars row column)) (c .last-in-row .ensures)
+      (c .before .before .before .begun-of .ensures ∙ sym (begun-least p chars row column)) (c .last-in-row .ensures)
 
   found : (byte ≡ 0 → ⊥) → byte ≡ heldAt p chars attrs row column
   found some = found-here p chars attrs runs row (min column (hactOf (p .irs))) byte (omega arith) looked some ∙ held-least p chars attrs row column

@@ -23,45 +23,54 @@ small c =
     (mul-le-mul cells (half c .most), mul-le-mul few (half c .most))
 
 cells-requires : tie.Need-cells-requires
-cells-requires c κs = let k = c .before .before in (half k, omega (arith, small k .0))
+cells-requires c κs =
+    let k = c .before .before in
+    rw (c .before .pairs-begun .ensures) (half k, omega (arith, small k .0))
+
+dots-of-requires : tie.Need-dots-of-requires
+dots-of-requires c κs = omega (arith, small (c .before .before .before .before) .1)
 
 double-requires : tie.Need-double-requires
 double-requires c κs =
     let k = c .before .before .before .before .before .before .before .before in
     let all = small k .1 in
-    (begin k .pre .1, omega (arith, all), omega (arith, all))
+    rw (c .before .before .places .ensures, c .before .before .before .dots-of .ensures) (begin k .pre .1, omega (arith, all), omega (arith, all))
 
-cells-requires-2 : tie.Need-cells-requires-2
-cells-requires-2 c κs =
-    let k = c .before in
+cells-requires-3 : tie.Need-cells-requires-3
+cells-requires-3 c κs =
+    let k = c .before .before in
     let start = k .before .before .before .before .before .before in
-    (ready-plain _ _ _ _ _ _ (start .pre .0 .0) (k .if1 .left), start .pre .1)
+    rw (c .before .cells2 .ensures) (ready-plain _ _ _ _ _ _ (start .pre .0 .0) (k .if1 .left), start .pre .1)
 
 returns : tie.Need-returns
 returns c =
     let twice = c .before .before in
-    let once = twice .before .before .before .before .before .before in
+    let length = twice .before .before .before in
+    let once = length .before .before .before in
     let k = once .before .before .before in
-    drawn-wide _ _ (omega (arith, half k .least)) (length-column _ _ _ _ _) (k .if1 .taken) _ refl _ _ (once .cells .ensures) (twice .double .ensures)
+    drawn-wide _ _ (omega (arith, half k .least)) (length-column _ _ _ _ _) (k .if1 .taken) _ refl _ _
+    (rw (once .before .before .pairs-begun .ensures) at (once .cells .ensures)) (rw (length .places .ensures, length .before .dots-of .ensures) at (twice .double .ensures))
 
 returns-2 : tie.Need-returns-2
 returns-2 c =
     let drawn = c .before .before in
-    drawn-plain (drawn .before .before .if1 .left) _ _ _ (drawn .cells2 .ensures)
+    drawn-plain (drawn .before .before .before .if1 .left) _ _ _ (rw (drawn .before .before .cells2 .ensures) at (drawn .cells3 .ensures))
 
 pub columns-spec : {M : Type 1} → statement M
 columns-spec =
     tie.close
     (tie.spec
+    (λ c κs. search needs)
     (λ c. search needs)
     (λ c. search needs)
     cells-requires
-    (λ c. search needs)
-    (λ c. search needs)
-    (λ c. search needs)
+    dots-of-requires
+    (λ c κs. search needs)
     (λ c. search needs)
     double-requires
-    cells-requires-2
+    (λ c κs. search needs)
+    (λ c. search needs)
+    cells-requires-3
     (λ c. search needs)
     returns
     (λ c. search needs)

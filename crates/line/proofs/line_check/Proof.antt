@@ -22,14 +22,14 @@ unfolding timingOf countsOf
 returns-2 c =
     pass _
     (rw (c .before .before .before .before .before .visible-of .ensures) at (sym (c .before .before .before .before .at-most .ensures) ∙ c .before .before .before .if1 .left))
-    (stop _ (lt-ltb _ _ (rw (c .before .before .dots-of .ensures, c .before .before .before .before .before .before .timing-of .ensures) at (c .if2 .taken))) refl)
+    (stop _ (lt-ltb _ _ (rw (c .before .places .ensures, c .before .before .dots-of .ensures, c .before .before .before .before .before .before .timing-of .ensures) at (c .if2 .taken))) refl)
 
 returns-3 : tie.Need-returns-3
 unfolding timingOf countsOf
 returns-3 c =
     pass _
     (rw (c .before .before .before .before .before .visible-of .ensures) at (sym (c .before .before .before .before .at-most .ensures) ∙ c .before .before .before .if1 .left))
-    (pass _ (le-ltb _ _ (rw (c .before .before .dots-of .ensures, c .before .before .before .before .before .before .timing-of .ensures) at (c .if2 .left))) refl)
+    (pass _ (le-ltb _ _ (rw (c .before .places .ensures, c .before .before .dots-of .ensures, c .before .before .before .before .before .before .timing-of .ensures) at (c .if2 .left))) refl)
 
 pub line-check-spec : {M : Type 1} → statement M
 line-check-spec =
@@ -40,6 +40,6 @@ line-check-spec =
     (λ c κs. search needs)
     returns
     dots-of-requires
-    (λ c. search needs)
+    (λ c κs. search needs)
     returns-2
     returns-3)

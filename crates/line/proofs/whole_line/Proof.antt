@@ -1,9 +1,8 @@
 use Prim.Native.Nat.{ℕ, _≤_, _<_}
-use mathlib.Core.Path.{_≡_, ap}
+use mathlib.Core.Path.{_≡_}
 use native.Mathlib.Omega.{arith}
 use borrow.Author.Needs.{needs}
 use lib.ListN.{length, getD}
-use Rattle.units.specs.declared.Clocks.{Clocks}
 use Rattle.timing.specs.Fields.{timingOf, countsOf}
 use Rattle.timing.specs.Laws.{buffer-bounded}
 use Rattle.fetch.specs.Laws.{row-start-lt, fetched-small}
@@ -44,18 +43,18 @@ counted c = c .before .before .before .before .before .before .before
 
 gather-requires : tie.Need-gather-requires
 gather-requires c κs =
-    let n = c .before .before .before .before in
+    let n = c .before .before .before in
     let k = counted n in (
       begin k .pre .chars-all,
       begin k .pre .attrs-all,
       rw (n .fetched-of .ensures) (fetched-small _ _ _ .1),
-      rw (c .before .buffer-of .ensures) (buffer-bounded _),
+      rw (c .buffer-of .ensures) (buffer-bounded _),
       rw (n .before .before .row-start .ensures) (row-start-lt _ _ (begin k .pre .page) _),
     )
 
 -- and from the place where all is known
 abbrev cells : tie.After-is-wide → tie.After-fetched-of
-cells c = c .before .before .before .before .before .before .before .before .before .before .before
+cells c = c .before .before .before .before .before .before .before .before .before .before
 
 abbrev started : tie.After-is-wide → tie.After-row-of
 started c = counted (cells c)
@@ -72,7 +71,7 @@ prepared c =
     let gathered = looked .before .before .before .before in
     prepared-of (begin k .args .b) _ _ (font k) _ _ _ _ (k .before .timing-of .ensures) (k .row-of .ensures) (read .code-at .ensures) (n .before .before .before .before .before .code-of .ensures)
     (n .before .before .before .before .scan-at .ensures) (n .before .before .before .walk-of .ensures) (begin k .pre .page) (n .before .before .row-start .ensures) (n .before .held-for .ensures)
-    (ap (λ (x : Clocks). x .0) (n .fetched-of .ensures)) (gathered .before .before .before .reading-of .ensures) (gathered .before .before .buffer-of .ensures) (gathered .gather .ensures .1)
+    (n .fetched-of .ensures) (gathered .before .before .reading-of .ensures) (gathered .before .buffer-of .ensures) (gathered .gather .ensures .1)
     (looked .before .scene-of .ensures) (looked .looks2 .ensures) (c .is-wide .ensures)
 
 bytes : (c : tie.After-row-of) (i : ℕ) → getD (begin c .args .chars .now) i 0 < 256

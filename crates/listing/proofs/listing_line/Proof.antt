@@ -31,18 +31,21 @@ finish-line-requires c κs =
     let sized = c .before .before in
     let passed = sized .before in
     let k = passed .before .before .before .before in
-    line-fits _ _ _ (font k) _ (begin k .args .field) _ _ (k .before .before .room-for-dots .ensures) _ _ (k .draw-line .ensures)
+    rw (c .before .places .ensures)
+    (line-fits _ _ _ (font k) _ (begin k .args .field) _ _ (k .before .before .room-for-dots .ensures) _ _ (k .draw-line .ensures)
     (sym (passed .before .is-done .ensures) ∙ not-false _ (passed .if1 .left))
-    _ (sized .page-size .ensures)
+    _ (sized .page-size .ensures))
 
 returns-2 : tie.Need-returns-2
 returns-2 c =
-    let sized = c .before .before .before .before .before in
+    let counted = c .before .before .before .before in
+    let sized = counted .before in
     let passed = sized .before in
     let k = passed .before .before .before .before in
-    line-put _ _ _ (font k) _ _ _ _ (k .before .before .room-for-dots .ensures) _ _ (k .draw-line .ensures)
+    rw (counted .places .ensures)
+    (line-put _ _ _ (font k) _ _ _ _ (k .before .before .room-for-dots .ensures) _ _ (k .draw-line .ensures)
     (sym (passed .before .is-done .ensures) ∙ not-false _ (passed .if1 .left))
-    _ (sized .page-size .ensures) _ (c .before .before .finish-line .ensures)
+    _ (sized .page-size .ensures) _ (rw (counted .places .ensures) at (c .before .before .finish-line .ensures)))
 
 pub listing-line-spec : {M : Type 1} → statement M
 listing-line-spec =
@@ -57,7 +60,7 @@ listing-line-spec =
     (λ c. search needs)
     returns
     (λ c κs. search needs)
-    (λ c. search needs)
+    (λ c κs. search needs)
     finish-line-requires
     (λ c. search needs)
     (λ c. search needs)

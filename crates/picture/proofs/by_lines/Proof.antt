@@ -1,5 +1,5 @@
-use Prim.Native.Nat.{ℕ, _+_, _*_, _-_, _≤_}
-use mathlib.Core.Path.{_≡_}
+use Prim.Native.Nat.{ℕ, _+_, _*_, _-_, _≤_, _<_}
+use mathlib.Core.Path.{_≡_, ap}
 use mathlib.Core.List.{List, _++_}
 use native.Mathlib.Omega.{arith}
 use borrow.Author.Needs.{needs}
@@ -25,9 +25,12 @@ Inv-loop out₀ b chars attrs words flags unshifted shifted field n width l₀ o
 abbrev μ-loop : tie.MeasureT-loop
 μ-loop out₀ b chars attrs words flags unshifted shifted field n width l₀ out l = n - l
 
--- where the function begins, from a turn of the loop
+-- where the function begins, from the place where the lines are counted, and from a turn of the loop
+abbrev begin : tie.After-places Inv-loop μ-loop → tie.Start Inv-loop μ-loop
+begin k = k .before .before .before .before .before .before .before .before .before
+
 abbrev start : tie.In-loop Inv-loop μ-loop → tie.Start Inv-loop μ-loop
-start c = c .before .before .before .before .before .before .before .before .before .before .before
+start c = begin (c .before .before)
 
 abbrev font : tie.Start Inv-loop μ-loop → Font
 font c = fontOf (c .args .words .now) (c .args .flags .now) (c .args .unshifted .now) (c .args .shifted .now)
@@ -38,20 +41,31 @@ drawnAt c l = lineDots (c .args .b) (c .args .chars .now) (c .args .attrs .now) 
 wide : (c : tie.Start Inv-loop μ-loop) (l : ℕ) → length (drawnAt c l) ≡ c .args .p .width
 wide c = line-width (c .args .b) _ _ (font c) (c .args .field) _ (c .pre .1) (c .pre .0 .page)
 
-whole : (c : tie.Start Inv-loop μ-loop) → c .args .p .rows * c .args .p .lines .0 * c .args .p .width ≤ length (c .args .out .now)
-whole c = rw (plan-visible _ _ (c .pre .1)) (c .pre .0 .roomy)
+times-requires : tie.Need-times-requires Inv-loop μ-loop
+times-requires c κs =
+    let start = c .before .before .before .before .before .before .before in
+    omega (arith, plan-small _ _ (start .pre .1) (start .pre .0 .page))
+
+-- all lines are those of all rows, and there is room for them
+counted : (k : tie.After-places Inv-loop μ-loop) → k .places .result ≡ begin k .args .p .rows * begin k .args .p .lines .0
+counted k = rw (k .before .times .ensures) at (k .places .ensures)
+
+whole : (k : tie.After-places Inv-loop μ-loop) → k .places .result * begin k .args .p .width ≤ length (begin k .args .out .now)
+whole k =
+    let room : begin k .args .p .rows * begin k .args .p .lines .0 * begin k .args .p .width ≤ length (begin k .args .out .now) =
+    rw (plan-visible _ _ (begin k .pre .1)) (begin k .pre .0 .roomy) in
+    omega (arith, ap (λ (n : ℕ). n * begin k .args .p .width) (counted k), room)
 
 room : (c : tie.In-loop Inv-loop μ-loop) → c .before .loop .l * start c .args .p .width + start c .args .p .width ≤ length (c .before .loop .out)
-room c = omega (arith, c .before .loop .inv .1 .same, stretch-inside (c .before .loop .l) (start c .args .p .rows * start c .args .p .lines .0) (start c .args .p .width) _ (c .loop-test .taken) (whole (start c)))
+room c = omega (arith, c .before .loop .inv .1 .same, stretch-inside (c .before .loop .l) _ (start c .args .p .width) _ (c .loop-test .taken) (whole (c .before .before)))
 
-mul-n : tie.Need-mul-n Inv-loop μ-loop
-mul-n c =
-    let start = c .before .before .before .before .before .before .before .before .before in
-    omega (arith, plan-small _ _ (start .pre .1) (start .pre .0 .page))
+-- a turn's line is visible
+few : (c : tie.In-loop Inv-loop μ-loop) → c .before .loop .l < start c .args .p .rows * start c .args .p .lines .0
+few c = omega (arith, c .loop-test .taken, counted (c .before .before))
 
 loop-holds : tie.Need-loop-holds Inv-loop μ-loop
 loop-holds c =
-    let start = c .before .before .before .before .before .before .before .before .before in
+    let start = begin c in
     (omega arith, join-begins (drawnAt start) _ (wide start) _ _)
 
 mul-a : tie.Need-mul-a Inv-loop μ-loop
@@ -63,21 +77,21 @@ sub-whole-line c = omega (arith, room c)
 part-whole-line-start : tie.Need-part-whole-line-start Inv-loop μ-loop
 part-whole-line-start c = omega (arith, room c)
 
-cast-t23 : tie.Need-cast-t23 Inv-loop μ-loop
-cast-t23 c =
+cast-t22 : tie.Need-cast-t22 Inv-loop μ-loop
+cast-t22 c =
     let i = c .before in
-    omega (arith, i .loop-test .taken, plan-small _ _ (start i .pre .1) (start i .pre .0 .page))
+    omega (arith, few i, plan-small _ _ (start i .pre .1) (start i .pre .0 .page))
 
 whole-line-requires : tie.Need-whole-line-requires Inv-loop μ-loop
 whole-line-requires c κs =
     let i = c .before in
     let k = start i in
-    line-passed (k .args .b) _ _ (font k) (k .args .field) _ (k .pre .1) (k .pre .0) _ _ (i .loop-test .taken) (simp (length-take, length-drop) (omega (arith, room i)))
+    line-passed (k .args .b) _ _ (font k) (k .args .field) _ (k .pre .1) (k .pre .0) _ _ (few i) (simp (length-take, length-drop) (omega (arith, room i)))
 
 add-l : tie.Need-add-l Inv-loop μ-loop
 add-l c =
     let i = c .before .before .before .before in
-    omega (arith, i .loop-test .taken, plan-small _ _ (start i .pre .1) (start i .pre .0 .page))
+    omega (arith, few i, plan-small _ _ (start i .pre .1) (start i .pre .0 .page))
 
 loop-again : tie.Need-loop-again Inv-loop μ-loop
 loop-again c =
@@ -85,7 +99,7 @@ loop-again c =
     let i = call .before .before in
     let k = start i in (
       omega (arith, i .loop-test .taken),
-      join-turn (drawnAt k) _ (wide k) _ _ _ (i .before .loop .inv .1) (i .loop-test .taken) (whole k)
+      join-turn (drawnAt k) _ (wide k) _ _ _ (i .before .loop .inv .1) (i .loop-test .taken) (whole (i .before .before))
           (as-line-at (k .args .b) _ _ (font k) (k .args .field) _ (k .pre .1) _ _ _ (call .whole-line .ensures)),
     )
 
@@ -94,9 +108,10 @@ same-length c = c .before .loop .inv .1 .same
 
 returns : tie.Need-returns Inv-loop μ-loop
 returns c =
-    let k = c .before .before .before .before .before .before .before .before .before .before .before in
+    let all = c .before .before in
+    let k = begin all in
     lined (k .args .b) _ _ (font k) (k .args .field) _ (k .pre .1) _ _
-    (join-ends (drawnAt k) _ (wide k) _ _ (c .before .loop .inv .1) (omega arith) (omega arith))
+    (rw (counted all) at (join-ends (drawnAt k) _ (wide k) _ _ (c .before .loop .inv .1) (omega arith) (omega arith)))
 
 pub by-lines-spec : {M : Type 1} → statement M
 by-lines-spec =
@@ -104,15 +119,14 @@ by-lines-spec =
     (tie.spec
     Inv-loop
     μ-loop
-    (λ c. search needs)
-    (λ c. search needs)
-    mul-n
+    times-requires
+    (λ c κs. search needs)
     loop-holds
     mul-a
     sub-whole-line
     part-whole-line-start
     (λ c. search needs)
-    cast-t23
+    cast-t22
     whole-line-requires
     add-l
     (λ c. search needs)

@@ -27,7 +27,7 @@ draw-rows-requires c κs =
     let shown = looks .before .before .before in
     let k = shown .before .before .before .before .before .before .before .before .before .before .before .before in
     let q = k .pre .1 in
-    let made = made-of (k .args .b) (font k) (k .args .field) _ _ _ _ _ q (shown .fill-words .ensures) (looks .fill-looks .ensures) in (
+    let made = made-of (k .args .b) (font k) (k .args .field) _ _ _ _ _ q (rw (shown .before .before .places .ensures) at (shown .fill-words .ensures)) (looks .fill-looks .ensures) in (
       (sheet-of (k .args .b) (font k) (k .args .field) _ _ _ (k .pre .0 .page) made (search needs) (search needs) (inks .inks2 .ensures) _ q, k .pre .0 .chars-all, k .pre .0 .attrs-all),
       (k .pre .0 .page, q, rw (plan-size _ _ q) (k .pre .0 .roomy)),
     )
@@ -39,7 +39,7 @@ returns c =
     let shown = looks .before .before .before in
     let k = shown .before .before .before .before .before .before .before .before .before .before .before .before in
     let q = k .pre .1 in
-    let made = made-of (k .args .b) (font k) (k .args .field) _ _ _ _ _ q (shown .fill-words .ensures) (looks .fill-looks .ensures) in
+    let made = made-of (k .args .b) (font k) (k .args .field) _ _ _ _ _ q (rw (shown .before .before .places .ensures) at (shown .fill-words .ensures)) (looks .fill-looks .ensures) in
     pictured (k .args .b) _ _ (font k) (k .args .field) _ _ (k .pre .0 .page) made
     (λ i. omega (arith, shown .before .before .before .before .before .before .before .before .before .before .shared-slice-known .given i))
     _ _ _ q (drawn .draw-rows .ensures)
@@ -48,7 +48,7 @@ pub by-rows-spec : {M : Type 1} → statement M
 by-rows-spec =
     tie.close
     (tie.spec
-    (λ c. search needs)
+    (λ c κs. search needs)
     (λ c. search needs)
     fill-words-requires
     (λ c. search needs)

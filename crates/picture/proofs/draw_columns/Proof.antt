@@ -23,6 +23,7 @@ draw-cells-requires c κs =
     let k = c .before .before in
     let pre = begin k .pre in
     let few = small k in
+    rw (c .before .pairs-begun .ensures)
     ((pre .0 .0, pre .0 .1, (λ i h. pre .0 .2 i (omega (arith, h, cells-wide (k .if1 .taken) (begin k .args .p .columns .0))))), (pre .1 .0, omega (arith, pre .0 .0 .some), omega (arith, few .0), omega (arith, few .1)))
 
 double-requires : tie.Need-double-requires
@@ -33,10 +34,11 @@ double-requires c κs =
 
 draw-cells-requires-2 : tie.Need-draw-cells-requires-2
 draw-cells-requires-2 c κs =
-    let k = c .before in
+    let k = c .before .before in
     let start = k .before .before .before .before .before .before .before in
     let pre = start .pre in
     let sheet = pre .0 .0 in
+    rw (c .before .cells .ensures)
     ((sheet, pre .0 .1, (λ i h. pre .0 .2 i (omega (arith, h, cells-plain (k .if1 .left) (start .args .p .columns .0))))), (pre .1 .0, sheet .some, sheet .few, omega (arith, sheet .width-is, pre .1 .1)))
 
 returns : tie.Need-returns
@@ -45,24 +47,27 @@ returns c =
     let once = twice .before .before .before .before in
     let k = once .before .before .before in
     let sheet = begin k .pre .0 .0 in
-    drawn-wide _ _ (omega (arith, sheet .least)) (length-cell _ _ _ _ _) (k .if1 .taken) _ (sheet .width-is) _ _ (once .draw-cells .ensures) (twice .double .ensures)
+    drawn-wide _ _ (omega (arith, sheet .least)) (length-cell _ _ _ _ _) (k .if1 .taken) _ (sheet .width-is) _ _ (rw (once .before .before .pairs-begun .ensures) at (once .draw-cells .ensures)) (twice .double .ensures)
 
 returns-2 : tie.Need-returns-2
 returns-2 c =
     let drawn = c .before .before in
-    let k = drawn .before .before in
+    let k = drawn .before .before .before in
     let start = k .before .before .before .before .before .before .before in
-    plain-line (start .args .p) _ _ _ _ _ (k .if1 .left) (start .pre .0 .0 .width-is) (drawn .draw-cells2 .ensures)
+    plain-line (start .args .p) _ _ _ _ _ (k .if1 .left) (start .pre .0 .0 .width-is) (rw (drawn .before .before .cells .ensures) at (drawn .draw-cells2 .ensures))
 
 pub draw-columns-spec : {M : Type 1} → statement M
 draw-columns-spec =
     tie.close
     (tie.spec
+    (λ c κs. search needs)
     (λ c. search needs)
     (λ c. search needs)
     draw-cells-requires
     (λ c. search needs)
     double-requires
+    (λ c κs. search needs)
+    (λ c. search needs)
     draw-cells-requires-2
     (λ c. search needs)
     returns

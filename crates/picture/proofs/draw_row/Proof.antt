@@ -11,16 +11,16 @@ use Rattle.picture.proofs.draw_row.Tie as tie
 
 -- where the function begins, from the place where the row's cells are known
 abbrev begin : tie.After-gather → tie.Start
-begin c = c .before .before .before .before .before .before .before .before .before .before .before
+begin c = c .before .before .before .before .before .before .before .before .before .before
 
 gather-requires : tie.Need-gather-requires
 gather-requires c κs =
-    let start = c .before .before .before .before .before .before .before .before .before .before in
+    let start = c .before .before .before .before .before .before .before .before .before in
     let pre = start .pre in
     (pre .0 .1, pre .0 .2, omega (arith, pre .1 .0, pre .0 .0 .few, cells-few (isWide (start .args .k)) (start .args .p .columns .0)), pre .0 .0 .bounded, pre .1 .1)
 
 bytes : (c : tie.After-gather) (i : ℕ) → getD (begin c .args .chars .now) i 0 < 256
-bytes c i = omega (arith, c .before .before .before .before .before .before .before .before .before .shared-slice-known .given i)
+bytes c i = omega (arith, c .before .before .before .before .before .before .before .before .shared-slice-known .given i)
 
 draw-lines-requires : tie.Need-draw-lines-requires
 draw-lines-requires c κs =
@@ -42,7 +42,6 @@ pub draw-row-spec : {M : Type 1} → statement M
 draw-row-spec =
     tie.close
     (tie.spec
-    (λ c. search needs)
     (λ c. search needs)
     gather-requires
     (λ c. search needs)

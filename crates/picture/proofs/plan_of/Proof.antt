@@ -22,11 +22,20 @@ dots-of-requires c κs = omega (arith, width-le (c .before .before .before))
 mul-size : tie.Need-mul-size
 mul-size c =
     let k = c .before .before .before .before .before .before in
-    rw (c .before .before .dots-of .ensures) (omega (arith, mul-le-mul (lines-le k) (width-le k)))
+    rw (c .places2 .ensures, c .before .places .ensures, c .before .before .dots-of .ensures) (omega (arith, mul-le-mul (lines-le k) (width-le k)))
 
 returns : tie.Need-returns
 unfolding planOf timingOf countsOf
-returns c = rw (c .reading-of .ensures, c .before .buffer-of .ensures, c .before .before .before .before .dots-of .ensures, c .before .before .before .before .before .before .before .before .timing-of .ensures)
+returns c =
+    let sized = c .before .before in
+    rw (
+      c .reading-of .ensures,
+      c .before .buffer-of .ensures,
+      sized .places2 .ensures,
+      sized .before .places .ensures,
+      sized .before .before .dots-of .ensures,
+      sized .before .before .before .before .before .before .timing-of .ensures,
+    )
 
 pub plan-of-spec : {M : Type 1} → statement M
 plan-of-spec =
@@ -34,8 +43,8 @@ plan-of-spec =
     (tie.spec
     (λ c κs. search needs)
     dots-of-requires
-    (λ c. search needs)
-    (λ c. search needs)
+    (λ c κs. search needs)
+    (λ c κs. search needs)
     mul-size
     (λ c κs. search needs)
     (λ c κs. search needs)

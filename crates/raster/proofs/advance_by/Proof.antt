@@ -22,8 +22,8 @@ returns : tie.Need-returns
 unfolding toLast
 returns c = ap cell (wrapped _ _ ∙ sym (by-near _ _ _ (c .if1 .taken)))
 
-add-t11 : tie.Need-add-t11
-add-t11 c = sum-fits _ _ _ (search needs)
+add-t10 : tie.Need-add-t10
+add-t10 c = sum-fits _ _ _ (search needs)
 
 returns-2 : tie.Need-returns-2
 unfolding toLast around
@@ -47,6 +47,6 @@ advance-by-spec =
     (λ c. search needs)
     (λ c. search needs)
     (λ c. search needs)
-    add-t11
+    add-t10
     (λ c. search needs)
     returns-2)

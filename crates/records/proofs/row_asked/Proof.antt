@@ -3,7 +3,6 @@ use native.Mathlib.Omega.{arith}
 use borrow.Author.Needs.{needs}
 use denote.Ref.{now}
 use lib.ListN.{length}
-use Rattle.units.specs.declared.Clocks.{Clocks}
 use Rattle.refusal.specs.Number.{numberOf, besideOf}
 use Rattle.refusal.specs.Laws.{done-is, checked}
 use Rattle.timing.specs.Laws.{buffer-bounded}
@@ -35,7 +34,7 @@ returns c =
     let then = row .before .before in
     asked-row _ _ _
     (checked (span-number _ _ _ _ (then .before .before .span-of .ensures .0)) (then .before .is-done .ensures) (then .if1 .taken))
-    (ends .before .buffer-of .ensures) (row .row-start .ensures) (ap (λ (n : Clocks). n .0) (row .before .fetched-of .ensures)) (ends .row-ends .ensures)
+    (ends .before .buffer-of .ensures) (row .row-start .ensures) (row .before .fetched-of .ensures) (ends .row-ends .ensures)
 
 returns-2 : tie.Need-returns-2
 returns-2 c =

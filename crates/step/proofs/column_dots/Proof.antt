@@ -17,16 +17,19 @@ halve-requires : tie.Need-halve-requires
 halve-requires c κs =
     let start = c .before .before .before .before .before .before .before .before .before .before in
     let d = start .pre .1 in
-    (d, omega (arith, d), half-le (oddIn (start .args .b)) _ _ (c .before .before .half-from .ensures), d)
+    let half = c .before .before in
+    let from = rw (half .before .is-odd .ensures, half .before .before .places .ensures) at (half .half-from .ensures) in
+    rw (half .before .before .places .ensures) (d, omega (arith, d), half-le (oddIn (start .args .b)) _ _ from, d)
 
 returns : tie.Need-returns
 returns c =
     let drawn = c .before .before .before .before .before .before .before .before .before in
     let start = drawn .before .before .before in
     let d = start .pre .1 in
+    let half = c .before .before .before .before in
     rw (c .before .before .before .before .before .before .before .if1 .taken)
     (column-wide (oddIn (start .args .b)) (start .args .s .look) (start .args .s .word) _ (start .pre .2) d _ (drawn .draw-cell .ensures) _
-    (c .before .halve .ensures ∙ rw (c .before .before .before .before .half-from .ensures)))
+    (c .before .halve .ensures ∙ rw (half .half-from .ensures, half .before .is-odd .ensures, half .before .before .places .ensures)))
 
 returns-2 : tie.Need-returns-2
 returns-2 c =
@@ -35,4 +38,4 @@ returns-2 c =
 
 pub column-dots-spec : {M : Type 1} → statement M
 column-dots-spec =
-    tie.close (tie.spec (λ c. search needs) (λ c κs. search needs) (λ c. search needs) (λ c κs. search needs) (λ c. search needs) (λ c. search needs) halve-requires returns returns-2)
+    tie.close (tie.spec (λ c. search needs) (λ c κs. search needs) (λ c κs. search needs) (λ c κs. search needs) (λ c κs. search needs) (λ c. search needs) (λ c. search needs) halve-requires returns returns-2)

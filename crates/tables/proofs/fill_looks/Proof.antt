@@ -2,7 +2,7 @@ use Prim.Native.Nat.{_≤_, _-_, _*_}
 use mathlib.Core.List.{_++_}
 use native.Mathlib.Omega.{arith}
 use borrow.Author.Needs.{needs}
-use lib.ListN.{drop, length-take, length-drop}
+use lib.ListN.{length, drop, length-take, length-drop}
 use Rattle.lists.specs.Fill.{Filling}
 use Rattle.lists.specs.Join.{joined, join-begins, join-turn, join-ends}
 use Rattle.tables.specs.Tables.{levelsAt}
@@ -22,25 +22,31 @@ abbrev μ-loop : tie.MeasureT-loop
 abbrev start : tie.In-loop Inv-loop μ-loop → tie.Start Inv-loop μ-loop
 start c = c .before .before .before .before
 
+-- the lines are few, and the table has room for them
+few : (c : tie.In-loop Inv-loop μ-loop) → (c .before .before .places .result ≤ 16) × (c .before .before .places .result * 128 ≤ length (start c .args .table .now))
+few c =
+    let same = c .before .before .places .ensures in
+    (omega (arith, same, start c .pre .0), omega (arith, same, start c .pre .1))
+
 loop-holds : tie.Need-loop-holds Inv-loop μ-loop
 loop-holds c = (omega arith, join-begins _ _ (length-levels _ _) _ _)
 
 cast-t10 : tie.Need-cast-t10 Inv-loop μ-loop
-cast-t10 c = omega (arith, c .loop-test .taken, start c .pre .0)
+cast-t10 c = omega (arith, c .loop-test .taken, few c .0)
 
 mul-a : tie.Need-mul-a Inv-loop μ-loop
-mul-a c = omega (arith, c .before .loop-test .taken, start (c .before) .pre .0)
+mul-a c = omega (arith, c .before .loop-test .taken, few (c .before) .0)
 
 sub-looks : tie.Need-sub-looks Inv-loop μ-loop
-sub-looks c = omega (arith, c .before .before .loop .inv .1 .same, c .before .loop-test .taken, start (c .before) .pre)
+sub-looks c = omega (arith, c .before .before .loop .inv .1 .same, c .before .loop-test .taken, few (c .before))
 
 part-looks-start : tie.Need-part-looks-start Inv-loop μ-loop
-part-looks-start c = omega (arith, c .before .before .loop .inv .1 .same, c .before .loop-test .taken, start (c .before) .pre)
+part-looks-start c = omega (arith, c .before .before .loop .inv .1 .same, c .before .loop-test .taken, few (c .before))
 
 looks-requires : tie.Need-looks-requires Inv-loop μ-loop
 looks-requires c κs =
     let i = c .before .before in
-    (simp (length-take, length-drop) (omega (arith, i .before .loop .inv .1 .same, start i .pre, i .loop-test .taken)), rw (c .before .scene-of .ensures) (blank-lt _ _ _))
+    (simp (length-take, length-drop) (omega (arith, i .before .loop .inv .1 .same, few i, i .loop-test .taken)), rw (c .before .scene-of .ensures) (blank-lt _ _ _))
 
 loop-again : tie.Need-loop-again Inv-loop μ-loop
 unfolding levelsAt
@@ -49,14 +55,14 @@ loop-again c =
     let scene = call .before .before in
     let i = scene .before in (
       omega (arith, i .loop-test .taken),
-      join-turn _ _ (length-levels _ _) _ _ _ (i .before .loop .inv .1) (i .loop-test .taken) (start i .pre .1) (rw (scene .scene-of .ensures) at (call .looks .ensures)),
+      join-turn _ _ (length-levels _ _) _ _ _ (i .before .loop .inv .1) (i .loop-test .taken) (few i .1) (rw (scene .scene-of .ensures) at (call .looks .ensures)),
     )
 
 same-length : tie.Need-same-length Inv-loop μ-loop
 same-length c = c .before .loop .inv .1 .same
 
 returns : tie.Need-returns Inv-loop μ-loop
-returns c = join-ends _ _ (length-levels _ _) _ _ (c .before .loop .inv .1) (omega arith) (omega arith)
+returns c = rw (c .before .before .places .ensures) at (join-ends _ _ (length-levels _ _) _ _ (c .before .loop .inv .1) (omega arith) (omega arith))
 
 pub fill-looks-spec : {M : Type 1} → statement M
 fill-looks-spec =
@@ -64,7 +70,7 @@ fill-looks-spec =
     (tie.spec
     Inv-loop
     μ-loop
-    (λ c. search needs)
+    (λ c κs. search needs)
     loop-holds
     cast-t10
     (λ c κs. search needs)

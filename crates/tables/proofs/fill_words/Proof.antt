@@ -2,7 +2,7 @@ use Prim.Native.Nat.{_≤_, _-_, _*_}
 use mathlib.Core.List.{_++_}
 use native.Mathlib.Omega.{arith}
 use borrow.Author.Needs.{needs}
-use lib.ListN.{drop, length-take, length-drop}
+use lib.ListN.{length, drop, length-take, length-drop}
 use Rattle.lists.specs.Fill.{Filling}
 use Rattle.lists.specs.Join.{joined, join-begins, join-turn, join-ends}
 use Rattle.shape.specs.Font.{fontOf}
@@ -23,29 +23,35 @@ abbrev μ-loop : tie.MeasureT-loop
 abbrev start : tie.In-loop Inv-loop μ-loop → tie.Start Inv-loop μ-loop
 start c = c .before .before .before .before .before .before .before .before
 
+-- the lines are few, and the table has room for them
+few : (c : tie.In-loop Inv-loop μ-loop) → (c .before .before .places .result ≤ 16) × (c .before .before .places .result * 256 ≤ length (start c .args .table .now))
+few c =
+    let same = c .before .before .places .ensures in
+    (omega (arith, same, start c .pre .2), omega (arith, same, start c .pre .3))
+
 loop-holds : tie.Need-loop-holds Inv-loop μ-loop
 loop-holds c = (omega arith, join-begins _ _ (length-words _ _) _ _)
 
 cast-t15 : tie.Need-cast-t15 Inv-loop μ-loop
-cast-t15 c = omega (arith, c .loop-test .taken, start c .pre .2)
+cast-t15 c = omega (arith, c .loop-test .taken, few c .0)
 
 mul-a : tie.Need-mul-a Inv-loop μ-loop
-mul-a c = omega (arith, c .before .before .loop-test .taken, start (c .before .before) .pre .2)
+mul-a c = omega (arith, c .before .before .loop-test .taken, few (c .before .before) .0)
 
 mul-shown-words : tie.Need-mul-shown-words Inv-loop μ-loop
-mul-shown-words c = omega (arith, c .before .before .loop-test .taken, start (c .before .before) .pre .2)
+mul-shown-words c = omega (arith, c .before .before .loop-test .taken, few (c .before .before) .0)
 
 sub-shown-words : tie.Need-sub-shown-words Inv-loop μ-loop
-sub-shown-words c = omega (arith, c .before .before .before .loop .inv .1 .same, c .before .before .loop-test .taken, start (c .before .before) .pre)
+sub-shown-words c = omega (arith, c .before .before .before .loop .inv .1 .same, c .before .before .loop-test .taken, few (c .before .before))
 
 part-shown-words-start : tie.Need-part-shown-words-start Inv-loop μ-loop
-part-shown-words-start c = omega (arith, c .before .before .before .loop .inv .1 .same, c .before .before .loop-test .taken, start (c .before .before) .pre)
+part-shown-words-start c = omega (arith, c .before .before .before .loop .inv .1 .same, c .before .before .loop-test .taken, few (c .before .before))
 
 shown-words-requires : tie.Need-shown-words-requires Inv-loop μ-loop
 shown-words-requires c κs =
     let i = c .before .before .before in
     let pre = start i .pre in
-    (pre .0, pre .1, simp (length-take, length-drop) (omega (arith, i .before .loop .inv .1 .same, pre, i .loop-test .taken)))
+    (pre .0, pre .1, simp (length-take, length-drop) (omega (arith, i .before .loop .inv .1 .same, few i, i .loop-test .taken)))
 
 loop-again : tie.Need-loop-again Inv-loop μ-loop
 unfolding wordsAt
@@ -54,14 +60,14 @@ loop-again c =
     let second = call .before .before in
     let i = second .before .before in (
       omega (arith, i .loop-test .taken),
-      join-turn _ _ (length-words _ _) _ _ _ (i .before .loop .inv .1) (i .loop-test .taken) (start i .pre .3) (rw (second .before .position .ensures, second .position2 .ensures) at (call .shown-words .ensures)),
+      join-turn _ _ (length-words _ _) _ _ _ (i .before .loop .inv .1) (i .loop-test .taken) (few i .1) (rw (second .before .position .ensures, second .position2 .ensures) at (call .shown-words .ensures)),
     )
 
 same-length : tie.Need-same-length Inv-loop μ-loop
 same-length c = c .before .loop .inv .1 .same
 
 returns : tie.Need-returns Inv-loop μ-loop
-returns c = join-ends _ _ (length-words _ _) _ _ (c .before .loop .inv .1) (omega arith) (omega arith)
+returns c = rw (c .before .before .places .ensures) at (join-ends _ _ (length-words _ _) _ _ (c .before .loop .inv .1) (omega arith) (omega arith))
 
 pub fill-words-spec : {M : Type 1} → statement M
 fill-words-spec =
@@ -69,7 +75,7 @@ fill-words-spec =
     (tie.spec
     Inv-loop
     μ-loop
-    (λ c. search needs)
+    (λ c κs. search needs)
     loop-holds
     cast-t15
     (λ c κs. search needs)

@@ -6,12 +6,14 @@ use Rattle.video.proofs.scan_of.Statement.{statement}
 use Rattle.video.proofs.scan_of.Tie as tie
 
 returns : tie.Need-returns
-returns c = ap lines (stop _ (sym (c .before .before .is-top .ensures) ∙ c .before .if1 .taken) refl)
+returns c = c .half .ensures ∙ ap lines (stop _ (sym (c .before .before .is-top .ensures) ∙ c .before .if1 .taken) refl)
 
 returns-2 : tie.Need-returns-2
 returns-2 c =
     let left = c .before .before .before .before in
-    ap lines (pass _ (sym (left .before .is-top .ensures) ∙ left .if1 .left) (stop _ (sym (c .before .before .before .is-bottom .ensures) ∙ c .before .before .if2 .taken) refl))
+    c .half2 .ensures
+    ∙ rw (c .before .plus .ensures)
+    (ap lines (pass _ (sym (left .before .is-top .ensures) ∙ left .if1 .left) (stop _ (sym (c .before .before .before .is-bottom .ensures) ∙ c .before .before .if2 .taken) refl)))
 
 returns-3 : tie.Need-returns-3
 returns-3 c =
@@ -20,4 +22,4 @@ returns-3 c =
 
 pub scan-of-spec : {M : Type 1} → statement M
 scan-of-spec =
-    tie.close (tie.spec (λ c κs. search needs) returns (λ c κs. search needs) (λ c. search needs) returns-2 returns-3)
+    tie.close (tie.spec (λ c κs. search needs) (λ c κs. search needs) returns (λ c κs. search needs) (λ c κs. search needs) (λ c κs. search needs) returns-2 returns-3)
