@@ -1,7 +1,6 @@
--- Promises about the calls: files, a page's numbers, registers.
+-- Promises about the calls: files and a page's numbers.
 pub mod Sizes
 pub mod Again
-pub mod Registers
 pub mod Runs
 pub mod Texts
 pub mod Numbers

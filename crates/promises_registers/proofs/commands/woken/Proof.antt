@@ -1,7 +1,7 @@
 use borrow.Author.Needs.{needs}
-use Rattle.promises.specs.Registers.{wakes}
-use Rattle.promises.proofs.kept.woken.Statement.{statement}
-use Rattle.promises.proofs.kept.woken.Tie as tie
+use Rattle.promises_registers.specs.Commands.{wakes}
+use Rattle.promises_registers.proofs.commands.woken.Statement.{statement}
+use Rattle.promises_registers.proofs.commands.woken.Tie as tie
 
 returns : tie.Need-returns
 returns c = wakes (c .before .before .before .before .before .feldrime-power .ensures) (c .before .before .before .before .feldrime-write .ensures) _ (c .before .before .feldrime-write2 .ensures) (c .feldrime-write3 .ensures)

@@ -1,7 +1,7 @@
 use borrow.Author.Needs.{needs}
-use Rattle.promises.specs.Registers.{video-kept}
-use Rattle.promises.proofs.kept.set_or_kept.Statement.{statement}
-use Rattle.promises.proofs.kept.set_or_kept.Tie as tie
+use Rattle.promises_registers.specs.Kept.{video-kept}
+use Rattle.promises_registers.proofs.kept.set_or_kept.Statement.{statement}
+use Rattle.promises_registers.proofs.kept.set_or_kept.Tie as tie
 
 returns : tie.Need-returns
 returns c = video-kept _ _ _ _ _ (c .feldrime-set-video .ensures)

@@ -1,7 +1,7 @@
 use borrow.Author.Needs.{needs}
-use Rattle.promises.specs.Registers.{wakes-not}
-use Rattle.promises.proofs.kept.half_woken.Statement.{statement}
-use Rattle.promises.proofs.kept.half_woken.Tie as tie
+use Rattle.promises_registers.specs.Commands.{wakes-not}
+use Rattle.promises_registers.proofs.commands.half_woken.Statement.{statement}
+use Rattle.promises_registers.proofs.commands.half_woken.Tie as tie
 
 returns : tie.Need-returns
 returns c = wakes-not (c .before .before .before .feldrime-power .ensures) (c .before .before .feldrime-write .ensures) _ (c .feldrime-write2 .ensures)

@@ -1,7 +1,7 @@
 use borrow.Author.Needs.{needs}
-use Rattle.promises.specs.Registers.{same-video}
-use Rattle.promises.proofs.kept.same_video.Statement.{statement}
-use Rattle.promises.proofs.kept.same_video.Tie as tie
+use Rattle.promises_registers.specs.Videos.{same-video}
+use Rattle.promises_registers.proofs.videos.same_video.Statement.{statement}
+use Rattle.promises_registers.proofs.videos.same_video.Tie as tie
 
 returns-2 : tie.Need-returns-2
 returns-2 c = same-video _ (c .feldrime-set-video .ensures)

@@ -1,7 +1,7 @@
 use borrow.Author.Needs.{needs}
-use Rattle.promises.specs.Registers.{state-kept}
-use Rattle.promises.proofs.kept.state_or_kept.Statement.{statement}
-use Rattle.promises.proofs.kept.state_or_kept.Tie as tie
+use Rattle.promises_registers.specs.Kept.{state-kept}
+use Rattle.promises_registers.proofs.kept.state_or_kept.Statement.{statement}
+use Rattle.promises_registers.proofs.kept.state_or_kept.Tie as tie
 
 returns : tie.Need-returns
 returns c = state-kept _ _ _ _ (c .feldrime-state-at .ensures)

@@ -1,7 +1,7 @@
 use borrow.Author.Needs.{needs}
-use Rattle.promises.specs.Registers.{write-kept}
-use Rattle.promises.proofs.kept.written_or_kept.Statement.{statement}
-use Rattle.promises.proofs.kept.written_or_kept.Tie as tie
+use Rattle.promises_registers.specs.Kept.{write-kept}
+use Rattle.promises_registers.proofs.kept.written_or_kept.Statement.{statement}
+use Rattle.promises_registers.proofs.kept.written_or_kept.Tie as tie
 
 returns : tie.Need-returns
 returns c = write-kept _ _ _ (c .feldrime-write .ensures)

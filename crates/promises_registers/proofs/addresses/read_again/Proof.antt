@@ -1,0 +1,17 @@
+use borrow.Author.Needs.{needs}
+use Rattle.promises_registers.specs.Addresses.{read-again}
+use Rattle.promises_registers.proofs.addresses.read_again.Statement.{statement}
+use Rattle.promises_registers.proofs.addresses.read_again.Tie as tie
+
+returns : tie.Need-returns
+returns c ready lo hi =
+    let put = c .before .before in
+    read-again ready _ lo hi _ (put .before .fits .byte .fits) (put .feldrime-write .ensures) (c .feldrime-read .ensures)
+
+pub read-again-spec : {M : Type 1} → statement M
+read-again-spec =
+    tie.close
+    (tie.spec
+    (λ c κs. search needs)
+    (λ c κs. search needs)
+    returns)
