@@ -60,11 +60,14 @@ carried v = eqb v 0 || (within 16 30 v || switching v)
 module _ {off : Board} {once : BoardAnswer} (p : off ≡ powerOf) (q : once ≡ written off 1 0) where
   pub wakes : (byte : ℕ) {twice r : BoardAnswer} → twice ≡ written (once .board) 1 0 → r ≡ written (twice .board) 0 byte → r ≡ boardAnswer Done (loadedFirst byte)
   unfolding writeOf registerCheck addressRefused activeOf inactiveOf commandOf
-  wakes byte e g = g ∙ rw (e, q, p)
+  wakes byte e g =
+      let one = q ∙ ap (λ (x : Board). written x 1 0) p in
+      let two = e ∙ ap (λ (x : BoardAnswer). written (x .board) 1 0) one in
+      g ∙ ap (λ (x : BoardAnswer). written (x .board) 0 byte) two
 
   pub wakes-not : (byte : ℕ) {r : BoardAnswer} → r ≡ written (once .board) 0 byte → r ≡ boardAnswer Done powerOf
   unfolding writeOf registerCheck addressRefused inactiveOf
-  wakes-not byte g = g ∙ rw (q, p)
+  wakes-not byte g = g ∙ ap (λ (x : BoardAnswer). written (x .board) 0 byte) (q ∙ ap (λ (x : Board). written x 1 0) p)
 
 -- ---- an active board
 

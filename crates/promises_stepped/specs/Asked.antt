@@ -1,7 +1,7 @@
 -- What the calls that step answer, put together, is what the call that draws answers. Assumes nothing.
 use Prim.Native.Nat.{ℕ, _≤_, _<_}
 use mathlib.Core.Path.{_≡_, refl, sym, ap, _∙_}
-use mathlib.Core.Bool.{Bool, true, false, _||_, not, or-true}
+use mathlib.Core.Bool.{Bool, true, false, _&&_, _||_, not, or-true}
 use mathlib.Core.List.{List, [], _∷_, _++_}
 use native.Mathlib.Omega.{arith}
 use borrow.Author.Tests.{eq-eqb, ne-eqb, le-leb, lt-leb, lt-ltb, le-ltb, leb-false, ltb-false}
@@ -242,7 +242,7 @@ module _ (numbers chars attrs : List ℕ) (f : Font) (line : ℕ) (out : List �
 pub same-drawn : (numbers chars attrs : List ℕ) (f : Font) (line field : ℕ) (out other : List ℕ) {a b : Answer} {out′ other′ : List ℕ}
     → (a ≡ answerOf (lineDrawCheck numbers chars attrs f line (length out))) × (out′ ≡ lineDrawn numbers chars attrs f line field out)
     → (b ≡ answerOf (lineDrawCheck numbers chars attrs f line (length other))) × (other′ ≡ lineDrawn numbers chars attrs f line field other)
-    → out ≡ other → (eqb (a .refusal) (b .refusal) ≡ true) × (out′ ≡ other′)
+    → out ≡ other → ((eqb (a .refusal) (b .refusal) && eqb (a .beside) (b .beside)) ≡ true) × (out′ ≡ other′)
 same-drawn numbers chars attrs f line field out other {a} {b} p q e =
     let same : a ≡ b = p .0 ∙ rw e (sym (q .0)) in
-    (eq-eqb _ _ (ap (λ (x : Answer). x .refusal) same), p .1 ∙ rw e (sym (q .1)))
+    (rw (eq-eqb _ _ (ap (λ (x : Answer). x .refusal) same), eq-eqb _ _ (ap (λ (x : Answer). x .beside) same)), p .1 ∙ rw e (sym (q .1)))

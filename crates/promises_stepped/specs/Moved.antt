@@ -1,8 +1,9 @@
 -- A page that is moved and drawn over its picture leaves the picture, and what a clock of it puts out stays. Assumes nothing.
-use Prim.Native.Nat.{ℕ, zero, suc}
+use Prim.Native.Nat.{ℕ, zero, suc, _+_}
 use mathlib.Core.Path.{_≡_, refl, sym, ap, _∙_}
 use mathlib.Core.Bool.{Bool, true, false}
 use mathlib.Core.List.{List, _++_}
+use native.Mathlib.Nat.{zero-add}
 use borrow.Author.Tests.{eqb-true}
 use lib.ListN.{length, drop}
 use lib.Seq.{drop-at}
@@ -122,9 +123,9 @@ module _ (numbers chars attrs words flags unshifted shifted : List ℕ) where
       go true e = at-once start chars attrs font (done-is _ e) n .1 ∙ sym (steps-made numbers chars attrs words flags unshifted shifted n)
       go false e = sym (stays e n)
 
-  pub stepped-after : (n : ℕ) {m : BoardAnswer} → m ≡ boardFor numbers → {r : BoardAnswer} → r ≡ steppedTo (m .board) chars attrs font n
+  pub stepped-after : (n : ℕ) {m : BoardAnswer} → m ≡ boardFor numbers → {r : BoardAnswer} → r ≡ steppedTo (m .board) chars attrs font (0 + n)
       → {s : StepBy} → s ≡ stepNumbers (r .board) chars attrs words flags unshifted shifted → s .answer ≡ stepC numbers chars attrs words flags unshifted shifted n
-  stepped-after n me re se = rw (se, re, me) (ap (λ (x : Board). stepNumbers x chars attrs words flags unshifted shifted .answer) (reached n))
+  stepped-after n me re se = rw (se, re, me, zero-add n) (ap (λ (x : Board). stepNumbers x chars attrs words flags unshifted shifted .answer) (reached n))
 
   -- after either move
   pub table-stepped : (k : ℕ) {n c : List ℕ} → n ≡ toTableNumbers numbers chars → c ≡ toTableChars numbers chars → {a : StepAnswer} → a ≡ stepC n c attrs words flags unshifted shifted k

@@ -200,5 +200,5 @@ pub fn drawn_both_ways(
         field,
         other,
     );
-    whole.refusal == stepped.refusal
+    (whole.refusal == stepped.refusal) & (whole.beside == stepped.beside)
 }

@@ -73,6 +73,7 @@ fn step_after(
         flags,
         unshifted,
         shifted,
+        0,
         n,
     );
     let board = reached.board;

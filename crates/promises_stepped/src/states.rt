@@ -1,10 +1,11 @@
 // A state asked for, and stepped to.
 use feldrime::BoardAnswer;
 ghost use mathlib.Core.Path.{_≡_};
+ghost use Prim.Native.Nat.{_+_};
 ghost use Rattle.shape.specs.Font.{lentFont};
 ghost use Rattle.promises_stepped.specs.States.{steppedTo};
 
-// The board after n single steps from clock 0 is what `feldrime_state_at` answers, wherever a step answers 0; else a step's own answer and the old board.
+// The state for any clock, asked for and stepped on, is what `feldrime_state_at` answers so many clocks later, wherever a step answers 0; else a step's own answer and the old board.
 pub fn stepped_to(
     b: board::Board,
     chars: &[u8],
@@ -13,9 +14,10 @@ pub fn stepped_to(
     flags: &[u8],
     unshifted: &[u8],
     shifted: &[u8],
-    n: u32,
+    from: u32,
+    steps: u32,
 ) -> BoardAnswer
-    ensures { λ r. ⌜ r ≡ steppedTo b (now (chars .entry)) (now (attrs .entry)) (lentFont words flags unshifted shifted) n ⌝ }
+    ensures { λ r. ⌜ r ≡ steppedTo b (now (chars .entry)) (now (attrs .entry)) (lentFont words flags unshifted shifted) (from + steps) ⌝ }
 {
     let tried = feldrime::step_numbers(b, chars, attrs, words, flags, unshifted, shifted);
     let refused = tried.answer.refusal;
@@ -26,9 +28,10 @@ pub fn stepped_to(
             board: b,
         };
     }
-    let mut at = place::with_place(b, board::clock_zero());
+    let asked = feldrime::feldrime_state_at(b, chars, attrs, from);
+    let mut at = asked.board;
     let mut i = 0;
-    while i < n {
+    while i < steps {
         let s = feldrime::step_numbers(at, chars, attrs, words, flags, unshifted, shifted);
         at = s.board;
         i += 1;

@@ -5,7 +5,7 @@ use Rattle.promises_stepped.proofs.lines.drawn_both_ways.Tie as tie
 
 returns : tie.Need-returns
 returns c same =
-    let stepped = c .before .before .before .before in
+    let stepped = c .before .before .before .before .before .before in
     same-drawn _ _ _ _ _ _ _ _ (stepped .before .before .before .before .feldrime-line-draw .ensures) (stepped .line-by-steps .ensures) same
 
 pub drawn-both-ways-spec : {M : Type 1} → statement M
