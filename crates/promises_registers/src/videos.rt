@@ -29,8 +29,8 @@ pub fn same_video(b: board::Board) -> BoardAnswer
     )
 }
 
-// Numbers that were set before, or refused, leave no trace: those set last are judged as on the old board, and where they
-// are taken the board is the old one with exactly these.
+// Numbers that were set before, or refused, leave no trace: those set last are judged as on the old board, and where
+// they are taken the board is the old one with exactly these.
 pub fn set_twice(
     b: board::Board,
     old_width: u8,

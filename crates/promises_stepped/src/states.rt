@@ -5,7 +5,8 @@ ghost use Prim.Native.Nat.{_+_};
 ghost use Rattle.shape.specs.Font.{lentFont};
 ghost use Rattle.promises_stepped.specs.States.{steppedTo};
 
-// The state for any clock, asked for and stepped on, is what `feldrime_state_at` answers so many clocks later, wherever a step answers 0; else a step's own answer and the old board.
+// The state for any clock, asked for and stepped on, is what `feldrime_state_at` answers so many clocks later, wherever a
+// step answers 0; else a step's own answer and the old board.
 pub fn stepped_to(
     b: board::Board,
     chars: &[u8],

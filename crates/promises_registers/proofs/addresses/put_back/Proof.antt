@@ -1,3 +1,4 @@
+-- Rests on the contracts of the three calls, by `put-back`; that the byte read is a byte, by `read-lt`.
 use native.Mathlib.Omega.{arith}
 use borrow.Author.Needs.{needs}
 use Rattle.promises_registers.specs.Addresses.{read-lt, put-back}

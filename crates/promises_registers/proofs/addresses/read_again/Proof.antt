@@ -1,3 +1,4 @@
+-- Rests on the contracts of the two calls, by `read-again`.
 use borrow.Author.Needs.{needs}
 use Rattle.promises_registers.specs.Addresses.{read-again}
 use Rattle.promises_registers.proofs.addresses.read_again.Statement.{statement}

@@ -1,3 +1,4 @@
+-- Rests on the contract of the write, by `refused`.
 use borrow.Author.Needs.{needs}
 use Rattle.promises_registers.specs.Commands.{refused}
 use Rattle.promises_registers.proofs.commands.not_carried.Statement.{statement}

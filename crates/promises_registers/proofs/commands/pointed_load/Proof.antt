@@ -1,3 +1,4 @@
+-- Rests on the contracts of both writes, by `loaded`.
 use borrow.Author.Needs.{needs}
 use Rattle.promises_registers.specs.Commands.{loaded}
 use Rattle.promises_registers.proofs.commands.pointed_load.Statement.{statement}

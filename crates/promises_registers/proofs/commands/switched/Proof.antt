@@ -1,3 +1,4 @@
+-- Rests on the contracts of both writes, by `switched`.
 use borrow.Author.Needs.{needs}
 use Rattle.promises_registers.specs.Commands.{switched}
 use Rattle.promises_registers.proofs.commands.switched.Statement.{statement}

@@ -1,3 +1,4 @@
+-- Rests on the contracts of both calls, by `set-last`.
 use borrow.Author.Needs.{needs}
 use Rattle.promises_registers.specs.Videos.{set-last}
 use Rattle.promises_registers.proofs.videos.set_twice.Statement.{statement}

@@ -1,3 +1,4 @@
+-- Rests on the contracts of the step and of `feldrime_state_at`: a loop over `goes`, ended by `stepped`.
 use Prim.Native.Nat.{_≤_, _-_}
 use mathlib.Core.Path.{_≡_, refl}
 use native.Mathlib.Omega.{arith}
