@@ -52,6 +52,7 @@ switchedBy b first second =
     let s = b .page .switches in
     withPage b (withSwitches (b .page) (s / 4 * 4 + 2 * lastSaid 16 first second (s / 2 % 2) + lastSaid 8 first second (s % 2)))
 
+-- the reset, the pointer's loads, and these
 abbrev pub carried : ℕ → Bool
 carried v = eqb v 0 || (within 16 30 v || switching v)
 
