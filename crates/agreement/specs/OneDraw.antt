@@ -1,4 +1,4 @@
--- No second answer meets the contract of a public function of `fetch`, `catalogue`, `records`, `phrases`, `shape`, `video`, `dots`, `tables`, `line`, `picture`, `place` or `step`: it names its answer,
+-- No second answer meets the contract of a public function of `fetch`, `catalogue`, `records`, `phrases`, `columns`, `shape`, `video`, `dots`, `tables`, `line`, `picture`, `place` or `step`: it names its answer,
 -- so each of these is `only`.
 use Prim.Native.Nat.{ℕ, _+_, _*_, _/_, _%_}
 use mathlib.Core.Path.{_≡_}
@@ -36,6 +36,7 @@ use Rattle.records.specs.declared.Mate.{Mate}
 use Rattle.records.specs.Records.{phraseOfRow, phrasesDiffer}
 use Rattle.records.specs.Ends.{askedOf}
 use Rattle.records.specs.Folds.{startOf, visitOf, searchOf, mateStart, mateVisit, pairStart, pairVisit}
+use Rattle.columns.specs.Columns.{recordsOf}
 use Rattle.latch.specs.Held.{heldAt}
 use Rattle.shape.specs.Font.{Font, fontRefused, positionOf, wordBy, wordOf}
 use Rattle.video.specs.declared.Scene.{Scene}
@@ -143,6 +144,15 @@ phrase-of-row-one b chars phrases row = only (phraseOfRow b chars phrases row)
 
 pub phrases-differ-one : (phrases : List Phrase) → OneAnswer (λ r. r ≡ phrasesDiffer phrases)
 phrases-differ-one phrases = only (phrasesDiffer phrases)
+
+-- ---- `columns`
+
+module _ (languages numbers firsts lengths : List ℕ) where
+  pub record-of-row-one : (b : Board) (chars : List ℕ) (row : ℕ) → OneAnswer (λ r. r ≡ phraseOfRow b chars (recordsOf languages numbers firsts lengths) row)
+  record-of-row-one b chars row = only (phraseOfRow b chars (recordsOf languages numbers firsts lengths) row)
+
+  pub records-differ-one : OneAnswer (λ r. r ≡ phrasesDiffer (recordsOf languages numbers firsts lengths))
+  records-differ-one = only (phrasesDiffer (recordsOf languages numbers firsts lengths))
 
 -- ---- `latch`
 

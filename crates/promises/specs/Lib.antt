@@ -6,3 +6,4 @@ pub mod Texts
 pub mod Numbers
 pub mod Saved
 pub mod Moved
+pub mod Index
