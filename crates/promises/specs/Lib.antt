@@ -1,4 +1,4 @@
--- Promises about the calls: files and a page's numbers.
+-- Promises about the calls: files, a page's numbers, an index of phrases.
 pub mod Sizes
 pub mod Again
 pub mod Runs

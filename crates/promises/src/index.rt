@@ -46,7 +46,7 @@ pub fn found_holds(
     covers_at(firsts, lengths, answer.position, cells[column])
 }
 
-// A record of all cells is found for every row that is not refused. What one column has beyond the others is no record:
+// A record of all cells is found for every row that is not refused. What a column has beyond the shortest is no record:
 // here it would be a bad one.
 pub fn all_held(b: board::Board, chars: &[u8], language: u32, number: u32, row: u32) -> PhraseAnswer
     ensures { λ r. ⌜ r ≡ allHeld b (now (chars .entry)) row ⌝ }

@@ -1,3 +1,4 @@
+-- Rests on Index.own-number where the row is refused, and on Index.same-bad where it is not.
 use mathlib.Core.Path.{sym, ap, _∙_}
 use borrow.Author.Needs.{needs}
 use Rattle.refusal.specs.Number.{numberOf, besideOf}
