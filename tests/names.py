@@ -4,7 +4,10 @@ A cited name stands in backquotes: a definition or theorem, a function, a type, 
 Words like Fields or pageCheck behind a crate's name are spec files and definitions of that crate; one like pageCheck is a definition wherever it stands.
 
 Every public function and method is there too, and has a law that it has one answer: in the row of the table of calls or, where it is only listed, by its
-own name (draw_line: draw-line-one); or a paragraph that begins with its name says why not. One with a `requires` is listed as internal."""
+own name (draw_line: draw-line-one); or a paragraph that begins with its name says why not. One with a `requires` is listed as internal.
+
+A contract and its law are one text but for the names of parameters, and the contract speaks of the result and of each buffer that is lent to be written.
+A proof of more than 25 lines begins with a line that says what it rests on."""
 import re
 import sys
 from pathlib import Path
@@ -85,6 +88,36 @@ def law_of(name):  # draw_line: draw-line-one; Clocks::below: clocks-below-one
     return name.lower().replace('::', '-').replace('_', '-') + '-one'
 
 
+def plain(text, names):  # a fact with _ for each parameter, whatever of it is named
+    text = re.sub(r'\b(?:now|ptr) (\w+|\(\w+ \.\w+\))', r'\1', text)
+    text = re.sub(r'\b(?:lent|left)Font words flags unshifted shifted\b', 'words', text)
+    text = text.replace('lentRecords', 'recordsOf')
+    text = re.sub(r'(?<![\w.-])(?:' + '|'.join(map(re.escape, names)) + r')(?: \.(?:entry|exit|\d))*(?![\w-])', '_', text)
+    while text != (text := re.sub(r'\(_(?: \.\d)?\)', '_', text)):
+        pass
+    return ' '.join(text.split())
+
+
+def contract_text(contract):  # the fact that is ensured, and what it does not speak of
+    bound, fact = re.search(r'ensures \{ λ (\w+)\. ⌜ (.*) ⌝ \}', ' '.join(contract.split())).groups()
+    written = re.findall(r'(\w+): &mut ', contract)
+    if re.search(r'\bleftFont words flags unshifted shifted\b', fact):
+        written = [x for x in written if x not in ('words', 'flags', 'unshifted', 'shifted')]
+    silent = [x for x in written if f'now ({x} .exit)' not in fact]
+    if '->' in contract and not re.search(rf'\b{bound}\b', fact):
+        silent.append('its result')
+    return plain(fact, [bound, 'self'] + re.findall(r'(\w+): ', contract)), silent
+
+
+def law_text(name):  # the fact in OneAnswer, which stands in one law of that name
+    texts = [p.read_text() for p in Path('.').glob('crates/agreement/specs/One*.antt')]
+    found = [m for t in texts for m in re.findall(rf'^pub {re.escape(name)} : (.*?)OneAnswer \(λ (?:\(r : .*?\)|r)\. (.*?)\)\n\S', t, re.M | re.S)]
+    if len(found) != 1:
+        return None
+    binders, fact = found[0]
+    return plain(' '.join(fact.split()), ['r'] + [x for group in re.findall(r'[({]([^:(){}]*) :', binders) for x in group.split()])
+
+
 for path in sorted(Path('.').glob('crates/*/src/*.rt')):
     crate = path.parts[1]
     if crate.startswith('promises'):  # these functions are the promises themselves
@@ -92,18 +125,31 @@ for path in sorted(Path('.').glob('crates/*/src/*.rt')):
     for name, contract in public_in(path.read_text()):
         full = f'{crate}::{name}'
         row = rows.get(full) or rows.get(name)
+        law = law_of(name)
         if re.search(r'^ +requires', contract, re.M):
             if f'`{full}`' not in internal:
                 missing.append((0, f'{full} has a requires and is not listed as internal'))
-            elif law_of(name) not in laws:
-                missing.append((0, f'the law that {full} has one answer: {law_of(name)}'))
         elif row:
-            if not any(law in laws for law in re.findall('`([^`]+-one)`', lines[row - 1])):
-                missing.append((row, f'the law that {full} has one answer'))
+            law = next((x for x in re.findall('`([^`]+-one)`', lines[row - 1]) if x in laws), law)
         elif f'`{full}`' not in text:
             missing.append((0, f'{full} is public and not spoken of'))
-        elif law_of(name) not in laws and not any(p.startswith(f'`{full}`') for p in paragraphs):
-            missing.append((0, f'the law that {full} has one answer: {law_of(name)}'))
+        elif any(p.startswith(f'`{full}`') for p in paragraphs):
+            continue
+        if law not in laws:
+            missing.append((row or 0, f'the law that {full} has one answer: {law}'))
+            continue
+        fact, silent = contract_text(contract)
+        for what in silent:
+            missing.append((row or 0, f'what {full} says of {what}'))
+        if fact != law_text(law):
+            missing.append((row or 0, f'one text for {full} and {law}: "{fact}" and "{law_text(law)}"'))
+
+# ---- the proofs
+
+for path in sorted(Path('.').glob('crates/*/proofs/**/Proof.antt')):
+    proof = path.read_text()
+    if proof.count('\n') > 25 and not proof.startswith('-- '):
+        missing.append((0, f'a first line in {path} that says what it rests on'))
 
 for number, what in sorted(missing):
     print(f'names: {PAGE}:{number}: {what}' if number else f'names: {PAGE}: {what}')

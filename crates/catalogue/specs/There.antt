@@ -1,4 +1,5 @@
 -- 02, R-5, moving there: a sheet gets a row table, in the lowest stretch of consecutive cells that no row fetches.
+use mathlib.Core.Path.{_≡_}
 use Prim.Native.Nat.{ℕ, _+_, _-_, _*_, _/_, _%_}
 use mathlib.Core.Bool.{Bool, false, not}
 use mathlib.Core.List.{List, [], _∷_, _++_}
@@ -80,3 +81,7 @@ thereOf b chars =
 
 unfoldable pub thereLeft : Board → (chars : List ℕ) → List ℕ
 thereLeft b chars = pick (doneOf (thereCheck b chars)) (thereChars (b .page) chars (tablePlace (b .page) chars)) chars
+
+-- the call: its answer, and character memory afterwards
+abbrev pub MovesToTable : Board → (chars : List ℕ) → Moved → (left : List ℕ) → Type 0
+MovesToTable b chars r left = (r ≡ thereOf b chars) × (left ≡ thereLeft b chars)

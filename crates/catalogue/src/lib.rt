@@ -10,7 +10,7 @@ ghost use Rattle.lists.specs.Search.{firstBelow};
 ghost use Rattle.raster.specs.Moves.{Bounded};
 ghost use Rattle.timing.specs.Fields.{hactOf, bufferOf};
 ghost use Rattle.timing.specs.Laws.{Accepted};
-ghost use Rattle.catalogue.specs.There.{tableSize, therePage, ownCheck, thereOrder, withPage, thereOf, thereLeft};
+ghost use Rattle.catalogue.specs.There.{tableSize, therePage, ownCheck, thereOrder, withPage, MovesToTable};
 ghost use Rattle.catalogue.specs.Back.{rowsApart, backPage, backOrder, backCheck, backOf};
 ghost use Rattle.catalogue.specs.Marks.{markedBy, freeIn, sheetPlace, entryByte, sheetCheck};
 
@@ -171,7 +171,7 @@ fn write_table(chars: &mut [u8], p: board::Page, place: usize)
 
 // A sheet becomes a page with a row table, in the lowest stretch of cells that no row fetches.
 pub fn to_table(b: board::Board, chars: &mut [u8]) -> Moved
-    ensures { λ r. ⌜ (r ≡ thereOf b (now (chars .entry))) × (now (chars .exit) ≡ thereLeft b (now (chars .entry))) ⌝ }
+    ensures { λ r. ⌜ MovesToTable b (now (chars .entry)) r (now (chars .exit)) ⌝ }
 {
     let refused = there_check(b, chars.len());
     if refusal::is_done(refused) {

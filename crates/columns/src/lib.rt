@@ -1,6 +1,6 @@
-// An index of phrases as four columns of numbers (02, R-6), one for each field of a record: which record holds a row,
-// and which two records disagree. A record stands at each position that all four columns have, so that the shortest
-// column ends the list. The decisions are the crate `records`'.
+// An index of phrases as four columns of numbers (02, R-6), one for each field of a record.
+// A record stands at each position that all four columns have, so the shortest column ends the list. What is decided of
+// a record is the crate `records`'.
 ghost use mathlib.Core.Path.{_≡_};
 ghost use Prim.Native.Nat.{min, _<_};
 ghost use lib.ListN.{length, getD};

@@ -19,6 +19,10 @@ whole s d x l e = e ∙ rw (take-length s, l, drop-length d) (append-nil s)
 pub length-part : (xs : List ℕ) (a n : ℕ) → a + n ≤ length xs → length (take n (drop a xs)) ≡ n
 length-part xs a n l = length-take-le n (drop a xs) (rw (length-drop a xs) (omega arith))
 
+-- as much as dst holds, from a place on
+abbrev pub takenFrom : (at : ℕ) (src dst : List ℕ) → List ℕ
+takenFrom at src dst = take (length dst) (drop at src)
+
 -- all of part over what stands from a place on; the rest stays
 abbrev pub putAt : (at : ℕ) (part out : List ℕ) → List ℕ
 putAt at part out = take at out ++ (part ++ drop (at + length part) out)

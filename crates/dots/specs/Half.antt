@@ -22,6 +22,10 @@ use Rattle.video.specs.Twice.{length-column, column-at}
 unfoldable pub halfBy : (cell : List ℕ) → (from i : ℕ) → ℕ
 halfBy cell from i = getD cell ((from + i) / 2) 0
 
+-- d of them at the front of a buffer; what stands beyond stays
+abbrev pub halved : (cell : List ℕ) → (from d : ℕ) → (out : List ℕ) → List ℕ
+halved cell from d out = tab d (halfBy cell from) ++ drop d out
+
 -- a dot put twice, and once at an odd end
 module _ (cell out₀ out : List ℕ) (i : ℕ) (e : out ≡ tab (2 * i) (halfBy cell 0) ++ drop (2 * i) out₀) where
   pub first-put : 2 * i < length out₀ → set out (2 * i) (getD cell i 0) ≡ tab (2 * i + 1) (halfBy cell 0) ++ drop (2 * i + 1) out₀

@@ -1,5 +1,6 @@
 -- The cell as it is stored: every width is the low d bits of one number, and several dots are the bytes of another.
 -- `Width` and `Spread` tie this to the definition. Assumes nothing.
+use Rattle.lists.specs.Tab.{tab}
 use Prim.Native.Nat.{ℕ, zero, suc, max, _+_, _*_, _-_, _/_, _%_}
 use mathlib.Core.Bool.{Bool}
 use mathlib.Core.List.{List, [], _∷_, _++_}
@@ -51,3 +52,7 @@ inkOf i =
 -- how many dots are stored for a cell of d
 abbrev pub reachOf : (tight : Bool) → (d : ℕ) → ℕ
 reachOf tight d = pick tight d (max d 8)
+
+-- all of them
+abbrev pub inkTable : List ℕ
+inkTable = tab 288 inkOf

@@ -5,13 +5,13 @@ use mathlib.Core.List.{List, [], _∷_, _++_, map}
 use Prim.Native.Nat.{ℕ, zero, suc, _+_, _*_, _/_, _%_, _^_, _≤_, _<_, _-_}
 use native.Mathlib.Nat.{le-of-suc-le-suc, not-suc-le-zero, zero-add, suc-add, div-one, mul-comm, pow-suc, div-div-eq-div-mul}
 use native.Mathlib.Omega.{arith}
-use lib.ListN.{length, take, replicate, length-map}
+use lib.ListN.{length, take, replicate, length-map, drop}
 use borrow.Author.Tests.{lt-ltb, le-ltb, ltb-true, ltb-false}
 use lib.Dec.{ltb, eqb}
 use Rattle.lists.specs.Choice.{pick}
 use Rattle.video.specs.declared.Look.{Look}
 use Rattle.video.specs.Cell.{bits, lead, cellBits, litBits, shadeOf, cellDots}
-use Rattle.dots.specs.Stores.{wideOf, underOf}
+use Rattle.dots.specs.Stores.{wideOf, underOf, reachOf}
 
 pub take-bits : (d n w : ℕ) → d ≤ n → take d (bits n w) ≡ bits d w
 unfolding bits
@@ -115,3 +115,14 @@ add-shades y u zero n w = rw (zero-add, div-one)
 add-shades y u (suc e) n w =
     let k : w / 2 ^ suc e ≡ w / 2 / 2 ^ e = rw (pow-suc 2 e, mul-comm (2 ^ e) 2) (sym (div-div-eq-div-mul w 2 (2 ^ e))) in
     rw (k, suc-add e n) (ap (λ (l : List ℕ). shadeOf y u (w % 2) ∷ l) (add-shades y u e n (w / 2)))
+
+-- ---- a cell at the front of a buffer; what stands beyond stays
+
+abbrev pub cellPut : (levels word d : ℕ) → (tight : Bool) → (out : List ℕ) → List ℕ
+cellPut levels word d tight out = shades (levels % 4) (levels / 4) (reachOf tight d) word ++ drop (reachOf tight d) out
+
+abbrev pub cellWritten : (symbol surround word d : ℕ) → (out : List ℕ) → List ℕ
+cellWritten symbol surround word d out = shades symbol surround d (wideOf word d) ++ drop d out
+
+abbrev pub cellDrawn : Look → (word d : ℕ) → (out : List ℕ) → List ℕ
+cellDrawn look word d out = cellDots look word d ++ drop d out

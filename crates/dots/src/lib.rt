@@ -4,11 +4,10 @@ ghost use mathlib.Core.List.{_++_};
 ghost use Prim.Native.Nat.{_-_, _*_, _/_, _%_, _^_, _≤_, _<_};
 ghost use lib.Bits.{bitXor};
 ghost use lib.ListN.{length, take, drop};
-ghost use Rattle.video.specs.Cell.{cellDots};
-ghost use Rattle.dots.specs.Stores.{wideOf, underOf, spreadOf, blendOf, mixOf, bytesOf, overlapOf, inkOf, reachOf};
+ghost use Rattle.dots.specs.Stores.{wideOf, underOf, spreadOf, blendOf, mixOf, bytesOf, overlapOf, inkOf, reachOf, inkTable};
 ghost use Rattle.lists.specs.Tab.{tab};
-ghost use Rattle.dots.specs.Width.{shades};
-ghost use Rattle.dots.specs.Half.{halfBy};
+ghost use Rattle.dots.specs.Width.{shades, cellPut, cellWritten, cellDrawn};
+ghost use Rattle.dots.specs.Half.{halfBy, halved};
 
 // Four bits, each in a byte of its own: the product has each at the lowest place of a byte, which the mask keeps.
 fn nibble(w: u16) -> u64
@@ -113,7 +112,7 @@ fn ink(i: usize) -> u64
 // The table of them.
 pub fn inks(table: &mut [u64])
     requires { ⌜ length (now table) ≡ 288 ⌝ }
-    ensures { λ _. ⌜ now (table .exit) ≡ tab 288 inkOf ⌝ }
+    ensures { λ _. ⌜ now (table .exit) ≡ inkTable ⌝ }
 {
     let mut i: usize = 0;
     while i < 288 {
@@ -135,7 +134,7 @@ fn blend(inks: &[u64], levels: u8, word: u16) -> u64
 // is tight: the next cell is then drawn over what is too much.
 pub fn put_cell(out: &mut [u8], inks: &[u64], levels: u8, word: u16, d: usize, tight: bool)
     requires { ⌜ (now inks ≡ tab 288 inkOf) × (levels < 16) × (6 ≤ d) × (d ≤ 12) × (reachOf tight d ≤ length (now out)) ⌝ }
-    ensures { λ _. ⌜ now (out .exit) ≡ shades (levels % 4) (levels / 4) (reachOf tight d) word ++ drop (reachOf tight d) (now (out .entry)) ⌝ }
+    ensures { λ _. ⌜ now (out .exit) ≡ cellPut levels word d tight (now (out .entry)) ⌝ }
 {
     let first = blend(inks, levels, word);
     if 8 < d {
@@ -161,7 +160,7 @@ fn last_four(out: &mut [u8], symbol: u8, surround: u8, w: u16, d: usize)
 // A cell from its word. To spread the last eight dots too would cost more than it saves: four reach, and overlap.
 pub fn write_cell(out: &mut [u8], symbol: u8, surround: u8, word: u16, d: usize)
     requires { ⌜ (word < 1024) × (6 ≤ d) × (d ≤ 12) × (d ≤ length (now out)) ⌝ }
-    ensures { λ _. ⌜ now (out .exit) ≡ shades symbol surround d (wideOf word d) ++ drop d (now (out .entry)) ⌝ }
+    ensures { λ _. ⌜ now (out .exit) ≡ cellWritten symbol surround word d (now (out .entry)) ⌝ }
 {
     let w = wide(word, d);
     let first = mix(spread(w), symbol, surround);
@@ -185,7 +184,7 @@ pub fn under(look: video::Look) -> u8
 // The same of a cell's look, as wide as a page's cells are.
 pub fn draw_cell(out: &mut [u8], look: video::Look, word: u16, width: units::Dots)
     requires { ⌜ (word < 1024) × (6 ≤ width .0) × (width .0 ≤ 12) × (width .0 ≤ length (now out)) ⌝ }
-    ensures { λ _. ⌜ now (out .exit) ≡ cellDots look word (width .0) ++ drop (width .0) (now (out .entry)) ⌝ }
+    ensures { λ _. ⌜ now (out .exit) ≡ cellDrawn look word (width .0) (now (out .entry)) ⌝ }
 {
     write_cell(out, look.symbol, under(look), word, width.places());
 }
@@ -193,7 +192,7 @@ pub fn draw_cell(out: &mut [u8], look: video::Look, word: u16, width: units::Dot
 // The dots of a column of double width: its cell's, each twice, from a place on.
 pub fn halve(out: &mut [u8], cell: &[u8], from: usize, d: usize)
     requires { ⌜ (d ≤ length (now out)) × (d ≤ length (now cell)) × (from ≤ d) × (d ≤ 12) ⌝ }
-    ensures { λ _. ⌜ now (out .exit) ≡ tab d (halfBy (now (cell .entry)) from) ++ drop d (now (out .entry)) ⌝ }
+    ensures { λ _. ⌜ now (out .exit) ≡ halved (now (cell .entry)) from d (now (out .entry)) ⌝ }
 {
     let mut i = 0;
     while i < d {
@@ -219,7 +218,7 @@ fn pairs(out: &mut [u8], dots: &[u8], n: usize)
 // The first n of a row's dots, each twice: with an odd number of columns of an odd width the last comes once.
 pub fn double(out: &mut [u8], dots: &[u8], n: usize)
     requires { ⌜ (n ≤ length (now out)) × (n ≤ 2 * length (now dots)) × (n ≤ 4096) ⌝ }
-    ensures { λ _. ⌜ now (out .exit) ≡ tab n (halfBy (now (dots .entry)) 0) ++ drop n (now (out .entry)) ⌝ }
+    ensures { λ _. ⌜ now (out .exit) ≡ halved (now (dots .entry)) 0 n (now (out .entry)) ⌝ }
 {
     let half = n / 2;
     pairs(out, dots, half);

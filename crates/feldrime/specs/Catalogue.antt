@@ -1,18 +1,20 @@
 -- A page moved to a row table and back, from its numbers (02, R-5).
+use Rattle.feldrime.specs.Answers.{answerOf}
+use Rattle.feldrime.specs.declared.Answer.{Answer}
+use mathlib.Core.Path.{_≡_}
 use Prim.Native.Nat.{ℕ}
 use mathlib.Core.List.{List}
 use Rattle.lists.specs.Choice.{pick}
 use Rattle.refusal.specs.declared.Refusal.{Refusal}
 use Rattle.refusal.specs.declared.Refusal.the-variants.{Size}
-use Rattle.refusal.specs.Number.{doneOf}
 use Rattle.catalogue.specs.declared.Moved.{Moved}
 use Rattle.catalogue.specs.There.{thereOf, thereLeft}
 use Rattle.catalogue.specs.Back.{backOf}
-use Rattle.numbers.specs.Numbers.{numbersRefused, numbersBoard, pageIn}
+use Rattle.numbers.specs.Numbers.{numbersRefused, numbersBoard, pageOrOwn}
 
 -- the moved page in the place of the numbers' own; a refusal leaves them
 abbrev pub movedNumbers : Moved → List ℕ → List ℕ
-movedNumbers m numbers = pick (doneOf (m .refusal)) (pageIn (m .board .page) numbers) numbers
+movedNumbers m numbers = pageOrOwn (m .refusal) (m .board .page) numbers
 
 -- 3 for the numbers, then the move's own
 unfoldable pub toTableCheck : (numbers chars : List ℕ) → Refusal
@@ -31,3 +33,12 @@ toSheetNumbers numbers chars = pick (numbersRefused numbers) numbers (movedNumbe
 -- character memory afterwards
 unfoldable pub toTableChars : (numbers chars : List ℕ) → List ℕ
 toTableChars numbers chars = pick (numbersRefused numbers) chars (thereLeft (numbersBoard numbers) chars)
+
+-- ---- the calls: the answer, the numbers and character memory afterwards
+
+abbrev pub MovesToTableFor : (numbers chars : List ℕ) → Answer → (numbersLeft charsLeft : List ℕ) → Type 0
+MovesToTableFor numbers chars r numbersLeft charsLeft =
+    (r ≡ answerOf (toTableCheck numbers chars)) × (numbersLeft ≡ toTableNumbers numbers chars) × (charsLeft ≡ toTableChars numbers chars)
+
+abbrev pub MovesToSheetFor : (numbers chars : List ℕ) → Answer → (left : List ℕ) → Type 0
+MovesToSheetFor numbers chars r left = (r ≡ answerOf (toSheetCheck numbers chars)) × (left ≡ toSheetNumbers numbers chars)

@@ -1,6 +1,7 @@
 -- The calls for C.
 pub mod Answers
 pub mod Pages
+pub mod Boards
 pub mod LineDraw
 pub mod PictureDraw
 pub mod RowCells

@@ -1,4 +1,8 @@
 -- A whole line, drawn from a page's numbers.
+use Rattle.feldrime.specs.Answers.{answerOf}
+use Rattle.feldrime.specs.declared.Answer.{Answer}
+use lib.ListN.{length}
+use mathlib.Core.Path.{_≡_}
 use Prim.Native.Nat.{ℕ}
 use mathlib.Core.List.{List}
 use Rattle.lists.specs.Choice.{pick}
@@ -18,3 +22,8 @@ lineDrawCheck numbers chars attrs f line room =
 unfoldable pub lineDrawn : (numbers chars attrs : List ℕ) → Font → (line field : ℕ) → List ℕ → List ℕ
 lineDrawn numbers chars attrs f line field out =
     pick (numbersRefused numbers) out (drawnOf (numbersBoard numbers) chars attrs f line field out)
+
+-- the call: the answer, and the buffer afterwards
+abbrev pub DrawsLineFor : (numbers chars attrs : List ℕ) → Font → (line field : ℕ) → (out : List ℕ) → Answer → (left : List ℕ) → Type 0
+DrawsLineFor numbers chars attrs f line field out r left =
+    (r ≡ answerOf (lineDrawCheck numbers chars attrs f line (length out))) × (left ≡ lineDrawn numbers chars attrs f line field out)

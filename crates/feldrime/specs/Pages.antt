@@ -1,4 +1,12 @@
 -- The calls that take a page's numbers.
+use Rattle.feldrime.specs.declared.Answer.{Answer}
+use Rattle.numbers.specs.Files.{pageReadSize, numbersRead, pageWriteCheck, pageWritten}
+use Rattle.files.specs.FontFile.{fontCheck, fontRead}
+use Rattle.files.specs.File.{readCheck, charsRead, attrsRead}
+use Rattle.shape.specs.Font.{Font, fontRefused}
+use Rattle.board.specs.declared.Board.{Board}
+use lib.ListN.{length}
+use mathlib.Core.Path.{_≡_}
 use Prim.Native.Nat.{ℕ}
 use mathlib.Core.List.{List}
 use Rattle.lists.specs.Choice.{pick}
@@ -8,11 +16,11 @@ use Rattle.board.specs.State.{powerOf}
 use Rattle.timing.specs.Check.{sizeOf}
 use Rattle.fetch.specs.Run.{spanOf}
 use Rattle.files.specs.Page.{pageAt}
-use Rattle.numbers.specs.Numbers.{numbersRefused, numbersCheck, numbersBoard}
+use Rattle.numbers.specs.Numbers.{numbersRefused, numbersCheck, numbersBoard, numbersOfCheck, numbersOf}
 use Rattle.feldrime.specs.declared.SizeAnswer.{SizeAnswer}
 use Rattle.feldrime.specs.declared.RunAnswer.{RunAnswer}
 use Rattle.feldrime.specs.declared.BoardAnswer.{BoardAnswer}
-use Rattle.feldrime.specs.Answers.{sizeAnswer, runAnswer, boardAnswer}
+use Rattle.feldrime.specs.Answers.{sizeAnswer, runAnswer, boardAnswer, answerOf}
 
 unfoldable pub sizeFor : List ℕ → SizeAnswer
 sizeFor numbers =
@@ -28,3 +36,22 @@ runFor numbers chars row =
 -- a refusal gives the board that power gives
 unfoldable pub boardFor : List ℕ → BoardAnswer
 boardFor numbers = boardAnswer (numbersCheck numbers) (pick (doneOf (numbersCheck numbers)) (numbersBoard numbers) powerOf)
+
+-- ---- files, and a board's numbers: the answer, and the lent buffers afterwards
+
+abbrev pub ReadsPageFor : (file numbers chars attrs : List ℕ) → Answer → (numbersLeft charsLeft attrsLeft : List ℕ) → Type 0
+ReadsPageFor file numbers chars attrs r numbersLeft charsLeft attrsLeft =
+    (r ≡ answerOf (readCheck file (pageReadSize (length numbers) (length chars) (length attrs))))
+    × (numbersLeft ≡ numbersRead file (pageReadSize (length numbers) (length chars) (length attrs)) numbers)
+    × (charsLeft ≡ charsRead file (pageReadSize (length numbers) (length chars) (length attrs)) chars)
+    × (attrsLeft ≡ attrsRead file (pageReadSize (length numbers) (length chars) (length attrs)) attrs)
+
+abbrev pub WritesPageFor : (numbers chars attrs out : List ℕ) → Answer → (left : List ℕ) → Type 0
+WritesPageFor numbers chars attrs out r left =
+    (r ≡ answerOf (pageWriteCheck numbers (length chars) (length attrs) (length out))) × (left ≡ pageWritten numbers chars attrs out)
+
+abbrev pub ReadsFontFor : (file : List ℕ) → Font → Answer → (left : Font) → Type 0
+ReadsFontFor file f r left = (r ≡ answerOf (fontCheck file (fontRefused f))) × (left ≡ fontRead file f)
+
+abbrev pub GivesNumbersFor : Board → (numbers : List ℕ) → Answer → (left : List ℕ) → Type 0
+GivesNumbersFor b numbers r left = (r ≡ answerOf (numbersOfCheck b (length numbers))) × (left ≡ numbersOf b numbers)

@@ -1,4 +1,6 @@
 -- All cells of a row, from a page's numbers.
+use lib.ListN.{length}
+use mathlib.Core.Path.{_≡_}
 use Prim.Native.Nat.{ℕ}
 use mathlib.Core.List.{List}
 use Rattle.lists.specs.Choice.{pick}
@@ -17,3 +19,8 @@ cellsFor numbers chars row room =
 -- the buffer afterwards, which stays where the numbers are refused
 unfoldable pub cellsPutFor : (numbers chars : List ℕ) → ℕ → List ℕ → List ℕ
 cellsPutFor numbers chars row cells = pick (numbersRefused numbers) cells (cellsPut (numbersBoard numbers) chars row cells)
+
+-- the call: the answer, and the buffer afterwards
+abbrev pub GivesCellsFor : (numbers chars : List ℕ) → (row : ℕ) → (cells : List ℕ) → CellsAnswer → (left : List ℕ) → Type 0
+GivesCellsFor numbers chars row cells r left =
+    (r ≡ cellsFor numbers chars row (length cells)) × (left ≡ cellsPutFor numbers chars row cells)

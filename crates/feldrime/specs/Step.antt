@@ -1,4 +1,5 @@
 -- The step for C: its answer in numbers.
+use mathlib.Core.Path.{_≡_}
 use Prim.Native.Nat.{ℕ}
 use mathlib.Core.List.{List}
 use Rattle.lists.specs.Choice.{pick}
@@ -29,3 +30,9 @@ stepNumbers b chars attrs words flags unshifted shifted = record {
   answer = numbered (stepOf b chars attrs (fontOf words flags unshifted shifted));
   board = stepOf b chars attrs (fontOf words flags unshifted shifted) .board;
 }
+
+-- the call that alters the board where it stands: the answer, and the board afterwards
+abbrev pub StepsFor : Board → (chars attrs words flags unshifted shifted : List ℕ) → StepAnswer → (left : Board) → Type 0
+StepsFor b chars attrs words flags unshifted shifted r left =
+    (r ≡ stepNumbers b chars attrs words flags unshifted shifted .answer)
+    × (left ≡ stepNumbers b chars attrs words flags unshifted shifted .board)

@@ -1,29 +1,19 @@
 // What C calls. Only numbers and slices cross; every call checks what it is given, so none has a condition to meet.
 ghost use mathlib.Core.Path.{_≡_};
-ghost use lib.ListN.{length};
 ghost use Rattle.lists.specs.Choice.{pick};
-ghost use lib.Dec.{eqb};
-ghost use mathlib.Core.Bool.{not};
-ghost use Rattle.units.specs.Units.{dots};
 ghost use Rattle.board.specs.State.{powerOf};
-ghost use Rattle.registers.specs.Write.{writeOf};
-ghost use Rattle.registers.specs.Read.{readOf};
-ghost use Rattle.registers.specs.Video.{setVideoOf};
-ghost use Rattle.shape.specs.Font.{lentFont, leftFont, fontRefused};
-ghost use Rattle.place.specs.State.{stateOf};
-ghost use Rattle.files.specs.File.{readCheck, charsRead, attrsRead};
-ghost use Rattle.files.specs.FontFile.{fontCheck, fontRead};
+ghost use Rattle.shape.specs.Font.{lentFont, leftFont};
 ghost use Rattle.records.specs.Records.{phrasesDiffer};
-ghost use Rattle.numbers.specs.Numbers.{numbersCheck, numbersOfCheck, numbersOf};
-ghost use Rattle.numbers.specs.Files.{pageReadSize, numbersRead, pageWriteCheck, pageWritten};
-ghost use Rattle.feldrime.specs.Answers.{answerOf, boardAnswer, byteAnswer};
-ghost use Rattle.feldrime.specs.Pages.{sizeFor, runFor, boardFor};
-ghost use Rattle.feldrime.specs.LineDraw.{lineDrawCheck, lineDrawn};
-ghost use Rattle.feldrime.specs.PictureDraw.{pictureDrawCheck, pictureDrawn};
-ghost use Rattle.feldrime.specs.RowCells.{cellsFor, cellsPutFor};
-ghost use Rattle.feldrime.specs.Catalogue.{toTableCheck, toTableNumbers, toTableChars, toSheetCheck, toSheetNumbers};
+ghost use Rattle.numbers.specs.Numbers.{numbersCheck};
+ghost use Rattle.feldrime.specs.Answers.{answerOf, boardAnswer};
+ghost use Rattle.feldrime.specs.Pages.{sizeFor, runFor, boardFor, ReadsPageFor, WritesPageFor, ReadsFontFor, GivesNumbersFor};
+ghost use Rattle.feldrime.specs.LineDraw.{DrawsLineFor};
+ghost use Rattle.feldrime.specs.PictureDraw.{DrawsPictureFor};
+ghost use Rattle.feldrime.specs.RowCells.{GivesCellsFor};
+ghost use Rattle.feldrime.specs.Catalogue.{MovesToTableFor, MovesToSheetFor};
 ghost use Rattle.feldrime.specs.Phrases.{phraseFor, askedFor};
-ghost use Rattle.feldrime.specs.Step.{numbered, stepNumbers};
+ghost use Rattle.feldrime.specs.Step.{numbered, stepNumbers, StepsFor};
+ghost use Rattle.feldrime.specs.Boards.{setVideoFor, writeFor, readFor, stateFor};
 
 // The refusal's number, and the number beside it.
 #[repr(C)]
@@ -87,11 +77,8 @@ pub extern "C" fn feldrime_page_read(
     chars: &mut [u8],
     attrs: &mut [u8],
 ) -> Answer
-    ensures { λ r. let size = pageReadSize (length (now (numbers .entry))) (length (now (chars .entry))) (length (now (attrs .entry))) in
-        ⌜ (r ≡ answerOf (readCheck (now (file .entry)) size))
-        × (now (numbers .exit) ≡ numbersRead (now (file .entry)) size (now (numbers .entry)))
-        × (now (chars .exit) ≡ charsRead (now (file .entry)) size (now (chars .entry)))
-        × (now (attrs .exit) ≡ attrsRead (now (file .entry)) size (now (attrs .entry))) ⌝ }
+    ensures { λ r. ⌜ ReadsPageFor (now (file .entry)) (now (numbers .entry)) (now (chars .entry)) (now (attrs .entry))
+        r (now (numbers .exit)) (now (chars .exit)) (now (attrs .exit)) ⌝ }
 {
     let refused = numbers::read_file(file, numbers, chars, attrs);
     answered(refused)
@@ -105,9 +92,7 @@ pub extern "C" fn feldrime_page_write(
     attrs: &[u8],
     out: &mut [u8],
 ) -> Answer
-    ensures { λ r.
-        ⌜ (r ≡ answerOf (pageWriteCheck (now (numbers .entry)) (length (now (chars .entry))) (length (now (attrs .entry))) (length (now (out .entry)))))
-        × (now (out .exit) ≡ pageWritten (now (numbers .entry)) (now (chars .entry)) (now (attrs .entry)) (now (out .entry))) ⌝ }
+    ensures { λ r. ⌜ WritesPageFor (now (numbers .entry)) (now (chars .entry)) (now (attrs .entry)) (now (out .entry)) r (now (out .exit)) ⌝ }
 {
     let refused = numbers::write_file(numbers, chars, attrs, out);
     answered(refused)
@@ -122,9 +107,7 @@ pub extern "C" fn feldrime_font_read(
     unshifted: &mut [u8],
     shifted: &mut [u8],
 ) -> Answer
-    ensures { λ r. let f = lentFont words flags unshifted shifted in
-        ⌜ (r ≡ answerOf (fontCheck (now (file .entry)) (fontRefused f)))
-        × (leftFont words flags unshifted shifted ≡ fontRead (now (file .entry)) f) ⌝ }
+    ensures { λ r. ⌜ ReadsFontFor (now (file .entry)) (lentFont words flags unshifted shifted) r (leftFont words flags unshifted shifted) ⌝ }
 {
     let refused = files::read_font(file, words, flags, unshifted, shifted);
     answered(refused)
@@ -144,9 +127,8 @@ pub extern "C" fn feldrime_line_draw(
     field: u8,
     out: &mut [u8],
 ) -> Answer
-    ensures { λ r. let f = lentFont words flags unshifted shifted in
-        ⌜ (r ≡ answerOf (lineDrawCheck (now (numbers .entry)) (now (chars .entry)) (now (attrs .entry)) f line (length (now (out .entry)))))
-        × (now (out .exit) ≡ lineDrawn (now (numbers .entry)) (now (chars .entry)) (now (attrs .entry)) f line field (now (out .entry))) ⌝ }
+    ensures { λ r. ⌜ DrawsLineFor (now (numbers .entry)) (now (chars .entry)) (now (attrs .entry)) (lentFont words flags unshifted shifted)
+        line field (now (out .entry)) r (now (out .exit)) ⌝ }
 {
     if numbers::numbers_refused(numbers) {
         return answered(refusal::Refusal::Size);
@@ -180,9 +162,8 @@ pub extern "C" fn feldrime_picture_draw(
     field: u8,
     out: &mut [u8],
 ) -> Answer
-    ensures { λ r. let f = lentFont words flags unshifted shifted in
-        ⌜ (r ≡ answerOf (pictureDrawCheck (now (numbers .entry)) (now (chars .entry)) (now (attrs .entry)) f (length (now (out .entry)))))
-        × (now (out .exit) ≡ pictureDrawn (now (numbers .entry)) (now (chars .entry)) (now (attrs .entry)) f field (now (out .entry))) ⌝ }
+    ensures { λ r. ⌜ DrawsPictureFor (now (numbers .entry)) (now (chars .entry)) (now (attrs .entry)) (lentFont words flags unshifted shifted)
+        field (now (out .entry)) r (now (out .exit)) ⌝ }
 {
     if numbers::numbers_refused(numbers) {
         return answered(refusal::Refusal::Size);
@@ -249,8 +230,7 @@ pub extern "C" fn feldrime_row_cells(
     row: u32,
     cells: &mut [u16],
 ) -> CellsAnswer
-    ensures { λ r. ⌜ (r ≡ cellsFor (now (numbers .entry)) (now (chars .entry)) row (length (now (cells .entry))))
-        × (now (cells .exit) ≡ cellsPutFor (now (numbers .entry)) (now (chars .entry)) row (now (cells .entry))) ⌝ }
+    ensures { λ r. ⌜ GivesCellsFor (now (numbers .entry)) (now (chars .entry)) row (now (cells .entry)) r (now (cells .exit)) ⌝ }
 {
     if numbers::numbers_refused(numbers) {
         return CellsAnswer {
@@ -271,9 +251,7 @@ pub extern "C" fn feldrime_row_cells(
 // A sheet becomes a page with a row table: its numbers and character memory are altered where they stand.
 #[no_mangle]
 pub extern "C" fn feldrime_to_table(numbers: &mut [u8], chars: &mut [u8]) -> Answer
-    ensures { λ r. ⌜ (r ≡ answerOf (toTableCheck (now (numbers .entry)) (now (chars .entry))))
-        × (now (numbers .exit) ≡ toTableNumbers (now (numbers .entry)) (now (chars .entry)))
-        × (now (chars .exit) ≡ toTableChars (now (numbers .entry)) (now (chars .entry))) ⌝ }
+    ensures { λ r. ⌜ MovesToTableFor (now (numbers .entry)) (now (chars .entry)) r (now (numbers .exit)) (now (chars .exit)) ⌝ }
 {
     if numbers::numbers_refused(numbers) {
         return answered(refusal::Refusal::Size);
@@ -288,8 +266,7 @@ pub extern "C" fn feldrime_to_table(numbers: &mut [u8], chars: &mut [u8]) -> Ans
 // A page whose rows follow one another becomes a sheet: its numbers are altered where they stand.
 #[no_mangle]
 pub extern "C" fn feldrime_to_sheet(numbers: &mut [u8], chars: &[u8]) -> Answer
-    ensures { λ r. ⌜ (r ≡ answerOf (toSheetCheck (now (numbers .entry)) (now (chars .entry))))
-        × (now (numbers .exit) ≡ toSheetNumbers (now (numbers .entry)) (now (chars .entry))) ⌝ }
+    ensures { λ r. ⌜ MovesToSheetFor (now (numbers .entry)) (now (chars .entry)) r (now (numbers .exit)) ⌝ }
 {
     if numbers::numbers_refused(numbers) {
         return answered(refusal::Refusal::Size);
@@ -378,8 +355,7 @@ pub extern "C" fn feldrime_board_of(numbers: &[u8]) -> BoardAnswer
 // A board's page as numbers, the way back.
 #[no_mangle]
 pub extern "C" fn feldrime_numbers_of(b: board::Board, numbers: &mut [u8]) -> Answer
-    ensures { λ r. ⌜ (r ≡ answerOf (numbersOfCheck b (length (now (numbers .entry)))))
-        × (now (numbers .exit) ≡ numbersOf b (now (numbers .entry))) ⌝ }
+    ensures { λ r. ⌜ GivesNumbersFor b (now (numbers .entry)) r (now (numbers .exit)) ⌝ }
 {
     let refused = numbers::numbers_of(b, numbers);
     answered(refused)
@@ -393,8 +369,7 @@ pub extern "C" fn feldrime_set_video(
     bkgnd: u8,
     rblank: u8,
 ) -> BoardAnswer
-    ensures { λ r. let s = setVideoOf b (dots width) strike (not (eqb bkgnd 0)) (not (eqb rblank 0)) in
-        ⌜ r ≡ boardAnswer (s .refusal) (s .board) ⌝ }
+    ensures { λ r. ⌜ r ≡ setVideoFor b width strike bkgnd rblank ⌝ }
 {
     let s = registers::set_video(
         b,
@@ -410,7 +385,7 @@ pub extern "C" fn feldrime_set_video(
 
 #[no_mangle]
 pub extern "C" fn feldrime_write(b: board::Board, address: u8, byte: u8) -> BoardAnswer
-    ensures { λ r. let w = writeOf b address byte in ⌜ r ≡ boardAnswer (w .refusal) (w .board) ⌝ }
+    ensures { λ r. ⌜ r ≡ writeFor b address byte ⌝ }
 {
     let w = registers::write(b, address, byte);
     let refused = w.refusal;
@@ -427,7 +402,7 @@ pub struct ByteAnswer {
 
 #[no_mangle]
 pub extern "C" fn feldrime_read(b: board::Board, address: u8) -> ByteAnswer
-    ensures { λ r. let read = readOf b address in ⌜ r ≡ byteAnswer (read .refusal) (read .byte) ⌝ }
+    ensures { λ r. ⌜ r ≡ readFor b address ⌝ }
 {
     let read = registers::read(b, address);
     let refused = read.refusal;
@@ -446,7 +421,7 @@ pub extern "C" fn feldrime_state_at(
     attrs: &[u8],
     n: u32,
 ) -> BoardAnswer
-    ensures { λ r. let s = stateOf b (now (chars .entry)) (now (attrs .entry)) n in ⌜ r ≡ boardAnswer (s .refusal) (s .board) ⌝ }
+    ensures { λ r. ⌜ r ≡ stateFor b (now (chars .entry)) (now (attrs .entry)) n ⌝ }
 {
     let s = place::state_at(b, chars, attrs, units::Clocks(n));
     let refused = s.refusal;
@@ -530,9 +505,9 @@ pub extern "C" fn feldrime_step(
     unshifted: &[u8],
     shifted: &[u8],
 ) -> StepAnswer
-    ensures { λ r. let s = stepNumbers (now (b .entry)) (now (chars .entry)) (now (attrs .entry))
-        (now (words .entry)) (now (flags .entry)) (now (unshifted .entry)) (now (shifted .entry)) in
-        ⌜ (r ≡ s .answer) × (now (b .exit) ≡ s .board) ⌝ }
+    ensures { λ r. ⌜ StepsFor (now (b .entry)) (now (chars .entry)) (now (attrs .entry))
+        (now (words .entry)) (now (flags .entry)) (now (unshifted .entry)) (now (shifted .entry))
+        r (now (b .exit)) ⌝ }
 {
     let s = step_numbers(*b, chars, attrs, words, flags, unshifted, shifted);
     *b = s.board;

@@ -1,4 +1,5 @@
 -- All cells that a row fetches, one after the other, as they are given to a caller.
+use mathlib.Core.Path.{_≡_}
 use Prim.Native.Nat.{ℕ}
 use mathlib.Core.Bool.{_||_}
 use mathlib.Core.List.{List, _++_}
@@ -37,3 +38,7 @@ cellsPut b chars row cells =
     pick (doneOf (cellsCheck b (length chars) row (length cells)))
     (cellsOf (b .page) chars row ++ drop (fetchedOf (b .page) chars row) cells)
     cells
+
+-- the call: the count, and the buffer afterwards
+abbrev pub GivesCells : Board → (chars : List ℕ) → (row : ℕ) → (cells : List ℕ) → RowCells → (left : List ℕ) → Type 0
+GivesCells b chars row cells r left = (r ≡ cellsGiven b chars row (length cells)) × (left ≡ cellsPut b chars row cells)

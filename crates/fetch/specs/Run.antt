@@ -9,7 +9,7 @@ use lib.Dec.{leb, ltb}
 use lib.ListN.{length, take, drop}
 use Rattle.lists.specs.Choice.{pick, both}
 use Rattle.refusal.specs.declared.Refusal.{Refusal}
-use Rattle.refusal.specs.Number.{doneOf}
+use Rattle.refusal.specs.Number.{doneOf, numberOf}
 use Rattle.raster.specs.declared.Buffer.{Buffer}
 use Rattle.raster.specs.Moves.{toLast, advanceBy, by-near}
 use Rattle.board.specs.declared.Page.{Page}
@@ -63,3 +63,18 @@ spanOf b chars row =
 -- the part; a refusal shows an empty part
 unfoldable pub runOf : Board → List ℕ → ℕ → List ℕ
 runOf b chars row = take (spanOf b chars row .count) (drop (spanOf b chars row .start) chars)
+
+-- ---- the calls
+
+-- its span lies in a memory, and in the one that was lent
+abbrev pub GivesSpan : Board → (chars : List ℕ) → (row : ℕ) → Span → Type 0
+GivesSpan b chars row r = (r ≡ spanOf b chars row) × (r .start + r .count ≤ 16384) × (r .start + r .count ≤ length chars)
+
+-- of a memory that was lent at an offset of a block: the part's cells, its block and offset, and the refusal's number
+abbrev pub GivesRun : {Block : Type 0} → Board → (chars : List ℕ) → (row : ℕ) → (lent : Block) → (from : ℕ)
+    → (cells : List ℕ) → (block : Block) → (offset number : ℕ) → Type 0
+GivesRun b chars row lent from cells block offset number =
+    (cells ≡ runOf b chars row)
+    × (block ≡ lent)
+    × (offset ≡ from + spanOf b chars row .start)
+    × (number ≡ numberOf (runCheck b (length chars) row))

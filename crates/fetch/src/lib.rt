@@ -1,4 +1,4 @@
-// Which cell is fetched: the row table, a row's start, the cell at a column, a row's first run, and all of a row's cells.
+// Which cell is fetched: row table, row start, the cell at a column, a row's run and its cells.
 ghost use mathlib.Core.Path.{_≡_};
 ghost use mathlib.Core.List.{_++_};
 ghost use Prim.Native.Nat.{min, _<_, _≤_, _+_};
@@ -6,10 +6,9 @@ ghost use denote.Ref.{ptr};
 ghost use lib.ListN.{length, drop};
 ghost use Rattle.lists.specs.Tab.{tab};
 ghost use Rattle.raster.specs.Moves.{cell, Bounded};
-ghost use Rattle.refusal.specs.Number.{numberOf};
 ghost use Rattle.fetch.specs.Rows.{byteAt, entryOf, codeAt, rowStart, cellAt, fetchedOf, movedOf, begunOf};
-ghost use Rattle.fetch.specs.Run.{rowCheck, runCheck, runCount, oneRun, spanOf, runOf};
-ghost use Rattle.fetch.specs.RowCells.{cellsCheck, cellsGiven, cellsPut};
+ghost use Rattle.fetch.specs.Run.{rowCheck, runCheck, runCount, oneRun, GivesSpan, GivesRun};
+ghost use Rattle.fetch.specs.RowCells.{cellsCheck, GivesCells};
 ghost use Rattle.fetch.specs.RowLaws.{columnBy};
 
 // A row's first run: from a cell on, so many.
@@ -182,9 +181,7 @@ fn run_check(b: board::Board, n: usize, row: u32) -> refusal::Refusal
 }
 
 pub fn span_of(b: board::Board, chars: &[u8], row: u32) -> Span
-    ensures { λ r. ⌜ (r ≡ spanOf b (now (chars .entry)) row)
-        × (r .start + r .count ≤ 16384)
-        × (r .start + r .count ≤ length (now (chars .entry))) ⌝ }
+    ensures { λ r. ⌜ GivesSpan b (now (chars .entry)) row r ⌝ }
 {
     let page = b.page;
     let refused = run_check(b, chars.len(), row);
@@ -207,10 +204,8 @@ pub fn span_of(b: board::Board, chars: &[u8], row: u32) -> Span
 // A row's first run of cells, as that part of the caller's character memory: its cells, and where it stands.
 // It is empty on a refusal, whose number is set beside it.
 pub fn row_run<'a>(b: board::Board, chars: &'a [u8], row: u32, refusal: &mut u32) -> &'a [u8]
-    ensures { λ r. ⌜ (now r ≡ runOf b (now (chars .entry)) row)
-        × (ptr r .0 ≡ ptr (chars .entry) .0)
-        × (ptr r .1 ≡ ptr (chars .entry) .1 + spanOf b (now (chars .entry)) row .start)
-        × (now (refusal .exit) ≡ numberOf (runCheck b (length (now (chars .entry))) row)) ⌝ }
+    ensures { λ r. ⌜ GivesRun b (now (chars .entry)) row (ptr (chars .entry) .0) (ptr (chars .entry) .1)
+        (now r) (ptr r .0) (ptr r .1) (now (refusal .exit)) ⌝ }
 {
     let s = span_of(b, chars, row);
     let refused = s.refusal;
@@ -242,8 +237,7 @@ fn put_cells(cells: &mut [u16], buffer: raster::Buffer, start: raster::Cell, n: 
 
 // The addresses of all cells that a row fetches, one after the other, at the front of cells.
 pub fn row_cells(b: board::Board, chars: &[u8], row: u32, cells: &mut [u16]) -> RowCells
-    ensures { λ r. ⌜ (r ≡ cellsGiven b (now (chars .entry)) row (length (now (cells .entry))))
-        × (now (cells .exit) ≡ cellsPut b (now (chars .entry)) row (now (cells .entry))) ⌝ }
+    ensures { λ r. ⌜ GivesCells b (now (chars .entry)) row (now (cells .entry)) r (now (cells .exit)) ⌝ }
 {
     let page = b.page;
     let irs = page.irs;

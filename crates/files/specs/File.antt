@@ -1,4 +1,5 @@
 -- 01, "Files": the page file. A file is exactly its size.
+use mathlib.Core.Path.{_≡_}
 use Prim.Native.Nat.{ℕ, _+_, _*_}
 use mathlib.Core.Bool.{Bool, false, _||_, not}
 use mathlib.Core.List.{List, [], _∷_, _++_}
@@ -73,3 +74,15 @@ writeCheck b chars attrs out = callCheck b (memoriesRefused chars attrs || ltb o
 unfoldable pub written : Board → (chars attrs out : List ℕ) → List ℕ
 written b chars attrs out =
     pick (doneOf (writeCheck b (length chars) (length attrs) (length out))) (fileOf (b .page) chars attrs ++ drop 32797 out) out
+
+-- ---- the calls: what is answered, and the lent buffers afterwards
+
+abbrev pub ReadsPage : (file chars attrs : List ℕ) → PageRead → (charsLeft attrsLeft : List ℕ) → Type 0
+ReadsPage file chars attrs r charsLeft attrsLeft =
+    (r ≡ readPageOf file (memoriesRefused (length chars) (length attrs)))
+    × (charsLeft ≡ charsRead file (memoriesRefused (length chars) (length attrs)) chars)
+    × (attrsLeft ≡ attrsRead file (memoriesRefused (length chars) (length attrs)) attrs)
+
+abbrev pub WritesPage : Board → (chars attrs out : List ℕ) → Refusal → (left : List ℕ) → Type 0
+WritesPage b chars attrs out r left =
+    (r ≡ writeCheck b (length chars) (length attrs) (length out)) × (left ≡ written b chars attrs out)

@@ -1,4 +1,5 @@
 -- 01, "Files": the font file.
+use mathlib.Core.Path.{_≡_}
 use Prim.Native.Nat.{ℕ, _*_, _/_, _%_}
 use mathlib.Core.Bool.{Bool, _||_}
 use mathlib.Core.List.{List, [], _∷_, _++_}
@@ -57,3 +58,11 @@ fontWriteCheck f out = pick (fontWriteRefused f out) Size Done
 -- the buffer afterwards: the file, and what stood beyond it; on a refusal as it was
 unfoldable pub fontWritten : Font → List ℕ → List ℕ
 fontWritten f out = pick (fontWriteRefused f (length out)) out (fontFileOf f ++ drop 2455 out)
+
+-- ---- the calls: the refusal, and what was lent afterwards
+
+abbrev pub ReadsFont : (file : List ℕ) → Font → Refusal → (left : Font) → Type 0
+ReadsFont file f r left = (r ≡ fontCheck file (fontRefused f)) × (left ≡ fontRead file f)
+
+abbrev pub WritesFont : Font → (out : List ℕ) → Refusal → (left : List ℕ) → Type 0
+WritesFont f out r left = (r ≡ fontWriteCheck f (length out)) × (left ≡ fontWritten f out)

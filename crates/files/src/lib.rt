@@ -4,13 +4,12 @@ ghost use Prim.Native.Nat.{_+_, _*_, _/_, _%_, _≤_};
 ghost use mathlib.Core.List.{_++_};
 ghost use lib.ListN.{length, take, drop};
 ghost use Rattle.files.specs.Page.{wordAt, startsAt, videoOf, pageAt, boardAt, tailOf, pageBytes};
-ghost use Rattle.files.specs.File.{longAt, versionRefused, lengthRefused, fileCheck, readCheck, readPageOf, charsRead, attrsRead, fileOf, writeCheck, written};
-ghost use Rattle.files.specs.FontFile.{wordsOf, byteOf, bytesIn, fontCheck, fontRead, fontFileOf, fontWriteCheck, fontWritten};
+ghost use Rattle.files.specs.File.{longAt, versionRefused, lengthRefused, fileCheck, readCheck, fileOf, writeCheck, ReadsPage, WritesPage};
+ghost use Rattle.files.specs.FontFile.{wordsOf, byteOf, bytesIn, fontFileOf, ReadsFont, WritesFont};
 ghost use Rattle.copies.specs.Put.{putAt};
-ghost use Rattle.board.specs.Range.{memoriesRefused};
 ghost use Rattle.lists.specs.Tab.{tab};
 ghost use Rattle.refusal.specs.declared.Refusal.{Refusal};
-ghost use Rattle.shape.specs.Font.{fontNow, lentFont, leftFont, fontRefused, Whole};
+ghost use Rattle.shape.specs.Font.{fontNow, lentFont, leftFont, Whole};
 
 pub struct PageRead {
     pub refusal: refusal::Refusal,
@@ -148,10 +147,7 @@ pub fn read_check(file: &[u8], size: bool) -> refusal::Refusal
 
 // Reads a page file into the two memories. A refusal leaves both as they were.
 pub fn read_page(file: &[u8], chars: &mut [u8], attrs: &mut [u8]) -> PageRead
-    ensures { λ r. let size = memoriesRefused (length (now (chars .entry))) (length (now (attrs .entry))) in
-        ⌜ (r ≡ readPageOf (now (file .entry)) size)
-        × (now (chars .exit) ≡ charsRead (now (file .entry)) size (now (chars .entry)))
-        × (now (attrs .exit) ≡ attrsRead (now (file .entry)) size (now (attrs .entry))) ⌝ }
+    ensures { λ r. ⌜ ReadsPage (now (file .entry)) (now (chars .entry)) (now (attrs .entry)) r (now (chars .exit)) (now (attrs .exit)) ⌝ }
 {
     let size = board::memories_refused(chars.len(), attrs.len());
     let answer = read_check(file, size);
@@ -242,8 +238,7 @@ fn write_check(b: board::Board, chars: usize, attrs: usize, out: usize) -> refus
 
 // Writes a board's page and its memories as a page file. A refusal leaves out as it was.
 pub fn write_page(b: board::Board, chars: &[u8], attrs: &[u8], out: &mut [u8]) -> refusal::Refusal
-    ensures { λ r. ⌜ (r ≡ writeCheck b (length (now (chars .entry))) (length (now (attrs .entry))) (length (now (out .entry))))
-        × (now (out .exit) ≡ written b (now (chars .entry)) (now (attrs .entry)) (now (out .entry))) ⌝ }
+    ensures { λ r. ⌜ WritesPage b (now (chars .entry)) (now (attrs .entry)) (now (out .entry)) r (now (out .exit)) ⌝ }
 {
     let refused = write_check(b, chars.len(), attrs.len(), out.len());
     if refusal::is_done(refused) {
@@ -292,9 +287,7 @@ pub fn read_font(
     unshifted: &mut [u8],
     shifted: &mut [u8],
 ) -> refusal::Refusal
-    ensures { λ r. let f = lentFont words flags unshifted shifted in
-        ⌜ (r ≡ fontCheck (now (file .entry)) (fontRefused f))
-        × (leftFont words flags unshifted shifted ≡ fontRead (now (file .entry)) f) ⌝ }
+    ensures { λ r. ⌜ ReadsFont (now (file .entry)) (lentFont words flags unshifted shifted) r (leftFont words flags unshifted shifted) ⌝ }
 {
     let size = shape::font_refused(words, flags, unshifted, shifted);
     let refused = file_check(file, 1, 2450, size);
@@ -337,8 +330,7 @@ pub fn write_font(
     shifted: &[u8],
     out: &mut [u8],
 ) -> refusal::Refusal
-    ensures { λ r. let f = lentFont words flags unshifted shifted in
-        ⌜ (r ≡ fontWriteCheck f (length (now (out .entry)))) × (now (out .exit) ≡ fontWritten f (now (out .entry))) ⌝ }
+    ensures { λ r. ⌜ WritesFont (lentFont words flags unshifted shifted) (now (out .entry)) r (now (out .exit)) ⌝ }
 {
     if shape::font_refused(words, flags, unshifted, shifted) | (out.len() < 2455) {
         return refusal::Refusal::Size;

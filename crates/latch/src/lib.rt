@@ -1,4 +1,4 @@
-// Which attributes are valid when a cell is reached (000, field mode), looked for backward from it.
+// Which attributes are valid when a cell is reached (000, field mode), searched back from it.
 ghost use mathlib.Core.Path.{_≡_};
 ghost use mathlib.Core.Bool.{true};
 ghost use Prim.Native.Nat.{ℕ, max, _<_, _≤_};

@@ -8,9 +8,8 @@ ghost use Rattle.shape.specs.Font.{fontNow, lentFont};
 ghost use lib.Dec.{ltb, leb};
 ghost use Rattle.timing.specs.Fields.{hactOf, visibleOf};
 ghost use Rattle.timing.specs.Laws.{Accepted};
-ghost use Rattle.video.specs.At.{lentRefused};
 ghost use Rattle.dots.specs.Half.{shownOf, fetchedFor};
-ghost use Rattle.line.specs.Line.{drawCheck, drawnOf, lineDots, lineLength};
+ghost use Rattle.line.specs.Line.{drawCheck, lineOver, DrawsLine};
 ghost use Rattle.line.specs.Walk.{lastOf, walkOf, heldFor, dotsFor, columnFor, Ready, Drawn};
 
 // What is the same for all cells of a line: where the scan line stands in the font's two lists, and the width of a cell.
@@ -142,9 +141,8 @@ pub fn whole_line(
     field: u8,
 )
     requires { ⌜ Drawn b (now chars) (now attrs) (fontNow words flags unshifted shifted) (line .0) (length (now out)) ⌝ }
-    ensures { λ _. ⌜ now (out .exit)
-        ≡ lineDots b (now (chars .entry)) (now (attrs .entry)) (lentFont words flags unshifted shifted) (line .0) field
-        ++ drop (lineLength b) (now (out .entry)) ⌝ }
+    ensures { λ _. ⌜ now (out .exit) ≡ lineOver b (now (chars .entry)) (now (attrs .entry)) (lentFont words flags unshifted shifted)
+        (line .0) field (now (out .entry)) ⌝ }
 {
     let page = b.page;
     let irs = page.irs;
@@ -195,11 +193,8 @@ pub fn draw_line(
     field: u8,
     out: &mut [u8],
 ) -> refusal::Refusal
-    ensures { λ r. ⌜ (r ≡ drawCheck b
-        (lentRefused (now (chars .entry)) (now (attrs .entry)) (lentFont words flags unshifted shifted))
-        (line .0) (length (now (out .entry))))
-        × (now (out .exit) ≡ drawnOf b (now (chars .entry)) (now (attrs .entry)) (lentFont words flags unshifted shifted)
-        (line .0) field (now (out .entry))) ⌝ }
+    ensures { λ r. ⌜ DrawsLine b (now (chars .entry)) (now (attrs .entry)) (lentFont words flags unshifted shifted)
+        (line .0) field (now (out .entry)) r (now (out .exit)) ⌝ }
 {
     let size = video::lent_refused(chars, attrs, words, flags, unshifted, shifted);
     let refused = draw_check(b, size, line, out.len());

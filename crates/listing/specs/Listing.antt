@@ -1,4 +1,6 @@
 -- 01's listing: the visible lines, one space, the dots in a line; then the lines, black `.`, gray `o`, white `#`; each ends with a line feed.
+use Rattle.video.specs.At.{lentRefused}
+use mathlib.Core.Path.{_≡_}
 use Prim.Native.Nat.{ℕ, _+_}
 use mathlib.Core.Bool.{Bool, not}
 use mathlib.Core.List.{List, [], _∷_, _++_, map}
@@ -50,3 +52,14 @@ listedOf r bytes = record { refusal = r; count = pick (doneOf r) (length bytes) 
 -- the buffer afterwards: bytes beyond those written stay, and all of it on a refusal
 unfoldable pub listedIn : Refusal → List ℕ → List ℕ → List ℕ
 listedIn r bytes out = pick (doneOf r) (bytes ++ drop (length bytes) out) out
+
+-- the answer, and the buffer afterwards
+abbrev pub Lists : Refusal → (bytes out : List ℕ) → Listed → (left : List ℕ) → Type 0
+Lists check bytes out r left = (r ≡ listedOf check bytes) × (left ≡ listedIn check bytes out)
+
+abbrev pub ListsHead : Page → (out : List ℕ) → Listed → (left : List ℕ) → Type 0
+ListsHead p out r left = Lists (headCheck p (length out)) (listingHead p) out r left
+
+abbrev pub ListsLine : Board → (chars attrs : List ℕ) → Font → (line field : ℕ) → (out : List ℕ) → Listed → (left : List ℕ) → Type 0
+ListsLine b chars attrs f line field out r left =
+    Lists (lineCheck b (lentRefused chars attrs f) line (length out)) (listingLine b chars attrs f line field) out r left

@@ -7,10 +7,9 @@ ghost use mathlib.Core.List.{[], _∷_, _++_, map};
 ghost use Prim.Native.Nat.{_+_, _-_, _≤_, _<_};
 ghost use lib.ListN.{length, take, drop};
 ghost use Rattle.shape.specs.Font.{lentFont};
-ghost use Rattle.video.specs.At.{lentRefused};
 ghost use Rattle.listing.specs.Decimal.{Spelled};
 ghost use Rattle.listing.specs.Answers.{listed};
-ghost use Rattle.listing.specs.Listing.{lineFeed, markOf, listingHead, listingLine, headCheck, lineCheck, listedOf, listedIn};
+ghost use Rattle.listing.specs.Listing.{lineFeed, markOf, ListsHead, ListsLine};
 
 // How many bytes were written.
 pub struct Listed {
@@ -58,8 +57,7 @@ fn put_number(out: &mut [u8], n: Digits, after: u8)
 
 // The listing's first line, at the front of out. A refusal leaves out as it was.
 pub fn listing_head(p: board::Page, out: &mut [u8]) -> Listed
-    ensures { λ r. ⌜ (r ≡ listedOf (headCheck p (length (now (out .entry)))) (listingHead p))
-        × (now (out .exit) ≡ listedIn (headCheck p (length (now (out .entry)))) (listingHead p) (now (out .entry))) ⌝ }
+    ensures { λ r. ⌜ ListsHead p (now (out .entry)) r (now (out .exit)) ⌝ }
 {
     let size = timing::page_size(p);
     let refused = size.refusal;
@@ -131,15 +129,8 @@ pub fn listing_line(
     field: u8,
     out: &mut [u8],
 ) -> Listed
-    ensures { λ r. ⌜ (r ≡ listedOf (lineCheck b
-        (lentRefused (now (chars .entry)) (now (attrs .entry)) (lentFont words flags unshifted shifted))
-        (line .0) (length (now (out .entry))))
-        (listingLine b (now (chars .entry)) (now (attrs .entry)) (lentFont words flags unshifted shifted) (line .0) field))
-        × (now (out .exit) ≡ listedIn (lineCheck b
-        (lentRefused (now (chars .entry)) (now (attrs .entry)) (lentFont words flags unshifted shifted))
-        (line .0) (length (now (out .entry))))
-        (listingLine b (now (chars .entry)) (now (attrs .entry)) (lentFont words flags unshifted shifted) (line .0) field)
-        (now (out .entry))) ⌝ }
+    ensures { λ r. ⌜ ListsLine b (now (chars .entry)) (now (attrs .entry)) (lentFont words flags unshifted shifted)
+        (line .0) field (now (out .entry)) r (now (out .exit)) ⌝ }
 {
     let room = room_for_dots(out.len());
     let refused = line::draw_line(

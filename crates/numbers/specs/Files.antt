@@ -1,4 +1,6 @@
 -- A page file and its page's numbers.
+use lib.ListN.{length}
+use mathlib.Core.Path.{_≡_}
 use Prim.Native.Nat.{ℕ}
 use mathlib.Core.Bool.{Bool, _||_, not}
 use mathlib.Core.List.{List}
@@ -8,7 +10,7 @@ use Rattle.refusal.specs.declared.Refusal.{Refusal}
 use Rattle.refusal.specs.declared.Refusal.the-variants.{Size}
 use Rattle.refusal.specs.Number.{doneOf}
 use Rattle.board.specs.Range.{memoriesRefused}
-use Rattle.files.specs.File.{readCheck, writeCheck, written}
+use Rattle.files.specs.File.{readCheck, writeCheck, written, charsRead, attrsRead}
 use Rattle.numbers.specs.Numbers.{numbersRefused, numbersBoard, numbersIn}
 
 -- 3 for a page that is read: the two memories, and room for the numbers
@@ -26,3 +28,16 @@ pageWriteCheck numbers chars attrs out = pick (numbersRefused numbers) Size (wri
 -- the buffer afterwards, which stays where the numbers are refused
 unfoldable pub pageWritten : (numbers chars attrs out : List ℕ) → List ℕ
 pageWritten numbers chars attrs out = pick (numbersRefused numbers) out (written (numbersBoard numbers) chars attrs out)
+
+-- ---- the calls: the refusal, and the lent buffers afterwards
+
+abbrev pub ReadsFile : (file numbers chars attrs : List ℕ) → Refusal → (numbersLeft charsLeft attrsLeft : List ℕ) → Type 0
+ReadsFile file numbers chars attrs r numbersLeft charsLeft attrsLeft =
+    (r ≡ readCheck file (pageReadSize (length numbers) (length chars) (length attrs)))
+    × (numbersLeft ≡ numbersRead file (pageReadSize (length numbers) (length chars) (length attrs)) numbers)
+    × (charsLeft ≡ charsRead file (pageReadSize (length numbers) (length chars) (length attrs)) chars)
+    × (attrsLeft ≡ attrsRead file (pageReadSize (length numbers) (length chars) (length attrs)) attrs)
+
+abbrev pub WritesFile : (numbers chars attrs out : List ℕ) → Refusal → (left : List ℕ) → Type 0
+WritesFile numbers chars attrs out r left =
+    (r ≡ pageWriteCheck numbers (length chars) (length attrs) (length out)) × (left ≡ pageWritten numbers chars attrs out)

@@ -1,4 +1,5 @@
 -- A page's numbers in one buffer: the version byte, then the bytes of that version's page file between the length and the character memory, then zeros, which are ignored.
+use mathlib.Core.Path.{_≡_}
 use Prim.Native.Nat.{ℕ}
 use mathlib.Core.Bool.{Bool, _||_, not}
 use mathlib.Core.List.{List, _∷_, _++_}
@@ -47,6 +48,10 @@ pageNumbers p = numbersWith (versionOf p) (pageBytes p)
 abbrev pub pageIn : Page → List ℕ → List ℕ
 pageIn p numbers = numbersFront (versionOf p) (pageBytes p) (drop 25 numbers)
 
+-- only where nothing refuses it
+abbrev pub pageOrOwn : Refusal → Page → List ℕ → List ℕ
+pageOrOwn r p numbers = pick (doneOf r) (pageIn p numbers) numbers
+
 -- ---- a board's page as numbers
 
 -- 3 where there is room for another number than 32, then the page's own 12, 4, 13, 14, 15, 6; the board's place is not judged
@@ -56,3 +61,7 @@ numbersOfCheck b room = pick (not (eqb room 32)) Size (pageCheck (b .page))
 -- the numbers afterwards: the page's, and on a refusal as they were
 unfoldable pub numbersOf : Board → List ℕ → List ℕ
 numbersOf b numbers = pick (doneOf (numbersOfCheck b (length numbers))) (pageNumbers (b .page)) numbers
+
+-- the call: the refusal, and the numbers afterwards
+abbrev pub GivesNumbers : Board → (numbers : List ℕ) → Refusal → (left : List ℕ) → Type 0
+GivesNumbers b numbers r left = (r ≡ numbersOfCheck b (length numbers)) × (left ≡ numbersOf b numbers)

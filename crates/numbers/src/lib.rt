@@ -3,11 +3,9 @@ ghost use mathlib.Core.Path.{_≡_};
 ghost use mathlib.Core.Bool.{true};
 ghost use Prim.Native.Nat.{_≤_};
 ghost use lib.ListN.{length, drop};
-ghost use Rattle.lists.specs.Choice.{pick};
 ghost use Rattle.refusal.specs.Number.{doneOf};
-ghost use Rattle.files.specs.File.{readCheck, charsRead, attrsRead};
-ghost use Rattle.numbers.specs.Numbers.{numbersRefused, numbersCheck, numbersFront, numbersWith, pageIn, numbersOfCheck, numbersOf};
-ghost use Rattle.numbers.specs.Files.{pageReadSize, numbersRead, pageWriteCheck, pageWritten};
+ghost use Rattle.numbers.specs.Numbers.{numbersRefused, numbersCheck, numbersFront, numbersWith, pageOrOwn, GivesNumbers};
+ghost use Rattle.numbers.specs.Files.{ReadsFile, WritesFile};
 
 // 3, for a page's numbers.
 pub fn numbers_refused(numbers: &[u8]) -> bool
@@ -49,7 +47,7 @@ fn put_numbers(version: u8, page: &[u8], numbers: &mut [u8])
 // Puts a page in the place of the numbers' own where nothing is refused. The bytes that are not looked at stay.
 pub fn put_page(r: refusal::Refusal, p: board::Page, numbers: &mut [u8])
     requires { ⌜ (length (now numbers) ≡ 32) × (doneOf r ≡ true → p .video .dots .0 ≤ 12) ⌝ }
-    ensures { λ _. ⌜ now (numbers .exit) ≡ pick (doneOf r) (pageIn p (now (numbers .entry))) (now (numbers .entry)) ⌝ }
+    ensures { λ _. ⌜ now (numbers .exit) ≡ pageOrOwn r p (now (numbers .entry)) ⌝ }
 {
     if refusal::is_done(r) {
         let bytes = files::page_bytes(p);
@@ -64,11 +62,8 @@ pub fn read_file(
     chars: &mut [u8],
     attrs: &mut [u8],
 ) -> refusal::Refusal
-    ensures { λ r. let size = pageReadSize (length (now (numbers .entry))) (length (now (chars .entry))) (length (now (attrs .entry))) in
-        ⌜ (r ≡ readCheck (now (file .entry)) size)
-        × (now (numbers .exit) ≡ numbersRead (now (file .entry)) size (now (numbers .entry)))
-        × (now (chars .exit) ≡ charsRead (now (file .entry)) size (now (chars .entry)))
-        × (now (attrs .exit) ≡ attrsRead (now (file .entry)) size (now (attrs .entry))) ⌝ }
+    ensures { λ r. ⌜ ReadsFile (now (file .entry)) (now (numbers .entry)) (now (chars .entry)) (now (attrs .entry))
+        r (now (numbers .exit)) (now (chars .exit)) (now (attrs .exit)) ⌝ }
 {
     let size = board::memories_refused(chars.len(), attrs.len()) | (numbers.len() != 32);
     let judged = files::read_check(file, size);
@@ -81,9 +76,7 @@ pub fn read_file(
 
 // Writes a page file at the front of out. A refusal leaves out as it was.
 pub fn write_file(numbers: &[u8], chars: &[u8], attrs: &[u8], out: &mut [u8]) -> refusal::Refusal
-    ensures { λ r.
-        ⌜ (r ≡ pageWriteCheck (now (numbers .entry)) (length (now (chars .entry))) (length (now (attrs .entry))) (length (now (out .entry))))
-        × (now (out .exit) ≡ pageWritten (now (numbers .entry)) (now (chars .entry)) (now (attrs .entry)) (now (out .entry))) ⌝ }
+    ensures { λ r. ⌜ WritesFile (now (numbers .entry)) (now (chars .entry)) (now (attrs .entry)) (now (out .entry)) r (now (out .exit)) ⌝ }
 {
     if numbers_refused(numbers) {
         return refusal::Refusal::Size;
@@ -93,8 +86,7 @@ pub fn write_file(numbers: &[u8], chars: &[u8], attrs: &[u8], out: &mut [u8]) ->
 
 // A board's page as numbers. Nothing else of the board is looked at. A refusal leaves numbers as they were.
 pub fn numbers_of(b: board::Board, numbers: &mut [u8]) -> refusal::Refusal
-    ensures { λ r. ⌜ (r ≡ numbersOfCheck b (length (now (numbers .entry))))
-        × (now (numbers .exit) ≡ numbersOf b (now (numbers .entry))) ⌝ }
+    ensures { λ r. ⌜ GivesNumbers b (now (numbers .entry)) r (now (numbers .exit)) ⌝ }
 {
     if numbers.len() != 32 {
         return refusal::Refusal::Size;

@@ -1,4 +1,5 @@
 -- A picture is its visible lines, end to end.
+use mathlib.Core.Path.{_≡_}
 use Prim.Native.Nat.{ℕ, _*_}
 use mathlib.Core.Bool.{Bool, false}
 use mathlib.Core.List.{List, _++_}
@@ -27,9 +28,18 @@ pictureLength p = visibleOf (p .irs) .0 * (hactOf (p .irs) * p .video .dots .0)
 unfoldable pub pictureCheck : Board → (size : Bool) → (room : ℕ) → Refusal
 pictureCheck b size room = callCheck b size false (ltb room (pictureLength (b .page)))
 
--- the buffer afterwards: bytes beyond the picture stay, and all of it on a refusal
+-- the picture at the front of a buffer; bytes beyond it stay
+abbrev pub pictureOver : Board → (chars attrs : List ℕ) → Font → (field : ℕ) → (out : List ℕ) → List ℕ
+pictureOver b chars attrs f field out = pictureDots b chars attrs f field ++ drop (pictureLength (b .page)) out
+
+-- the buffer afterwards, which stays on a refusal
 unfoldable pub picturedOf : Board → (chars attrs : List ℕ) → Font → (field : ℕ) → List ℕ → List ℕ
 picturedOf b chars attrs f field out =
     pick (doneOf (pictureCheck b (lentRefused chars attrs f) (length out)))
-    (pictureDots b chars attrs f field ++ drop (pictureLength (b .page)) out)
+    (pictureOver b chars attrs f field out)
     out
+
+-- the call: the refusal, and the buffer afterwards
+abbrev pub DrawsPicture : Board → (chars attrs : List ℕ) → Font → (field : ℕ) → (out : List ℕ) → Refusal → (left : List ℕ) → Type 0
+DrawsPicture b chars attrs f field out r left =
+    (r ≡ pictureCheck b (lentRefused chars attrs f) (length out)) × (left ≡ picturedOf b chars attrs f field out)

@@ -8,13 +8,12 @@ ghost use lib.ListN.{length, getD, drop};
 ghost use Rattle.lists.specs.Join.{joined};
 ghost use Rattle.shape.specs.Font.{fontNow, lentFont};
 ghost use Rattle.timing.specs.Laws.{Accepted};
-ghost use Rattle.video.specs.At.{lentRefused};
 ghost use Rattle.raster.specs.Wide.{isWide};
 ghost use Rattle.dots.specs.Stores.{reachOf};
 ghost use Rattle.dots.specs.Half.{shownOf, fetchedFor};
 ghost use Rattle.tables.specs.Tables.{heldBy};
 ghost use Rattle.line.specs.Walk.{lastOf};
-ghost use Rattle.picture.specs.Picture.{pictureCheck, pictureDots, pictureLength, picturedOf};
+ghost use Rattle.picture.specs.Picture.{pictureCheck, pictureLength, pictureOver, DrawsPicture};
 ghost use Rattle.picture.specs.Plan.{planOf, cellDotsOf, cellFrom, lineFrom, rowFrom, rowDrawn, Sheet, Numbered};
 ghost use Rattle.picture.specs.Agree.{Pictured};
 
@@ -287,9 +286,8 @@ fn by_rows(
     p: Plan,
 )
     requires { ⌜ Pictured b (now chars) (now attrs) (fontNow words flags unshifted shifted) (length (now out)) × (p ≡ planOf (b .page)) ⌝ }
-    ensures { λ _. ⌜ now (out .exit)
-        ≡ pictureDots b (now (chars .entry)) (now (attrs .entry)) (lentFont words flags unshifted shifted) field
-        ++ drop (pictureLength (b .page)) (now (out .entry)) ⌝ }
+    ensures { λ _. ⌜ now (out .exit) ≡ pictureOver b (now (chars .entry)) (now (attrs .entry)) (lentFont words flags unshifted shifted)
+        field (now (out .entry)) ⌝ }
 {
     let page = b.page;
     let lines = p.lines;
@@ -317,9 +315,8 @@ fn by_lines(
     p: Plan,
 )
     requires { ⌜ Pictured b (now chars) (now attrs) (fontNow words flags unshifted shifted) (length (now out)) × (p ≡ planOf (b .page)) ⌝ }
-    ensures { λ _. ⌜ now (out .exit)
-        ≡ pictureDots b (now (chars .entry)) (now (attrs .entry)) (lentFont words flags unshifted shifted) field
-        ++ drop (pictureLength (b .page)) (now (out .entry)) ⌝ }
+    ensures { λ _. ⌜ now (out .exit) ≡ pictureOver b (now (chars .entry)) (now (attrs .entry)) (lentFont words flags unshifted shifted)
+        field (now (out .entry)) ⌝ }
 {
     let n = p.lines.times(p.rows).places();
     let width = p.width;
@@ -355,9 +352,8 @@ fn whole_picture(
     field: u8,
 )
     requires { ⌜ Pictured b (now chars) (now attrs) (fontNow words flags unshifted shifted) (length (now out)) ⌝ }
-    ensures { λ _. ⌜ now (out .exit)
-        ≡ pictureDots b (now (chars .entry)) (now (attrs .entry)) (lentFont words flags unshifted shifted) field
-        ++ drop (pictureLength (b .page)) (now (out .entry)) ⌝ }
+    ensures { λ _. ⌜ now (out .exit) ≡ pictureOver b (now (chars .entry)) (now (attrs .entry)) (lentFont words flags unshifted shifted)
+        field (now (out .entry)) ⌝ }
 {
     let p = plan_of(b.page);
     if p.columns.times(p.rows).cells() < 256 {
@@ -401,11 +397,8 @@ pub fn draw_picture(
     field: u8,
     out: &mut [u8],
 ) -> refusal::Refusal
-    ensures { λ r. ⌜ (r ≡ pictureCheck b
-        (lentRefused (now (chars .entry)) (now (attrs .entry)) (lentFont words flags unshifted shifted))
-        (length (now (out .entry))))
-        × (now (out .exit) ≡ picturedOf b (now (chars .entry)) (now (attrs .entry)) (lentFont words flags unshifted shifted)
-        field (now (out .entry))) ⌝ }
+    ensures { λ r. ⌜ DrawsPicture b (now (chars .entry)) (now (attrs .entry)) (lentFont words flags unshifted shifted)
+        field (now (out .entry)) r (now (out .exit)) ⌝ }
 {
     let size = video::lent_refused(chars, attrs, words, flags, unshifted, shifted);
     let refused = picture_check(b, size, out.len());

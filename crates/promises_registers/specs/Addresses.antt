@@ -1,5 +1,5 @@
 -- The address registers: what is written is read, and the rest stays. Assumes nothing.
-use Prim.Native.Nat.{ℕ, _+_, _*_, _/_, _%_, _≤_, _<_}
+use Prim.Native.Nat.{ℕ, _%_, _≤_, _<_}
 use mathlib.Core.Path.{_≡_, refl, ap, _∙_}
 use mathlib.Core.Bool.{Bool, true, false, _||_}
 use native.Mathlib.Omega.{arith}
@@ -19,7 +19,8 @@ use Rattle.registers.specs.Read.{lowerShown, upperShown, shownAt, readAt, readO
 use Rattle.feldrime.specs.declared.BoardAnswer.{BoardAnswer}
 use Rattle.feldrime.specs.declared.ByteAnswer.{ByteAnswer}
 use Rattle.feldrime.specs.Answers.{boardAnswer, byteAnswer}
-use Rattle.promises_registers.specs.Ready.{Ready, written, readFrom, writes, reads, parts, ready}
+use Rattle.feldrime.specs.Boards.{writeFor, readFor}
+use Rattle.promises_registers.specs.Ready.{Ready, writes, reads, parts, ready}
 
 -- a lower register, at an even address, keeps the byte, an upper one its low six bits
 abbrev pub keptAt : (address byte : ℕ) → ℕ
@@ -107,7 +108,7 @@ shown-lt s a =
     (pick-lt 256 (eqb a 6) _ _ (omega arith) (omega arith)))))
 
 -- whatever is read is a byte
-pub read-lt : (b : Board) (a : ℕ) {x : ByteAnswer} → x ≡ readFrom b a → x .byte < 256
+pub read-lt : (b : Board) (a : ℕ) {x : ByteAnswer} → x ≡ readFor b a → x .byte < 256
 unfolding readOf readAt
 read-lt b a e = rw e (go (doneOf (registerCheck b)) (within 0 1 a) (within 2 7 a))
   where
@@ -118,7 +119,7 @@ read-lt b a e = rw e (go (doneOf (registerCheck b)) (within 0 1 a) (within 2 7 a
     go false u w = omega arith
 
 module _ {b : Board} (r : Ready b) (a : ℕ) (lo : 2 ≤ a) (hi : a ≤ 7) where
-  put : (v : ℕ) → written b a v ≡ boardAnswer Done (startedOf b a v)
+  put : (v : ℕ) → writeFor b a v ≡ boardAnswer Done (startedOf b a v)
   unfolding activeOf
   put v =
       let not-0 = ne-eqb a 0 (λ e. omega (arith, e, lo)) in
@@ -126,13 +127,13 @@ module _ {b : Board} (r : Ready b) (a : ℕ) (lo : 2 ≤ a) (hi : a ≤ 7) where
       let done : activeOf b a v ≡ answer Done (startedOf b a v) = rw (not-0, not-1, inside 2 7 a lo hi) in
       ap (λ (x : Written). boardAnswer (x .refusal) (x .board)) (writes r a v ∙ done)
 
-  seen : readFrom b a ≡ byteAnswer Done (shownAt (b .page .starts) a)
+  seen : readFor b a ≡ byteAnswer Done (shownAt (b .page .starts) a)
   unfolding readAt
   seen =
       let done : readAt (b .page .starts) a ≡ byteRead Done (shownAt (b .page .starts) a) = rw (over 0 1 a (omega (arith, lo)), inside 2 7 a lo hi) in
       ap (λ (x : ByteRead). byteAnswer (x .refusal) (x .byte)) (reads r a ∙ done)
 
-module _ {b : Board} (r : Ready b) (a : ℕ) (lo : 2 ≤ a) (hi : a ≤ 7) (v : ℕ) (small : v < 256) {one : BoardAnswer} (e : one ≡ written b a v) where
+module _ {b : Board} (r : Ready b) (a : ℕ) (lo : 2 ≤ a) (hi : a ≤ 7) (v : ℕ) (small : v < 256) {one : BoardAnswer} (e : one ≡ writeFor b a v) where
   abbrev s : Starts
   s = b .page .starts
 
@@ -145,12 +146,12 @@ module _ {b : Board} (r : Ready b) (a : ℕ) (lo : 2 ≤ a) (hi : a ≤ 7) (v : 
   there : one .board ≡ startedOf b a v
   there = ap (λ (x : BoardAnswer). x .board) (e ∙ put r a lo hi v)
 
-  pub read-again : {x : ByteAnswer} → x ≡ readFrom (one .board) a → x ≡ byteAnswer Done (keptAt a v)
-  read-again q = q ∙ ap (λ (x : Board). readFrom x a) there ∙ seen still-ready a lo hi ∙ ap (byteAnswer Done) (shown s ok v small a lo hi)
+  pub read-again : {x : ByteAnswer} → x ≡ readFor (one .board) a → x ≡ byteAnswer Done (keptAt a v)
+  read-again q = q ∙ ap (λ (x : Board). readFor x a) there ∙ seen still-ready a lo hi ∙ ap (byteAnswer Done) (shown s ok v small a lo hi)
 
-  pub put-back : {x : ByteAnswer} → x ≡ readFrom b a → {two : BoardAnswer} → two ≡ written (one .board) a (x .byte) → two ≡ boardAnswer Done b
+  pub put-back : {x : ByteAnswer} → x ≡ readFor b a → {two : BoardAnswer} → two ≡ writeFor (one .board) a (x .byte) → two ≡ boardAnswer Done b
   put-back {x} q p =
       let old : x .byte ≡ shownAt s a = ap (λ (y : ByteAnswer). y .byte) (q ∙ seen r a lo hi) in
       let back : startsAfter (startsAfter s a v) a (x .byte) ≡ s = ap (startsAfter (startsAfter s a v) a) old ∙ restored s ok v small a lo hi in
-      p ∙ ap (λ (y : Board). written y a (x .byte)) there ∙ put still-ready a lo hi (x .byte)
+      p ∙ ap (λ (y : Board). writeFor y a (x .byte)) there ∙ put still-ready a lo hi (x .byte)
       ∙ ap (λ (y : Starts). boardAnswer Done (withPage b (withStarts (b .page) y))) back

@@ -18,7 +18,8 @@ use Rattle.registers.specs.Parts.{withIrs, withSwitches, withPage, withPointer,
 use Rattle.registers.specs.Write.{registerCheck, pointedOf, switchesAfter, switchedOf, commandOf, nextPointer, activeOf, inactiveOf, writeOf}
 use Rattle.feldrime.specs.declared.BoardAnswer.{BoardAnswer}
 use Rattle.feldrime.specs.Answers.{boardAnswer}
-use Rattle.promises_registers.specs.Ready.{Ready, written, writes, parts, ready, judged}
+use Rattle.feldrime.specs.Boards.{writeFor}
+use Rattle.promises_registers.specs.Ready.{Ready, writes, parts, ready, judged}
 
 -- the board that power gives, active, with a byte in IR0 and the pointer at IR1
 abbrev pub loadedFirst : ℕ → Board
@@ -58,26 +59,26 @@ carried v = eqb v 0 || (within 16 30 v || switching v)
 
 -- ---- two resets, and one
 
-module _ {off : Board} {once : BoardAnswer} (p : off ≡ powerOf) (q : once ≡ written off 1 0) where
-  pub wakes : (byte : ℕ) {twice r : BoardAnswer} → twice ≡ written (once .board) 1 0 → r ≡ written (twice .board) 0 byte → r ≡ boardAnswer Done (loadedFirst byte)
+module _ {off : Board} {once : BoardAnswer} (p : off ≡ powerOf) (q : once ≡ writeFor off 1 0) where
+  pub wakes : (byte : ℕ) {twice r : BoardAnswer} → twice ≡ writeFor (once .board) 1 0 → r ≡ writeFor (twice .board) 0 byte → r ≡ boardAnswer Done (loadedFirst byte)
   unfolding writeOf registerCheck addressRefused activeOf inactiveOf commandOf
   wakes byte e g =
-      let one = q ∙ ap (λ (x : Board). written x 1 0) p in
-      let two = e ∙ ap (λ (x : BoardAnswer). written (x .board) 1 0) one in
-      g ∙ ap (λ (x : BoardAnswer). written (x .board) 0 byte) two
+      let one = q ∙ ap (λ (x : Board). writeFor x 1 0) p in
+      let two = e ∙ ap (λ (x : BoardAnswer). writeFor (x .board) 1 0) one in
+      g ∙ ap (λ (x : BoardAnswer). writeFor (x .board) 0 byte) two
 
-  pub wakes-not : (byte : ℕ) {r : BoardAnswer} → r ≡ written (once .board) 0 byte → r ≡ boardAnswer Done powerOf
+  pub wakes-not : (byte : ℕ) {r : BoardAnswer} → r ≡ writeFor (once .board) 0 byte → r ≡ boardAnswer Done powerOf
   unfolding writeOf registerCheck addressRefused inactiveOf
-  wakes-not byte g = g ∙ ap (λ (x : BoardAnswer). written (x .board) 0 byte) (q ∙ ap (λ (x : Board). written x 1 0) p)
+  wakes-not byte g = g ∙ ap (λ (x : BoardAnswer). writeFor (x .board) 0 byte) (q ∙ ap (λ (x : Board). writeFor x 1 0) p)
 
 -- ---- an active board
 
 module _ {b : Board} (r : Ready b) where
-  commanded : (v : ℕ) → written b 1 v ≡ boardAnswer (commandOf b v .refusal) (commandOf b v .board)
+  commanded : (v : ℕ) → writeFor b 1 v ≡ boardAnswer (commandOf b v .refusal) (commandOf b v .board)
   unfolding activeOf
   commanded v = ap (λ (x : Written). boardAnswer (x .refusal) (x .board)) (writes r 1 v)
 
-  pub refused : (v : ℕ) → carried v ≡ false → {x : BoardAnswer} → x ≡ written b 1 v → x ≡ boardAnswer Command b
+  pub refused : (v : ℕ) → carried v ≡ false → {x : BoardAnswer} → x ≡ writeFor b 1 v → x ≡ boardAnswer Command b
   unfolding commandOf
   refused v e q =
       let zero = neither (eqb v 0) (within 16 30 v || switching v) e in
@@ -91,7 +92,7 @@ module _ {b : Board} (r : Ready b) where
       go false u p = refl
 
   module _ (v : ℕ) (lo : 16 ≤ v) (hi : v ≤ 30) where
-    pointed : written b 1 v ≡ boardAnswer Done (pointedOf b (v - 16))
+    pointed : writeFor b 1 v ≡ boardAnswer Done (pointedOf b (v - 16))
     unfolding commandOf
     pointed = commanded v ∙ rw (ne-eqb v 0 (λ e. omega (arith, e, lo)), inside 16 30 v lo hi)
 
@@ -100,10 +101,10 @@ module _ {b : Board} (r : Ready b) where
         let p = parts r in
         ready (pointedOf b (v - 16)) (r .active) (record { starts = p .starts; switches = p .switches; strike = p .strike; pointer = le-ltb 14 (v - 16) (omega (arith, hi)) })
 
-    pub loaded : (byte : ℕ) {one two : BoardAnswer} → one ≡ written b 1 v → two ≡ written (one .board) 0 byte → two ≡ boardAnswer Done (loadedAt b (v - 16) byte)
+    pub loaded : (byte : ℕ) {one two : BoardAnswer} → one ≡ writeFor b 1 v → two ≡ writeFor (one .board) 0 byte → two ≡ boardAnswer Done (loadedAt b (v - 16) byte)
     unfolding activeOf
     loaded byte e q =
-        q ∙ ap (λ (x : BoardAnswer). written (x .board) 0 byte) (e ∙ pointed)
+        q ∙ ap (λ (x : BoardAnswer). writeFor (x .board) 0 byte) (e ∙ pointed)
         ∙ ap (λ (x : Written). boardAnswer (x .refusal) (x .board)) (writes ready-pointed 0 byte)
 
 -- ---- display and cursor
@@ -125,7 +126,7 @@ module _ (s v : ℕ) where
       (pick-lt 2 (hasBit v 16) (v % 2) (s / 2 % 2) (omega arith) (omega arith)) (pick-lt 2 (hasBit v 8) (v % 2) (s % 2) (omega arith) (omega arith))
 
 module _ {b : Board} (r : Ready b) (v : ℕ) (e : switching v ≡ true) where
-  switches-set : written b 1 v ≡ boardAnswer Done (switchedOf b v)
+  switches-set : writeFor b 1 v ≡ boardAnswer Done (switchedOf b v)
   unfolding commandOf
   switches-set =
       let t = both (within 32 63 v) (eqb (v / 2 % 2) 0 && not (eqb (v / 8 % 4) 0)) e in
@@ -140,10 +141,10 @@ module _ {b : Board} (r : Ready b) (v : ℕ) (e : switching v ≡ true) where
       ready (switchedOf b v) (r .active) (record { starts = p .starts; switches = judged (b .page .version) (switchesAfter s v) s upper ∙ p .switches; strike = p .strike; pointer = p .pointer })
 
 module _ {b : Board} (r : Ready b) (v w : ℕ) (e : switching v ≡ true) (f : switching w ≡ true) where
-  pub switched : {one two : BoardAnswer} → one ≡ written b 1 v → two ≡ written (one .board) 1 w → two ≡ boardAnswer Done (switchedBy b v w)
+  pub switched : {one two : BoardAnswer} → one ≡ writeFor b 1 v → two ≡ writeFor (one .board) 1 w → two ≡ boardAnswer Done (switchedBy b v w)
   switched q p =
       let s = b .page .switches in
       let a = after s v in
       let same : switchesAfter (switchesAfter s v) w ≡ switchedBy b v w .page .switches = rw (a .0, a .1, a .2) in
-      p ∙ ap (λ (x : BoardAnswer). written (x .board) 1 w) (q ∙ switches-set r v e) ∙ switches-set (ready-switched r v e) w f
+      p ∙ ap (λ (x : BoardAnswer). writeFor (x .board) 1 w) (q ∙ switches-set r v e) ∙ switches-set (ready-switched r v e) w f
       ∙ ap (λ (k : ℕ). boardAnswer Done (withPage b (withSwitches (b .page) k))) same

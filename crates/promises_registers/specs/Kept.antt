@@ -18,7 +18,7 @@ use Rattle.registers.specs.Write.{registerCheck, commandOf, activeOf, inactiveO
 use Rattle.registers.specs.Video.{videoCheck, setVideoOf}
 use Rattle.feldrime.specs.declared.BoardAnswer.{BoardAnswer}
 use Rattle.feldrime.specs.Answers.{boardAnswer}
-use Rattle.promises_registers.specs.Ready.{written}
+use Rattle.feldrime.specs.Boards.{writeFor}
 
 -- an answer other than 0 stands beside the board b
 abbrev Kept : Board → Refusal → Board → Type 0
@@ -69,7 +69,7 @@ module _ (b : Board) {r : BoardAnswer} where
   kept : (x : Refusal) (y : Board) → r ≡ boardAnswer x y → Kept b x y → (r .refusal ≡ 0 → ⊥) → r .board ≡ b
   kept x y e k n = ap (λ (z : BoardAnswer). z .board) e ∙ k (λ q. n (ap (λ (z : BoardAnswer). z .refusal) e ∙ q))
 
-  pub write-kept : (a v : ℕ) → r ≡ written b a v → (r .refusal ≡ 0 → ⊥) → r .board ≡ b
+  pub write-kept : (a v : ℕ) → r ≡ writeFor b a v → (r .refusal ≡ 0 → ⊥) → r .board ≡ b
   write-kept a v e = kept (writeOf b a v .refusal) (writeOf b a v .board) e (write-keeps b a v)
 
   pub video-kept : (d : Dots) (strike : ℕ) (bkgnd rblank : Bool)

@@ -12,20 +12,10 @@ use Rattle.board.specs.declared.Board.{Board}
 use Rattle.board.specs.Range.{startsRefused, switchesRefused, addressRefused, pointerRefused}
 use Rattle.registers.specs.Write.{registerCheck, activeOf, writeOf}
 use Rattle.registers.specs.Read.{readAt, readOf}
-use Rattle.feldrime.specs.declared.BoardAnswer.{BoardAnswer}
-use Rattle.feldrime.specs.declared.ByteAnswer.{ByteAnswer}
-use Rattle.feldrime.specs.Answers.{boardAnswer, byteAnswer}
 
 pub record Ready (b : Board) : Type 0 where
   pub active : 2 ≤ b .resets
   pub taken : registerCheck b ≡ Done
-
--- what a write and a read answer
-abbrev pub written : Board → (address byte : ℕ) → BoardAnswer
-written b a v = boardAnswer (writeOf b a v .refusal) (writeOf b a v .board)
-
-abbrev pub readFrom : Board → (address : ℕ) → ByteAnswer
-readFrom b a = byteAnswer (readOf b a .refusal) (readOf b a .byte)
 
 pub writes : {b : Board} → Ready b → (a v : ℕ) → writeOf b a v ≡ activeOf b a v
 unfolding writeOf

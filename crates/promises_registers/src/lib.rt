@@ -1,5 +1,4 @@
-// Promises about registers, as functions that call the calls for C: each proves only where the contracts of what it calls
-// are strong enough for its own.
+// Functions that call the calls for C, about registers. Each is proved from their contracts alone.
 pub mod addresses;
 pub mod commands;
 pub mod kept;

@@ -2,16 +2,15 @@
 use feldrime::Answer;
 ghost use mathlib.Core.Path.{_≡_};
 ghost use mathlib.Core.Bool.{true};
-ghost use mathlib.Core.List.{_++_};
 ghost use Prim.Native.Nat.{_<_};
-ghost use lib.ListN.{length, drop};
+ghost use lib.ListN.{length};
 ghost use Rattle.timing.specs.Fields.{visibleOf};
 ghost use Rattle.agreement.specs.Lines.{clockOf};
 ghost use Rattle.shape.specs.Font.{fontNow, lentFont};
 ghost use Rattle.units.specs.Units.{clocks};
-ghost use Rattle.line.specs.Line.{lineDots, lineLength};
+ghost use Rattle.line.specs.Line.{lineOver};
 ghost use Rattle.feldrime.specs.Answers.{answerOf};
-ghost use Rattle.feldrime.specs.LineDraw.{lineDrawCheck, lineDrawn};
+ghost use Rattle.feldrime.specs.LineDraw.{lineDrawCheck, DrawsLineFor};
 ghost use Rattle.promises_stepped.specs.Asked.{aloneOf};
 ghost use Rattle.promises_stepped.specs.Lines.{Steppable};
 
@@ -41,8 +40,7 @@ fn step_line(
     field: u8,
 )
     requires { ⌜ Steppable b (now chars) (now attrs) (fontNow words flags unshifted shifted) line (length (now out)) ⌝ }
-    ensures { λ _. let f = lentFont words flags unshifted shifted in
-        ⌜ now (out .exit) ≡ lineDots b (now (chars .entry)) (now (attrs .entry)) f line field ++ drop (lineLength b) (now (out .entry)) ⌝ }
+    ensures { λ _. ⌜ now (out .exit) ≡ lineOver b (now (chars .entry)) (now (attrs .entry)) (lentFont words flags unshifted shifted) line field (now (out .entry)) ⌝ }
 {
     let irs = b.page.irs;
     let t = timing::timing_of(irs);
@@ -125,9 +123,8 @@ pub fn line_by_steps(
     field: u8,
     out: &mut [u8],
 ) -> Answer
-    ensures { λ r. let f = lentFont words flags unshifted shifted in
-        ⌜ (r ≡ answerOf (lineDrawCheck (now (numbers .entry)) (now (chars .entry)) (now (attrs .entry)) f line (length (now (out .entry)))))
-        × (now (out .exit) ≡ lineDrawn (now (numbers .entry)) (now (chars .entry)) (now (attrs .entry)) f line field (now (out .entry))) ⌝ }
+    ensures { λ r. ⌜ DrawsLineFor (now (numbers .entry)) (now (chars .entry)) (now (attrs .entry)) (lentFont words flags unshifted shifted)
+        line field (now (out .entry)) r (now (out .exit)) ⌝ }
 {
     let room = out.len();
     let answer = line_answer(

@@ -2,10 +2,8 @@
 use feldrime::Answer;
 use feldrime::StepAnswer;
 ghost use mathlib.Core.Path.{_≡_};
-ghost use lib.ListN.{length};
 ghost use Rattle.shape.specs.Font.{lentFont};
-ghost use Rattle.feldrime.specs.Answers.{answerOf};
-ghost use Rattle.feldrime.specs.PictureDraw.{pictureDrawCheck, pictureDrawn};
+ghost use Rattle.feldrime.specs.PictureDraw.{DrawsPictureFor};
 ghost use Rattle.agreement.specs.FromC.{stepC};
 
 // What either move leaves, refused or not, has the picture that stands there already: the contract is that of `feldrime_picture_draw`.
@@ -20,9 +18,8 @@ pub fn moved_over_picture(
     field: u8,
     out: &mut [u8],
 ) -> Answer
-    ensures { λ r. let f = lentFont words flags unshifted shifted in
-        ⌜ (r ≡ answerOf (pictureDrawCheck (now (numbers .entry)) (now (chars .entry)) (now (attrs .entry)) f (length (now (out .entry)))))
-        × (now (out .exit) ≡ pictureDrawn (now (numbers .entry)) (now (chars .entry)) (now (attrs .entry)) f field (now (out .entry))) ⌝ }
+    ensures { λ r. ⌜ DrawsPictureFor (now (numbers .entry)) (now (chars .entry)) (now (attrs .entry)) (lentFont words flags unshifted shifted)
+        field (now (out .entry)) r (now (out .exit)) ⌝ }
 {
     feldrime::feldrime_to_table(numbers, chars);
     feldrime::feldrime_picture_draw(

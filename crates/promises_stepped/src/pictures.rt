@@ -1,10 +1,7 @@
 // A picture, and one of its lines drawn again over it.
 use feldrime::Answer;
-ghost use mathlib.Core.Path.{_≡_};
-ghost use lib.ListN.{length};
 ghost use Rattle.shape.specs.Font.{lentFont};
-ghost use Rattle.feldrime.specs.Answers.{answerOf};
-ghost use Rattle.feldrime.specs.PictureDraw.{pictureDrawCheck, pictureDrawn};
+ghost use Rattle.feldrime.specs.PictureDraw.{DrawsPictureFor};
 
 // Any visible line that `feldrime_line_draw` draws over the picture stands there already: the contract is that of `feldrime_picture_draw`.
 pub fn line_over_picture(
@@ -19,9 +16,8 @@ pub fn line_over_picture(
     field: u8,
     out: &mut [u8],
 ) -> Answer
-    ensures { λ r. let f = lentFont words flags unshifted shifted in
-        ⌜ (r ≡ answerOf (pictureDrawCheck (now (numbers .entry)) (now (chars .entry)) (now (attrs .entry)) f (length (now (out .entry)))))
-        × (now (out .exit) ≡ pictureDrawn (now (numbers .entry)) (now (chars .entry)) (now (attrs .entry)) f field (now (out .entry))) ⌝ }
+    ensures { λ r. ⌜ DrawsPictureFor (now (numbers .entry)) (now (chars .entry)) (now (attrs .entry)) (lentFont words flags unshifted shifted)
+        field (now (out .entry)) r (now (out .exit)) ⌝ }
 {
     let drawn = feldrime::feldrime_picture_draw(
         numbers,

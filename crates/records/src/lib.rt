@@ -1,4 +1,4 @@
-// The records of an index of phrases (02, R-6): what is asked of each, and what is answered once one more is looked at.
+// One record of an index of phrases (02, R-6): what is asked of it, and what it answers.
 ghost use mathlib.Core.Path.{_≡_};
 ghost use Prim.Native.Nat.{min, max, _<_};
 ghost use Rattle.raster.specs.Moves.{Bounded};

@@ -1,4 +1,4 @@
-// The register calls: what the processor writes and reads (003 Tables 1, 4 and 6), and the board's own video setting.
+// What the processor writes and reads (003 Tables 1, 4 and 6), and the video setting.
 ghost use mathlib.Core.Path.{_≡_};
 ghost use mathlib.Core.List.{[], _∷_};
 ghost use Prim.Native.Nat.{max, _≤_, _-_, _+_};

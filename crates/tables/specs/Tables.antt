@@ -1,7 +1,10 @@
 -- A row's cells as numbers, and the tables by mark and by code. Assumes nothing.
+use Rattle.lists.specs.Join.{joined}
+use lib.ListN.{drop}
+use mathlib.Core.Path.{_≡_}
 use Prim.Native.Nat.{ℕ, _+_, _*_, _/_, _%_}
 use mathlib.Core.Bool.{Bool, false, _&&_}
-use mathlib.Core.List.{List}
+use mathlib.Core.List.{List, _++_}
 use lib.Dec.{eqb}
 use Rattle.lists.specs.Choice.{pick}
 use Rattle.lists.specs.Tab.{tab}
@@ -61,3 +64,21 @@ noWord code = 0
 
 unfoldable pub wordsAt : Font → (d scan : ℕ) → List ℕ
 wordsAt f d scan = tab 256 (shownWord (f .words) (f .flags) (positionOf (f .unshifted) scan) (positionOf (f .shifted) scan) d)
+
+-- ---- the lent tables afterwards; what stands beyond stays
+
+-- n cells of a row, and what is valid after them
+abbrev pub Gathers : Reading → (chars attrs : List ℕ) → Buffer → (held start n : ℕ) → (cells : List ℕ) → (r : ℕ) → (left : List ℕ) → Type 0
+Gathers k chars attrs buffer held start n cells r left =
+    (r ≡ heldBy (k .runs) attrs buffer held start n) × (left ≡ tab n (cellBy k chars attrs buffer held start) ++ drop n cells)
+
+-- a scan line's levels by mark, and those of n scan lines
+abbrev pub looksPut : Scene → (table : List ℕ) → List ℕ
+looksPut s table = tab 128 (levelsOf s) ++ drop 128 table
+
+abbrev pub looksFilled : Board → (field n : ℕ) → (table : List ℕ) → List ℕ
+looksFilled b field n table = joined 0 n (levelsAt b field) ++ drop (n * 128) table
+
+-- the dots by code of n scan lines
+abbrev pub wordsFilled : Font → (n d : ℕ) → (table : List ℕ) → List ℕ
+wordsFilled f n d table = joined 0 n (wordsAt f d) ++ drop (n * 256) table

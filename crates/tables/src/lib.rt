@@ -1,15 +1,14 @@
-// What lines and pictures are drawn from: of a row its cells, a number each, and of a scan line a table by mark and one by code.
+// What lines and pictures are drawn from: cells as numbers, tables by mark and by code.
 ghost use mathlib.Core.Path.{_≡_};
 ghost use mathlib.Core.List.{_++_};
 ghost use Prim.Native.Nat.{_+_, _-_, _*_, _≤_, _<_};
 ghost use lib.ListN.{length, drop};
 ghost use Rattle.lists.specs.Choice.{pick};
-ghost use Rattle.lists.specs.Join.{joined};
 ghost use Rattle.lists.specs.Tab.{tab};
 ghost use Rattle.raster.specs.Moves.{Bounded};
 ghost use Rattle.shape.specs.Font.{lentFont};
 ghost use Rattle.tables.specs.Run.{whole};
-ghost use Rattle.tables.specs.Tables.{cellNumber, heldBy, cellBy, levelsFor, levelsOf, levelsAt, noWord, shownWord, wordsAt};
+ghost use Rattle.tables.specs.Tables.{cellNumber, levelsFor, noWord, shownWord, Gathers, looksPut, looksFilled, wordsFilled};
 
 // A cell's code, and 256 times its mark: the six attributes, and 64 where the cursor's address is the cell's.
 fn cell_number(code: u8, attributes: u8, here: bool) -> u16
@@ -40,9 +39,8 @@ fn gather_run(
     n: usize,
 ) -> u8
     requires { ⌜ (length (now chars) ≡ 16384) × (length (now attrs) ≡ 16384) × (n ≤ length (now cells)) × (from + n ≤ 16384) × (from < 16384) ⌝ }
-    ensures { λ r. ⌜ (r ≡ heldBy (k .runs) (now (attrs .entry)) whole held from n)
-        × (now (cells .exit)
-        ≡ tab n (cellBy k (now (chars .entry)) (now (attrs .entry)) whole held from) ++ drop n (now (cells .entry))) ⌝ }
+    ensures { λ r. ⌜ Gathers k (now (chars .entry)) (now (attrs .entry)) whole held from n
+        (now (cells .entry)) r (now (cells .exit)) ⌝ }
 {
     let cursor = k.cursor as usize;
     let mut valid = held;
@@ -71,9 +69,8 @@ fn gather_round(
     n: usize,
 ) -> u8
     requires { ⌜ (length (now chars) ≡ 16384) × (length (now attrs) ≡ 16384) × (n ≤ length (now cells)) × Bounded buffer × (start .address < 16384) ⌝ }
-    ensures { λ r. ⌜ (r ≡ heldBy (k .runs) (now (attrs .entry)) buffer held (start .address) n)
-        × (now (cells .exit)
-        ≡ tab n (cellBy k (now (chars .entry)) (now (attrs .entry)) buffer held (start .address)) ++ drop n (now (cells .entry))) ⌝ }
+    ensures { λ r. ⌜ Gathers k (now (chars .entry)) (now (attrs .entry)) buffer held (start .address) n
+        (now (cells .entry)) r (now (cells .exit)) ⌝ }
 {
     let mut cell = start;
     let mut valid = held;
@@ -104,9 +101,8 @@ pub fn gather(
     n: usize,
 ) -> u8
     requires { ⌜ (length (now chars) ≡ 16384) × (length (now attrs) ≡ 16384) × (n ≤ length (now cells)) × Bounded buffer × (start .address < 16384) ⌝ }
-    ensures { λ r. ⌜ (r ≡ heldBy (k .runs) (now (attrs .entry)) buffer held (start .address) n)
-        × (now (cells .exit)
-        ≡ tab n (cellBy k (now (chars .entry)) (now (attrs .entry)) buffer held (start .address)) ++ drop n (now (cells .entry))) ⌝ }
+    ensures { λ r. ⌜ Gathers k (now (chars .entry)) (now (attrs .entry)) buffer held (start .address) n
+        (now (cells .entry)) r (now (cells .exit)) ⌝ }
 {
     if fetch::one_run(buffer, start, n) {
         let from = start.address as usize;
@@ -139,7 +135,7 @@ fn half(table: &mut [u8], s: video::Scene, here: bool)
 // A scan line's table by mark. In a half the cursor is the same for all, so that the compiler makes vectors of it.
 pub fn looks(table: &mut [u8], s: video::Scene)
     requires { ⌜ (128 ≤ length (now table)) × (s .blank < 4) ⌝ }
-    ensures { λ _. ⌜ now (table .exit) ≡ tab 128 (levelsOf s) ++ drop 128 (now (table .entry)) ⌝ }
+    ensures { λ _. ⌜ now (table .exit) ≡ looksPut s (now (table .entry)) ⌝ }
 {
     half(table, s, false);
     half(&mut table[64..], s, true);
@@ -148,7 +144,7 @@ pub fn looks(table: &mut [u8], s: video::Scene)
 // Those of n scan lines, end to end.
 pub fn fill_looks(table: &mut [u8], b: board::Board, field: u8, n: units::Lines)
     requires { ⌜ (n .0 ≤ 16) × (n .0 * 128 ≤ length (now table)) ⌝ }
-    ensures { λ _. ⌜ now (table .exit) ≡ joined 0 (n .0) (levelsAt b field) ++ drop (n .0 * 128) (now (table .entry)) ⌝ }
+    ensures { λ _. ⌜ now (table .exit) ≡ looksFilled b field (n .0) (now (table .entry)) ⌝ }
 {
     let count = n.places();
     let mut s: usize = 0;
@@ -198,8 +194,7 @@ pub fn fill_words(
     d: usize,
 )
     requires { ⌜ (length (now words) ≡ 1152) × (length (now flags) ≡ 128) × (n .0 ≤ 16) × (n .0 * 256 ≤ length (now table)) ⌝ }
-    ensures { λ _. ⌜ now (table .exit)
-        ≡ joined 0 (n .0) (wordsAt (lentFont words flags unshifted shifted) d) ++ drop (n .0 * 256) (now (table .entry)) ⌝ }
+    ensures { λ _. ⌜ now (table .exit) ≡ wordsFilled (lentFont words flags unshifted shifted) (n .0) d (now (table .entry)) ⌝ }
 {
     let count = n.places();
     let mut s: usize = 0;

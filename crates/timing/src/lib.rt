@@ -1,4 +1,4 @@
-// The initialization registers decoded into counts (003 Table 2), the page check, and the size of a page's picture.
+// The registers decoded into counts (003 Table 2), the page check, and the size of a picture.
 ghost use mathlib.Core.Path.{_≡_};
 ghost use mathlib.Core.List.{[], _∷_};
 ghost use Prim.Native.Nat.{_/_, _%_};

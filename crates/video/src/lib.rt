@@ -1,4 +1,4 @@
-// The attributes controller (000): from a cell's attributes and the cursor gate to its levels, black, gray and white.
+// The attributes controller (000): from attributes and cursor to black, gray and white.
 ghost use mathlib.Core.Path.{_≡_};
 ghost use mathlib.Core.Bool.{xor};
 ghost use Prim.Native.Nat.{_≤_, _<_};
