@@ -1,3 +1,4 @@
+-- Rests on by-rule: the line of 000 Table 1 that the code reads gives the levels of the rule.
 use Prim.Native.Nat.{ℕ}
 use mathlib.Core.Path.{_≡_, ap, _∙_}
 use mathlib.Core.Bool.{Bool, true, false, xor}
@@ -28,8 +29,15 @@ returns c = blank _ _ _ (not-true _ (c .if1 .taken))
 
 returns-2 : tie.Need-returns-2
 returns-2 c =
-    let left = c .before .before .before .before .before .before .before .before .before .before .before in
-    shown (left .before .before .args .s) _ _ (not-false _ (left .if1 .left)) _ (cc) (c .before .before .before .before .table-1 .result) (cc)
+    let told = c .before .before .before .before in
+    let reversed = told .before .before in
+    let tested = reversed .before .before in
+    let left = tested .before .before .before in
+    shown (left .before .before .args .s) _ _ (not-false _ (left .if1 .left))
+    _ (rw (c .before .has6 .ensures, c .before .before .before .has5 .ensures))
+    (told .table-1 .result)
+    (told .table-1 .ensures
+    ∙ rw (told .before .exclusive .ensures, reversed .has4 .ensures, tested .has3 .ensures, tested .before .has2 .ensures, tested .before .before .has .ensures))
 
 pub look-of-spec : {M : Type 1} → statement M
 look-of-spec =
