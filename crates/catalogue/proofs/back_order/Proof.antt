@@ -1,3 +1,4 @@
+-- Rests on the tests in their order: 16, 19, 18.
 use mathlib.Core.Path.{refl, sym, ap, _∙_}
 use mathlib.Core.Bool.{not}
 use borrow.Author.Needs.{needs}

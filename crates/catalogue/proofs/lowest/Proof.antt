@@ -1,3 +1,4 @@
+-- Rests on the invariant: a is the lowest place that is left, and the cells from there to x have no mark.
 use Prim.Native.Nat.{_+_, _-_, _<_}
 use native.Mathlib.Omega.{arith}
 use borrow.Author.Tests.{ltb-true}

@@ -1,3 +1,4 @@
+-- Rests on the invariant: the cells marked so far, and the one that comes next.
 use Prim.Native.Nat.{_-_, _≤_}
 use mathlib.Core.Path.{_≡_, refl, sym, ap, _∙_}
 use native.Mathlib.Omega.{arith}

@@ -1,3 +1,4 @@
+-- Rests on place-found: the search over the marks gives the place of the definition.
 use Prim.Native.Nat.{_*_, _≤_}
 use native.Mathlib.Nat.{mul-le-mul}
 use native.Mathlib.Omega.{arith}

@@ -1,3 +1,4 @@
+-- Rests on the invariant: the entries put so far, and where the next row starts.
 use Prim.Native.Nat.{ℕ, _+_, _-_, _*_, _≤_, _<_}
 use mathlib.Core.Path.{_≡_, refl, sym, ap, _∙_}
 use mathlib.Core.List.{_++_}

@@ -1,3 +1,4 @@
+-- Rests on the invariant: whether a row so far does not begin where the one before it ended.
 use Prim.Native.Nat.{_-_, _≤_, _<_}
 use mathlib.Core.Path.{_≡_, refl}
 use native.Mathlib.Omega.{arith}

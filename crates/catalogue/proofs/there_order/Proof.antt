@@ -1,3 +1,4 @@
+-- Rests on the tests in their order: 16, 19, 17.
 use Prim.Native.Nat.{_*_, _≤_}
 use mathlib.Core.Path.{refl, sym, _∙_}
 use native.Mathlib.Omega.{arith}

@@ -1,3 +1,4 @@
+-- Rests on there-passed for what the callees ask, on there-moved and there-kept for the answer.
 use Prim.Native.Nat.{_+_, _≤_, _<_}
 use mathlib.Core.Path.{_≡_, _∙_}
 use native.Mathlib.Omega.{arith}

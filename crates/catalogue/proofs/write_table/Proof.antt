@@ -1,3 +1,4 @@
+-- Rests on table-written: the part put in its place is the memory with the table.
 use native.Mathlib.Omega.{arith}
 use borrow.Author.Needs.{needs}
 use lib.ListN.{length-take, length-drop}

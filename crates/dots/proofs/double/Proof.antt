@@ -1,3 +1,4 @@
+-- Rests on the pairs before it; with an odd count first-put adds the last dot.
 use Prim.Native.Nat.{ℕ, _+_, _*_, _/_}
 use mathlib.Core.Path.{_≡_, ap, _∙_}
 use mathlib.Core.List.{_++_}

@@ -1,3 +1,4 @@
+-- Rests on stored-eight: eight bytes, one after the other, are those of the number.
 use native.Mathlib.Omega.{arith}
 use borrow.Author.Needs.{needs}
 use lib.ListN.{length-set}

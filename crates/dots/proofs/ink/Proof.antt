@@ -1,3 +1,4 @@
+-- Rests on the ranges of the index: masks, surrounds, changes.
 use mathlib.Core.Path.{refl, ap}
 use Prim.Native.Nat.{ℕ, _*_}
 use native.Mathlib.Omega.{arith}

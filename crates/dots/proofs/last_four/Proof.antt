@@ -1,3 +1,4 @@
+-- Rests on last-put: the last four dots, put over the end, with the cell in front of them.
 use borrow.Author.Needs.{needs}
 use Rattle.dots.specs.Last.{four-ones, four-shades, last-put}
 use Rattle.dots.proofs.last_four.Statement.{statement}

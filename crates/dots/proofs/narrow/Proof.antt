@@ -1,3 +1,4 @@
+-- Rests on overlapped: four bytes and the last four, which overlap them.
 use borrow.Author.Needs.{needs}
 use Rattle.dots.specs.Overlap.{overlapped, narrowed}
 use Rattle.dots.proofs.narrow.Statement.{statement}

@@ -1,3 +1,4 @@
+-- Rests on the invariant: after i turns 2 i dots stand at the front.
 use Prim.Native.Nat.{ℕ, _+_, _-_, _*_, _<_, _≤_}
 use mathlib.Core.Path.{_≡_, refl, ap, _∙_}
 use mathlib.Core.List.{_++_}

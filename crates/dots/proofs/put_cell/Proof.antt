@@ -1,3 +1,4 @@
+-- Rests on the three ways to store a cell, chosen by its width and by whether it is stored tight.
 use native.Mathlib.Omega.{arith}
 use borrow.Author.Needs.{needs}
 use Rattle.dots.specs.Inks.{reach-broad, reach-tight, reach-eight, put-broad, put-narrow}

@@ -1,3 +1,4 @@
+-- Rests on stored-shades for the first eight dots, and on eight-last for those beyond.
 use Prim.Native.Nat.{ℕ, _≤_}
 use mathlib.Core.Path.{_≡_, ap, _∙_}
 use mathlib.Core.List.{List, _++_}

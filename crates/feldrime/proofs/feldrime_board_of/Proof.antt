@@ -1,3 +1,4 @@
+-- Rests on numbers-passed: accepted numbers have a page at their front.
 use mathlib.Core.Path.{_∙_}
 use native.Mathlib.Omega.{arith}
 use borrow.Author.Needs.{needs}

@@ -1,3 +1,4 @@
+-- Rests on numbers-all: numbers that are not refused have a page at their front.
 use mathlib.Core.Path.{refl, sym, ap, _∙_}
 use native.Mathlib.Omega.{arith}
 use borrow.Author.Needs.{needs}

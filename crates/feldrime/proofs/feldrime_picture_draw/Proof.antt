@@ -1,3 +1,4 @@
+-- Rests on three and taken: 3 for the numbers, else what draw_picture answers.
 use mathlib.Core.Path.{sym, _∙_}
 use native.Mathlib.Omega.{arith}
 use borrow.Author.Needs.{needs}

@@ -1,3 +1,4 @@
+-- Rests on count-small, for the cast; 3 for the numbers, else what row_cells answers.
 use Prim.Native.Nat.{_≤_}
 use mathlib.Core.Path.{refl, sym, _∙_}
 use native.Mathlib.Omega.{arith}

@@ -1,3 +1,4 @@
+-- Rests on the bounds of the span, for the casts; 3 for the numbers, else the span.
 use mathlib.Core.Path.{refl, sym, ap, _∙_}
 use native.Mathlib.Omega.{arith}
 use borrow.Author.Needs.{needs}

@@ -1,3 +1,4 @@
+-- Rests on three and taken: 3 for the numbers, else what to_sheet answers and put_page leaves.
 use mathlib.Core.Path.{_≡_, sym, ap, _∙_}
 use native.Mathlib.Omega.{arith}
 use borrow.Author.Needs.{needs}

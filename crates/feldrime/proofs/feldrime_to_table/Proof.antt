@@ -1,3 +1,4 @@
+-- Rests on the test of the numbers: 3, else what to_table answers and put_page leaves.
 use mathlib.Core.Path.{_≡_, refl, sym, ap, _∙_}
 use native.Mathlib.Omega.{arith}
 use borrow.Author.Needs.{needs}

@@ -1,3 +1,4 @@
+-- Rests on the callees: each field is one of their answers.
 use borrow.Author.Needs.{needs}
 use Rattle.feldrime.specs.Step.{numbered}
 use Rattle.feldrime.proofs.number_of.Statement.{statement}

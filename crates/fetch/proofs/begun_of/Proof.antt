@@ -1,3 +1,4 @@
+-- Rests on begun-by: of a row of double width half the columns have begun a cell, rounded up.
 use mathlib.Core.Path.{sym, _∙_}
 use borrow.Author.Needs.{needs}
 use Rattle.timing.specs.Fields.{timingOf, countsOf}

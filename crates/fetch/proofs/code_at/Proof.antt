@@ -1,3 +1,4 @@
+-- Rests on the test of IR0[7]: the two bits of the entry, or 0.
 use mathlib.Core.Path.{refl, sym, _∙_}
 use borrow.Author.Needs.{needs}
 use Rattle.lists.specs.Choice.{stop, pass}

@@ -1,3 +1,4 @@
+-- Rests on fetched-by: a row of double width fetches half of HACT, rounded up.
 use mathlib.Core.Path.{sym, _∙_}
 use borrow.Author.Needs.{needs}
 use Rattle.timing.specs.Fields.{timingOf, countsOf}

@@ -1,3 +1,4 @@
+-- Rests on moved-by: two columns a move if the row is of double width; moved-past beyond the last column.
 use mathlib.Core.Path.{sym, _∙_}
 use borrow.Author.Needs.{needs}
 use Rattle.timing.specs.Fields.{timingOf, countsOf}

@@ -1,3 +1,4 @@
+-- Rests on the invariant: the addresses put so far, and the cell that comes next.
 use Prim.Native.Nat.{ℕ, _≤_, _-_}
 use mathlib.Core.Path.{_≡_, refl, ap, _∙_}
 use mathlib.Core.List.{_++_}

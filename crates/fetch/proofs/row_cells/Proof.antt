@@ -1,3 +1,4 @@
+-- Rests on cells-passed for what the callees ask, on cells-given and cells-refused for the answer.
 use Prim.Native.Nat.{_≤_}
 use native.Mathlib.Nat.{le-trans}
 use native.Mathlib.Omega.{arith}

@@ -1,3 +1,4 @@
+-- Rests on run-part: the part from the span of the row is its run.
 use native.Mathlib.Nat.{add-comm}
 use Prim.Native.Nat.{_+_}
 use Rattle.fetch.specs.declared.Span.{Span}

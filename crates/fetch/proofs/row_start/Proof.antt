@@ -1,3 +1,4 @@
+-- Rests on start-table and start-sheet, one for each state of the row table.
 use mathlib.Core.Path.{sym, ap, _∙_}
 use native.Mathlib.Omega.{arith}
 use Rattle.raster.specs.Moves.{cell}

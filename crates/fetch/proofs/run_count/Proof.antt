@@ -1,3 +1,4 @@
+-- Rests on the callee that takes the smaller of two counts, twice.
 use borrow.Author.Needs.{needs}
 use Rattle.raster.specs.Moves.{toLast}
 use Rattle.fetch.specs.Run.{runCount}

@@ -1,3 +1,4 @@
+-- Rests on run-passed: row and memory are as the callees ask; span-small gives the two bounds.
 use Prim.Native.Nat.{ℕ, _+_, _≤_}
 use mathlib.Core.Path.{_≡_}
 use mathlib.Core.Bool.{true}

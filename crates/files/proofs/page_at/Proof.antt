@@ -1,3 +1,4 @@
+-- Rests on the definition: each field is read at its place.
 use Prim.Native.Nat.{_+_}
 use borrow.Author.Needs.{needs}
 use lib.ListN.{getD}

@@ -1,3 +1,4 @@
+-- Rests on bytes-put: registers first, then what stands behind them.
 use mathlib.Core.Path.{_≡_, refl}
 use native.Mathlib.Omega.{arith}
 use borrow.Author.Needs.{needs}

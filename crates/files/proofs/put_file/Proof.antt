@@ -1,3 +1,4 @@
+-- Rests on page-put: the parts, one behind the other, are the file.
 use Prim.Native.Nat.{ℕ}
 use mathlib.Core.Path.{_≡_, ap}
 use mathlib.Core.List.{[], _∷_}

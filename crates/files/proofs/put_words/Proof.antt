@@ -1,3 +1,4 @@
+-- Rests on words-put: the bytes of the words, put back into their part.
 use mathlib.Core.Path.{_∙_}
 use borrow.Author.Needs.{needs}
 use Rattle.lists.specs.Tab.{length-tab}

@@ -1,3 +1,4 @@
+-- Rests on file-passed and file-first: the page is judged once 1, 2 and 3 are passed.
 use mathlib.Core.Path.{_∙_}
 use native.Mathlib.Omega.{arith}
 use borrow.Author.Needs.{needs}

@@ -1,3 +1,4 @@
+-- Rests on font-passed for what the callees ask, on font-done and font-kept for the answer.
 use Prim.Native.Nat.{ℕ}
 use mathlib.Core.Path.{_≡_, ap, _∙_}
 use native.Mathlib.Omega.{arith}

@@ -1,3 +1,4 @@
+-- Rests on read-passed for what the callees ask, on read-done and read-refused for the answer.
 use Prim.Native.Nat.{ℕ}
 use mathlib.Core.Path.{_≡_, ap, _∙_}
 use native.Mathlib.Omega.{arith}

@@ -1,3 +1,4 @@
+-- Rests on the definition: each byte stands at its place.
 use mathlib.Core.List.{[], _∷_}
 use borrow.Author.Needs.{needs}
 use Rattle.files.specs.Page.{tailOf}

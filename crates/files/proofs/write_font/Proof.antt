@@ -1,3 +1,4 @@
+-- Rests on font-write-passed for what the callee asks, on font-write-done for the answer.
 use borrow.Author.Needs.{needs}
 use lib.ListN.{length}
 use Rattle.shape.specs.Font.{Font, fontOf}

@@ -1,3 +1,4 @@
+-- Rests on write-passed for what the callee asks, on write-done and write-refused for the answer.
 use borrow.Author.Needs.{needs}
 use Rattle.refusal.specs.Laws.{done-is, checked}
 use Rattle.files.specs.Laws.{write-passed, write-done, write-refused}

@@ -1,3 +1,4 @@
+-- Rests on the invariant: what is valid before the row left is what is valid before the row asked for.
 use Prim.Native.Nat.{ℕ, _-_, _≤_}
 use mathlib.Core.Path.{_≡_, refl, sym, _∙_}
 use mathlib.Core.List.{List}

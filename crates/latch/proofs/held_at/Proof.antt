@@ -1,3 +1,4 @@
+-- Rests on held-plain in character mode, found-here for a byte in the row itself, none-here if it has none.
 use Prim.Native.Nat.{ℕ, min}
 use mathlib.Core.Path.{_≡_, sym, _∙_}
 use mathlib.Core.Bool.{true}

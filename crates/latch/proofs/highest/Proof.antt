@@ -1,3 +1,4 @@
+-- Rests on the invariant: no byte so far is above the highest.
 use Prim.Native.Nat.{ℕ, max, _+_, _-_, _≤_, _<_, zero-le}
 use mathlib.Core.Path.{_≡_}
 use mathlib.Core.List.{List}

@@ -1,3 +1,4 @@
+-- Rests on run-part: in one run the row is a part of attribute memory; else the loop goes round.
 use mathlib.Core.Path.{sym, _∙_}
 use native.Mathlib.Omega.{arith}
 use borrow.Author.Needs.{needs}

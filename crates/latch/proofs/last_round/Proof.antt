@@ -1,3 +1,4 @@
+-- Rests on the invariant: the cells passed, from the last one back, set nothing.
 use Prim.Native.Nat.{ℕ, _-_, _≤_, _<_}
 use mathlib.Core.Path.{_≡_, refl, ap}
 use native.Mathlib.Omega.{arith}

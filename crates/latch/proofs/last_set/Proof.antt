@@ -1,3 +1,4 @@
+-- Rests on search-on and search-over, one turn of a search from the end.
 use Prim.Native.Nat.{ℕ, _-_, _≤_, _<_}
 use mathlib.Core.Path.{_≡_, refl, sym}
 use native.Mathlib.Omega.{arith}

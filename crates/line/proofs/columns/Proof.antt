@@ -1,3 +1,4 @@
+-- Rests on drawn-wide, the cells with each dot twice, or on drawn-plain, the cells as they are.
 use Prim.Native.Nat.{_+_, _*_, _/_, _≤_}
 use mathlib.Core.Path.{refl}
 use native.Mathlib.Nat.{mul-le-mul}

@@ -1,3 +1,4 @@
+-- Rests on dots-bound, and on the two tests in their order.
 use Rattle.timing.specs.Laws.{dots-bound}
 use Rattle.timing.specs.Fields.{timingOf, countsOf}
 use Rattle.lists.specs.Choice.{stop, pass}

@@ -1,3 +1,4 @@
+-- Rests on write_cell, and on by-small: a word has ten bits.
 use borrow.Author.Needs.{needs}
 use Rattle.shape.specs.Laws.{by-small}
 use Rattle.line.specs.Walk.{dotsFor}

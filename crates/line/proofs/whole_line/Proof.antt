@@ -1,3 +1,4 @@
+-- Rests on prepared-of: the gathered cells and the looks make the columns of the line.
 use Prim.Native.Nat.{ℕ, _≤_, _<_}
 use mathlib.Core.Path.{_≡_}
 use native.Mathlib.Omega.{arith}

@@ -1,3 +1,4 @@
+-- Rests on mark_all, for the front of the buffer; the line feed stands behind it.
 use Prim.Native.Nat.{ℕ}
 use mathlib.Core.Path.{_≡_, ap}
 use mathlib.Core.List.{List, _++_, map}

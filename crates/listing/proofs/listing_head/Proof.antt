@@ -1,3 +1,4 @@
+-- Rests on head-refused and head-short for the refusals, on head-put for the two numbers.
 use Prim.Native.Nat.{_≤_}
 use mathlib.Core.Path.{_≡_, ap, _∙_}
 use native.Mathlib.Omega.{arith}

@@ -1,3 +1,4 @@
+-- Rests on line-refused for the refusals, on line-put for the line drawn and marked.
 use mathlib.Core.Path.{sym, _∙_}
 use native.Mathlib.Omega.{arith}
 use borrow.Author.Needs.{needs}

@@ -1,3 +1,4 @@
+-- Rests on the loop that turns one byte a turn where it stands (Bytes Turning).
 use Prim.Native.Nat.{_≤_, _-_, zero-le}
 use native.Mathlib.Omega.{arith}
 use borrow.Author.Needs.{needs}

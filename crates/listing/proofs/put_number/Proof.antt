@@ -1,3 +1,4 @@
+-- Rests on the copy of the digits to the front of the part.
 use mathlib.Core.Path.{_≡_}
 use native.Mathlib.Omega.{arith}
 use borrow.Author.Needs.{needs}

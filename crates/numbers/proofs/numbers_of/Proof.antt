@@ -1,3 +1,4 @@
+-- Rests on not-room and not-saved for the refusals; else on the page that was put.
 use mathlib.Core.Path.{_≡_, ap₂, _∙_}
 use mathlib.Core.Bool.{true}
 use borrow.Author.Needs.{needs}

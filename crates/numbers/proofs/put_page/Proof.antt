@@ -1,3 +1,4 @@
+-- Rests on the test: the page is put, or the numbers stay.
 use mathlib.Core.Path.{refl, sym, ap₂, _∙_}
 use borrow.Author.Needs.{needs}
 use lib.ListN.{drop}

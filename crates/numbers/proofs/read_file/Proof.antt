@@ -1,3 +1,4 @@
+-- Rests on read-fits for what the callees ask, on file-read and numbers-kept for the answer.
 use mathlib.Core.Path.{_≡_, refl, ap, _∙_}
 use mathlib.Core.Bool.{Bool, _||_, not}
 use native.Mathlib.Omega.{arith}

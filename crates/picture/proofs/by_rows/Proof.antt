@@ -1,3 +1,4 @@
+-- Rests on made-of and sheet-of: the three tables that were filled are those that draw_rows asks for.
 use native.Mathlib.Omega.{arith}
 use borrow.Author.Needs.{needs}
 use Rattle.shape.specs.Font.{Font, fontOf}

@@ -1,3 +1,4 @@
+-- Rests on the loop whose stores run past the stretch of their turn (Spill); the last cell is stored tight.
 use Prim.Native.Nat.{ℕ, max, _+_, _*_, _-_, _≤_, _<_}
 use mathlib.Core.Path.{_≡_, refl, sym, ap, ap₂, _∙_}
 use mathlib.Core.List.{_++_}

@@ -1,3 +1,4 @@
+-- Rests on drawn-wide, the cells with each dot twice, or on plain-line, the cells as they are.
 use Prim.Native.Nat.{_+_, _*_, _/_, _≤_}
 use native.Mathlib.Nat.{mul-le-mul}
 use native.Mathlib.Omega.{arith}

@@ -1,3 +1,4 @@
+-- Rests on the loop that lends each turn its own stretch (lists Join), one line a turn.
 use Prim.Native.Nat.{ℕ, _+_, _*_, _-_, _≤_, _<_}
 use mathlib.Core.Path.{ap}
 use mathlib.Core.List.{_++_}

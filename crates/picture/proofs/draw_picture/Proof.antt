@@ -1,3 +1,4 @@
+-- Rests on picture-passed: what whole_picture asks follows from the check.
 use mathlib.Core.Path.{_≡_, ap, _∙_}
 use mathlib.Core.Bool.{Bool}
 use borrow.Author.Needs.{needs}

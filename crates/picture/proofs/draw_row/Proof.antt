@@ -1,3 +1,4 @@
+-- Rests on as-row and held-after: the gathered cells make the row, and what is valid after it.
 use Prim.Native.Nat.{ℕ, _<_}
 use native.Mathlib.Omega.{arith}
 use borrow.Author.Needs.{needs}

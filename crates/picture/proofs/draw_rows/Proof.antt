@@ -1,3 +1,4 @@
+-- Rests on the loop that lends each turn its own stretch (lists Join), and on what is valid before each row.
 use Prim.Native.Nat.{_+_, _*_, _-_, _≤_, _<_}
 use mathlib.Core.Path.{_≡_, sym}
 use mathlib.Core.List.{_++_}

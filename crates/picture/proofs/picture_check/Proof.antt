@@ -1,3 +1,4 @@
+-- Rests on check-last and check-first: 8 stands at the end of the list.
 use mathlib.Core.Path.{_∙_}
 use borrow.Author.Needs.{needs}
 use Rattle.refusal.specs.Laws.{done-is, checked}

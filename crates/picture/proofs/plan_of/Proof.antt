@@ -1,3 +1,4 @@
+-- Rests on dots-bound: an accepted page has few enough dots in a line.
 use Prim.Native.Nat.{_*_, _≤_}
 use native.Mathlib.Nat.{mul-le-mul}
 use native.Mathlib.Omega.{arith}

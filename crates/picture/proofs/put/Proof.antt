@@ -1,3 +1,4 @@
+-- Rests on put_cell, for the word and the look of the cell.
 use native.Mathlib.Omega.{arith}
 use borrow.Author.Needs.{needs}
 use Rattle.picture.specs.Plan.{cellDotsOf}

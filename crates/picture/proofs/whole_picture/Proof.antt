@@ -1,3 +1,4 @@
+-- Rests on plan-small; both ways to draw meet the contract.
 use native.Mathlib.Omega.{arith}
 use borrow.Author.Needs.{needs}
 use Rattle.picture.specs.Agree.{plan-small}

@@ -1,3 +1,4 @@
+-- Rests on loaded-first, loaded-again and loaded-on: a row begins, a line of it begins, or neither.
 use Rattle.place.specs.Laws.{loads-row, loaded-first, loaded-again, loaded-on}
 use mathlib.Core.Path.{sym, _∙_}
 use borrow.Author.Needs.{needs}

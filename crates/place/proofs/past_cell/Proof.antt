@@ -1,3 +1,4 @@
+-- Rests on the callees: each part of the definition is one of their answers.
 use borrow.Author.Needs.{needs}
 use Rattle.place.proofs.past_cell.Statement.{statement}
 use Rattle.place.proofs.past_cell.Tie as tie

@@ -1,3 +1,4 @@
+-- Rests on place-at: clock, line and frame are the quotients and remainders of n.
 use Rattle.place.specs.Laws.{place-at}
 use Rattle.timing.specs.Decoded.{ht-pos, vt-pos}
 use borrow.Author.Needs.{needs}

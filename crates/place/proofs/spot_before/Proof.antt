@@ -1,3 +1,4 @@
+-- Rests on the tests: an earlier clock of the line, an earlier line of the frame, or the frame before.
 use Rattle.place.specs.Spot.{spotBefore}
 use Rattle.timing.specs.Fields.{timingOf, countsOf}
 use Rattle.lists.specs.Choice.{stop, pass}

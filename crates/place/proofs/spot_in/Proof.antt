@@ -1,3 +1,4 @@
+-- Rests on the test of the line: a visible one has its own spot, any other that of the last row.
 use Rattle.place.specs.Spot.{spotIn}
 use Rattle.lists.specs.Choice.{stop, pass}
 use mathlib.Core.Path.{sym, _∙_}

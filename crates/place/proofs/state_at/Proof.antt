@@ -1,3 +1,4 @@
+-- Rests on state-whole: what place_at asks follows from the check.
 use mathlib.Core.Path.{_≡_, ap, _∙_}
 use mathlib.Core.Bool.{Bool, false}
 use Rattle.refusal.specs.Laws.{done-is, checked}

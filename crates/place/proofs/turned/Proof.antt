@@ -1,3 +1,4 @@
+-- Rests on turned-clock, turned-line and turned-frame, one for each way to move on.
 use Rattle.place.specs.Laws.{turned-clock, turned-line, turned-frame}
 use mathlib.Core.Path.{sym, _∙_}
 use borrow.Author.Needs.{needs}

@@ -1,3 +1,4 @@
+-- Rests on the two laws of many moves: by-near while the last address is not passed, by-far once it is.
 use mathlib.Core.Path.{_≡_, sym, ap, _∙_}
 use Prim.Native.Nat.{ℕ, _+_, _%_, _^_, _<_}
 use native.Mathlib.Nat.{mod-lt}

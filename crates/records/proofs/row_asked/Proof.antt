@@ -1,3 +1,4 @@
+-- Rests on run-passed for what the callees ask, on asked-row and asked-refused for the answer.
 use mathlib.Core.Path.{ap, _∙_}
 use native.Mathlib.Omega.{arith}
 use borrow.Author.Needs.{needs}

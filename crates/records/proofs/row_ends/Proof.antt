@@ -1,3 +1,4 @@
+-- Rests on the invariant: the lowest and the highest cell so far, and the one that comes next.
 use Prim.Native.Nat.{_-_, _≤_}
 use mathlib.Core.Path.{_≡_, sym, ap, _∙_}
 use native.Mathlib.Omega.{arith}

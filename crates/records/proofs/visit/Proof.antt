@@ -1,3 +1,4 @@
+-- Rests on the tests in their order; visit-on for a record that alters nothing.
 use mathlib.Core.Path.{_≡_, refl, sym, ap, _∙_}
 use mathlib.Core.Bool.{Bool, _&&_}
 use borrow.Author.Needs.{needs}

@@ -1,3 +1,4 @@
+-- Rests on the match: each arm knows the case.
 use borrow.Author.Needs.{needs}
 use Rattle.refusal.proofs.number.Statement.{statement}
 use Rattle.refusal.proofs.number.Tie as tie

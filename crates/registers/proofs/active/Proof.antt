@@ -1,3 +1,4 @@
+-- Rests on the match over addresses: each arm is one case of activeOf.
 use Prim.Native.Nat.{_≤_}
 use mathlib.Core.Path.{refl, ap, _∙_}
 use native.Mathlib.Omega.{arith}

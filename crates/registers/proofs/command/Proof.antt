@@ -1,3 +1,4 @@
+-- Rests on the match over command bytes: each arm is one case of commandOf.
 use mathlib.Core.Path.{refl, ap, _∙_}
 use native.Mathlib.Omega.{arith}
 use borrow.Author.Tests.{eq-eqb, ne-eqb}

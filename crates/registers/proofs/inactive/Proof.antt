@@ -1,3 +1,4 @@
+-- Rests on the ranges of addresses, and on whether the write is a reset.
 use mathlib.Core.Path.{refl, ap, _∙_}
 use native.Mathlib.Omega.{arith}
 use borrow.Author.Needs.{needs}

@@ -1,3 +1,4 @@
+-- Rests on the ranges of addresses: each arm is one case of readAt.
 use mathlib.Core.Path.{refl, ap, _∙_}
 use native.Mathlib.Omega.{arith}
 use borrow.Author.Needs.{needs}

@@ -1,3 +1,4 @@
+-- Rests on the check: passed, the board has the new numbers; else it is the old one.
 use mathlib.Core.Path.{ap, _∙_}
 use borrow.Author.Needs.{needs}
 use Rattle.lists.specs.Choice.{stop, pass}

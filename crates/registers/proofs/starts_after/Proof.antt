@@ -1,3 +1,4 @@
+-- Rests on the match: each arm is one case of startsAfter.
 use borrow.Author.Tests.{ne-eqb}
 use borrow.Author.Needs.{needs}
 use Rattle.registers.specs.Write.{startsAfter}

@@ -1,3 +1,4 @@
+-- Rests on the tests in their order, 12 before 6.
 use mathlib.Core.Path.{refl, sym, _∙_}
 use borrow.Author.Needs.{needs}
 use Rattle.lists.specs.Choice.{stop, pass}

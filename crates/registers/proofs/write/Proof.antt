@@ -1,3 +1,4 @@
+-- Rests on the check, and on whether the board is active; pointer-in gives the range that a load asks for.
 use mathlib.Core.Path.{ap}
 use borrow.Author.Tests.{le-leb, lt-leb}
 use borrow.Author.Needs.{needs}

@@ -1,3 +1,4 @@
+-- Rests on by-plain and by-moved, one for each value of the shift flag.
 use mathlib.Core.Path.{refl, _∙_}
 use native.Mathlib.Omega.{arith}
 use borrow.Author.Tests.{lt-ltb}

@@ -1,3 +1,4 @@
+-- Rests on by-plain and by-moved: one position is enough, in the list that the flag chooses.
 use Prim.Native.Nat.{ℕ, _%_, _≤_}
 use mathlib.Core.Path.{_≡_, refl, ap, _∙_}
 use native.Mathlib.Omega.{arith}

@@ -1,3 +1,4 @@
+-- Rests on the callees: what is valid, the code that is shown, its word and its look.
 use Rattle.step.specs.Shown.{cellShown}
 use borrow.Author.Needs.{needs}
 use Rattle.step.proofs.cell_shown.Statement.{statement}

@@ -1,3 +1,4 @@
+-- Rests on clock-done and clock-refused, by whether something refuses.
 use mathlib.Core.Path.{_≡_, sym, ap, _∙_}
 use mathlib.Core.Bool.{Bool, false}
 use Rattle.refusal.specs.declared.Refusal.{Refusal}

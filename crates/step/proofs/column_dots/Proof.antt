@@ -1,3 +1,4 @@
+-- Rests on column-wide and column-not-wide, by the code of the row.
 use Prim.Native.Nat.{ℕ, _≤_}
 use mathlib.Core.Path.{_≡_, _∙_}
 use mathlib.Core.Bool.{Bool, true, false}

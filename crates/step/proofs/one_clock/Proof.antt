@@ -1,3 +1,4 @@
+-- Rests on in-frame: the counts of the place are in range, so each callee is asked for what it takes.
 use Rattle.step.specs.Laws.{in-frame, address-lt, shown-small, clocked}
 use borrow.Author.Needs.{needs}
 use Rattle.step.proofs.one_clock.Statement.{statement}

@@ -1,3 +1,4 @@
+-- Rests on the tests in their order: 3, the page, the place.
 use mathlib.Core.Path.{refl, ap}
 use mathlib.Core.Bool.{not}
 use Rattle.lists.specs.Choice.{stop, pass}

@@ -1,3 +1,4 @@
+-- Rests on vt-bound, which keeps the sum below 2^32.
 use Rattle.timing.specs.Laws.{vt-bound}
 use Rattle.timing.specs.Fields.{timingOf, countsOf}
 use native.Mathlib.Omega.{arith}

@@ -1,3 +1,4 @@
+-- Rests on the loop that lends each turn its own stretch (lists Join), one scan line a turn.
 use Prim.Native.Nat.{_≤_, _-_, _*_}
 use mathlib.Core.List.{_++_}
 use native.Mathlib.Omega.{arith}

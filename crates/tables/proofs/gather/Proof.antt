@@ -1,3 +1,4 @@
+-- Rests on run-held and run-cells: in one run the buffer is as good as the whole memory.
 use Prim.Native.Nat.{ℕ}
 use mathlib.Core.Path.{sym, ap, _∙_}
 use mathlib.Core.List.{List, _++_}

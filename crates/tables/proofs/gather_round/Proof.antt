@@ -1,3 +1,4 @@
+-- Rests on the invariant: cells put, the cell that comes next, and what is valid before it.
 use Prim.Native.Nat.{_≤_, _<_, _-_, zero-le}
 use mathlib.Core.Path.{_≡_, refl, ap, _∙_}
 use mathlib.Core.List.{_++_}

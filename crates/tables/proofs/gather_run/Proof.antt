@@ -1,3 +1,4 @@
+-- Rests on the invariant: cells put, and what is valid before the next one.
 use Prim.Native.Nat.{_+_, _-_, _≤_, _<_, zero-le}
 use mathlib.Core.Path.{_≡_, refl, ap, sym, _∙_}
 use mathlib.Core.List.{_++_}

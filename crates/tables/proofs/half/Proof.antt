@@ -1,3 +1,4 @@
+-- Rests on the loop that stores one element a turn (lists Tab).
 use Prim.Native.Nat.{_≤_, _-_, zero-le}
 use mathlib.Core.Path.{_≡_, refl}
 use mathlib.Core.List.{_++_}

@@ -1,3 +1,4 @@
+-- Rests on the loop that stores one number a turn (lists Tab), begun behind the codes that show nothing.
 use Prim.Native.Nat.{_≤_, _-_}
 use mathlib.Core.Path.{_≡_, refl}
 use mathlib.Core.List.{_++_}

@@ -1,3 +1,4 @@
+-- Rests on the definition alone: the code spells it out.
 use mathlib.Core.Path.{refl}
 use borrow.Author.Needs.{needs}
 use Rattle.timing.specs.Fields.{bufferOf}

@@ -1,3 +1,4 @@
+-- Rests on the tests: those before did not hold and this one does, so it is the first of the list.
 use borrow.Author.Needs.{needs}
 use Rattle.timing.proofs.first_of.Statement.{statement}
 use Rattle.timing.proofs.first_of.Tie as tie

@@ -1,3 +1,4 @@
+-- Rests on the ranges of EC and HSYNC, which keep each product and sum below 2^32.
 use native.Mathlib.Omega.{arith}
 use borrow.Author.Needs.{needs}
 use Rattle.timing.proofs.ht_of.Statement.{statement}

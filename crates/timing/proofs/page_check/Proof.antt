@@ -1,3 +1,4 @@
+-- Rests on the callees: each test of the list is one of their answers.
 use mathlib.Core.Path.{refl}
 use borrow.Author.Needs.{needs}
 use Rattle.timing.specs.Check.{pageCheck}

@@ -1,3 +1,4 @@
+-- Rests on dots-bound: an accepted page has few enough dots in a line.
 use mathlib.Core.Path.{_≡_}
 use native.Mathlib.Omega.{arith}
 use borrow.Author.Needs.{needs}

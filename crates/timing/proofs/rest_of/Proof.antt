@@ -1,3 +1,4 @@
+-- Rests on the ranges of HACT, HSYNC and HBP, which keep the sum below 2^32.
 use native.Mathlib.Omega.{arith}
 use borrow.Author.Needs.{needs}
 use Rattle.timing.proofs.rest_of.Statement.{statement}

@@ -1,3 +1,4 @@
+-- Rests on the callees: each test of the definition is one of their answers.
 use Rattle.timing.specs.Check.{stateRefused}
 use borrow.Author.Needs.{needs}
 use Rattle.timing.proofs.state_refused.Statement.{statement}

@@ -1,3 +1,4 @@
+-- Rests on visible-bound and vsync-bound, which keep the sum below 2^32.
 use Prim.Native.Nat.{_/_, _%_}
 use Rattle.timing.specs.Fields.{ir}
 use Rattle.timing.specs.Laws.{visible-bound, vsync-bound}

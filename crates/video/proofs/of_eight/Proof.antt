@@ -1,3 +1,4 @@
+-- Rests on the callee, seven times: a pair, then pairs of pairs.
 use borrow.Author.Needs.{needs}
 use Rattle.video.specs.Table.{ofEight}
 use Rattle.video.proofs.of_eight.Statement.{statement}

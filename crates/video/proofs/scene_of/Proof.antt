@@ -1,3 +1,4 @@
+-- Rests on the callees: each field of the scene is one of their answers.
 use Rattle.video.specs.Scene.{sceneOf}
 use Rattle.timing.specs.Fields.{cursorOf}
 use native.Mathlib.Omega.{arith}

@@ -1,3 +1,4 @@
+-- Rests on read: the nineteen lines, column by column, come to the line decided (by-columns).
 use borrow.Author.Needs.{needs}
 use Rattle.video.specs.Table.{table1, read}
 use Rattle.video.proofs.table_1.Statement.{statement}

@@ -1,3 +1,4 @@
+-- Rests on head-within and line-within: the buffer has room for the head and for every line.
 use mathlib.Core.Bool.{Bool, true}
 use lib.Dec.{ltb}
 use Rattle.units.specs.declared.Lines.{Lines}

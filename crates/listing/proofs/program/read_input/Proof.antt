@@ -1,3 +1,4 @@
+-- Rests on the invariant: what is read so far fits the buffer, whose length stays.
 use Prim.Native.Nat.{ℕ, _+_, _-_, _≤_}
 use mathlib.Core.Path.{_≡_, sym, _∙_}
 use mathlib.Core.List.{List, _++_}

@@ -1,3 +1,4 @@
+-- Rests on font-refused and font-wrote.
 use borrow.Author.Needs.{needs}
 use Rattle.promises.specs.Again.{font-refused, font-wrote}
 use Rattle.promises.proofs.again.font_again.Statement.{statement}

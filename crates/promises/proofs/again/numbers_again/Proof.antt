@@ -1,3 +1,4 @@
+-- Rests on not-made, not-written and numbers-read, one for each way out.
 use borrow.Author.Needs.{needs}
 use Rattle.promises.specs.Numbers.{not-made, not-written, numbers-read}
 use Rattle.promises.proofs.again.numbers_again.Statement.{statement}

@@ -1,3 +1,4 @@
+-- Rests on page-refused and page-wrote.
 use borrow.Author.Needs.{needs}
 use Rattle.promises.specs.Again.{page-refused, page-wrote}
 use Rattle.promises.proofs.again.page_again.Statement.{statement}

@@ -1,3 +1,4 @@
+-- Rests on not-moved and moved-back.
 use borrow.Author.Needs.{needs}
 use Rattle.promises.specs.Moved.{not-moved, moved-back}
 use Rattle.promises.proofs.moved.there_and_back.Statement.{statement}

@@ -1,3 +1,4 @@
+-- Rests on run-inside: the part lies in memory; run-is and start-is say which it is.
 use mathlib.Core.Path.{refl}
 use native.Mathlib.Nat.{add-comm}
 use native.Mathlib.Omega.{arith}

@@ -1,3 +1,4 @@
+-- Rests on not-made and numbers-again.
 use borrow.Author.Needs.{needs}
 use Rattle.promises.specs.Saved.{not-made, numbers-again}
 use Rattle.promises.proofs.saved.numbers_saved.Statement.{statement}

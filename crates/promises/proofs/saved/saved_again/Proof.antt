@@ -1,3 +1,4 @@
+-- Rests on board-refused and board-again.
 use mathlib.Core.Path.{_≡_}
 use borrow.Author.Needs.{needs}
 use lib.ListN.{length}

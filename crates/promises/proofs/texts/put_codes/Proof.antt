@@ -1,3 +1,4 @@
+-- Rests on the loop that stores one code a turn (lists Tab).
 use Prim.Native.Nat.{ℕ, _≤_, _<_, _-_}
 use mathlib.Core.Path.{_≡_, refl, ap, _∙_}
 use mathlib.Core.List.{_++_}

@@ -1,3 +1,4 @@
+-- Rests on text-put and text-kept, by whether there is room.
 use native.Mathlib.Omega.{arith}
 use borrow.Author.Needs.{needs}
 use Rattle.promises.specs.Texts.{readable, text-put, text-kept}

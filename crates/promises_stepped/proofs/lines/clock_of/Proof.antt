@@ -1,3 +1,4 @@
+-- Rests on frames-fit and clocks-fit, which keep the clock below 2^32.
 use native.Mathlib.Omega.{arith}
 use borrow.Author.Needs.{needs}
 use Rattle.promises_stepped.specs.Lines.{frames-fit, frames-line, clocks-fit, clock-is}

@@ -1,3 +1,4 @@
+-- Rests on the order of refusals: the numbers, what is lent, the page, the line, the room.
 use mathlib.Core.Path.{_∙_}
 use native.Mathlib.Omega.{arith}
 use borrow.Author.Needs.{needs}

@@ -1,3 +1,4 @@
+-- Rests on line_answer for the refusals and on step_line for the dots.
 use borrow.Author.Needs.{needs}
 use Rattle.promises_stepped.specs.Asked.{kept, steppable, stepped}
 use Rattle.promises_stepped.proofs.lines.line_by_steps.Statement.{statement}

@@ -1,3 +1,4 @@
+-- Rests on the loop that lends each turn its own stretch (lists Join), one step a turn from the state.
 use Prim.Native.Nat.{ℕ, _+_, _≤_, _<_, _-_, _*_}
 use mathlib.Core.Path.{_≡_}
 use mathlib.Core.List.{_++_}

@@ -1,3 +1,4 @@
+-- Rests on moved-drawn: a move, refused or not, leaves the picture.
 use borrow.Author.Needs.{needs}
 use Rattle.promises_stepped.specs.Moved.{moved-drawn}
 use Rattle.promises_stepped.proofs.moved.moved_over_picture.Statement.{statement}

@@ -1,3 +1,4 @@
+-- Rests on table-stepped and sheet-stepped.
 use borrow.Author.Needs.{needs}
 use Rattle.promises_stepped.specs.Moved.{table-stepped, sheet-stepped}
 use Rattle.promises_stepped.proofs.moved.moved_step.Statement.{statement}

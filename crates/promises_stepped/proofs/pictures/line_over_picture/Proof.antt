@@ -1,3 +1,4 @@
+-- Rests on place-in: the line that is drawn stood at its place already.
 use Prim.Native.Nat.{_+_, _*_, _≤_}
 use mathlib.Core.Path.{_≡_, sym, ap, _∙_}
 use native.Mathlib.Omega.{arith}
