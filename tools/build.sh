@@ -2,7 +2,7 @@
 # main, "$listing_archive". Each works only where its file is missing or older than a source.
 root=$(cd "$(dirname "${BASH_SOURCE[0]}")/.." && pwd)
 archive=$root/target/staticlib/libfeldrime.a
-listing_archive=$root/target/staticlib/liblisting.a
+listing_archive=$root/target/staticlib/liblisting_program.a
 
 needed() {  # needed CRATE: how many crates of crates.txt are proved for it, itself too
     awk -v crate="$1" -F '[: ]+' '
@@ -52,5 +52,5 @@ build_archive() {
 }
 
 build_listing_archive() {
-    prove "$listing_archive" listing "the listing program"
+    prove "$listing_archive" listing_program "the listing program"
 }

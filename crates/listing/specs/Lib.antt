@@ -5,4 +5,3 @@ pub mod Bytes
 pub mod Answers
 pub mod Head
 pub mod Line
-pub mod Whole

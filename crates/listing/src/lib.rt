@@ -1,7 +1,4 @@
-// 01's listing as bytes, line by line, and the program that prints it.
-mod program;
-
-pub use program::feldrime_listing;
+// 01's listing as bytes, line by line.
 ghost use mathlib.Core.Path.{_≡_};
 ghost use mathlib.Core.List.{[], _∷_, _++_, map};
 ghost use Prim.Native.Nat.{_+_, _-_, _≤_, _<_};

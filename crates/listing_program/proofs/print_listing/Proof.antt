@@ -2,17 +2,17 @@
 use mathlib.Core.Bool.{Bool, true}
 use lib.Dec.{ltb}
 use Rattle.units.specs.declared.Lines.{Lines}
-use Rattle.listing.specs.Whole.{lines-small}
+use Rattle.listing_program.specs.Whole.{lines-small}
 use Prim.Native.Nat.{_-_, _<_}
 use mathlib.Core.Path.{_≡_, sym, _∙_}
 use native.Mathlib.Omega.{arith}
 use borrow.Author.Needs.{needs}
 use borrow.Author.Tests.{ltb-true}
 use lib.ListN.{length}
 use Rattle.listing.specs.Head.{head-within}
 use Rattle.listing.specs.Line.{line-within}
-use Rattle.listing.proofs.program.print_listing.Statement.{statement}
-use Rattle.listing.proofs.program.print_listing.Tie as tie
+use Rattle.listing_program.proofs.print_listing.Statement.{statement}
+use Rattle.listing_program.proofs.print_listing.Tie as tie
 
 abbrev Inv-loop : tie.InvT-loop
 Inv-loop b chars attrs words flags unshifted shifted out₀ shown line₀ out line = length out ≡ 3073

@@ -1,8 +1,8 @@
 use native.Mathlib.Omega.{arith}
 use borrow.Author.Needs.{needs}
 use lib.ListN.{length-take}
-use Rattle.listing.proofs.program.print.Statement.{statement}
-use Rattle.listing.proofs.program.print.Tie as tie
+use Rattle.listing_program.proofs.print.Statement.{statement}
+use Rattle.listing_program.proofs.print.Tie as tie
 
 slice-aggregate-write-all : tie.Need-slice-aggregate-write-all
 slice-aggregate-write-all c = simp length-take (omega arith)

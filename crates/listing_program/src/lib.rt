@@ -1,10 +1,10 @@
-// The listing program but for C's `main` (programs/listing): a page file, then a font file, from standard input; the listing or the refusal to
-// standard output.
-use crate::Listed;
-use crate::listing_head;
-use crate::listing_line;
+// The listing program but for C's `main` (programs/listing). It reads a page file, then a font file, from standard input
+// and writes the listing or the refusal to standard output.
 use libc::STDIN_FILENO;
 use libc::STDOUT_FILENO;
+use listing::Listed;
+use listing::listing_head;
+use listing::listing_line;
 ghost use Prim.Native.Nat.{_≤_};
 ghost use lib.ListN.{length};
 ghost use Rattle.io.specs.Counts.{Counts};

@@ -7,12 +7,12 @@ use borrow.Author.Needs.{needs}
 use lib.ListN.{length, take, drop, length-take, length-drop}
 use lib.Seq.{length-take-le}
 use Rattle.io.specs.Counts.{Counts}
 use Rattle.listing.specs.Bytes.{length-lent}
-use Rattle.listing.proofs.program.read_input.Statement.{statement}
-use Rattle.listing.proofs.program.read_input.Tie as tie
-use Rattle.listing.proofs.program.read_input.Reads as reads
-use Rattle.listing.proofs.program.read_input.Lts as lts
-use Rattle.listing.proofs.program.read_once.Reads as read-once-reads
+use Rattle.listing_program.proofs.read_input.Statement.{statement}
+use Rattle.listing_program.proofs.read_input.Tie as tie
+use Rattle.listing_program.proofs.read_input.Reads as reads
+use Rattle.listing_program.proofs.read_input.Lts as lts
+use Rattle.listing_program.proofs.read_once.Reads as read-once-reads
 
 abbrev Inv-loop : tie.InvT-loop
 Inv-loop buf₀ count₀ buf count = (count ≤ length buf) × (length buf ≡ length buf₀)

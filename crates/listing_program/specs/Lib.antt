@@ -1,0 +1,2 @@
+-- The listing program: what it asks for is never refused.
+pub mod Whole
