@@ -1,4 +1,4 @@
-//! Reads scripts and prints this program's own answers, in the form that tests/SCRIPTS.md gives.
+//! Reads scripts and prints this program's own answers, in the form that tests/scripts/SCRIPTS.md gives.
 
 use std::io::{BufRead, Write};
 

@@ -1,4 +1,4 @@
-//! tests/SCRIPTS.md: the generator, sums, a board as text, and the buffers that a script lends.
+//! tests/scripts/SCRIPTS.md: the generator, sums, a board as text, and the buffers that a script lends.
 
 use std::collections::BTreeMap;
 

@@ -107,7 +107,7 @@ draw 124 "" "$work/out/a.png" timeout 0.3 env PATH="$work/bin:$PATH"
 [ "$(< "$work/out/a.png")" = old ] || say "a program that was stopped replaced the file"
 only a.png
 rm "$work/bin/pnmtopng"
-"$cc" -std=gnu11 -Iinclude -o "$work/stopped" programs/*.c tests/stopped.c "$archive"
+"$cc" -std=gnu11 -Iinclude -o "$work/stopped" programs/*.c tests/command/stopped.c "$archive"
 ends 143 "" "${runner[@]}" "$work/stopped" draw "$page" "$font" "$work/out/a.png"
 pngtopnm "$work/out/a.png" > /dev/null 2>&1 || say "stopped while it wrote, it left half a file"
 only a.png

@@ -34,7 +34,7 @@ for sample in samples/*.page; do
 done
 ! cmp -s <("${runner[@]}" "$example" "$page" "$font" 0) <("${runner[@]}" "$example" "$page" "$font" 16) || say "fields 0 and 16 look alike, so that nothing was tried"
 
-python3 tests/rows.py "${feldrime[@]}" || failed=1
+python3 tests/command/rows.py "${feldrime[@]}" || failed=1
 
 ends 0 "fr.page: a page of 19 rows and 48 columns, 384 x 266 dots" "${feldrime[@]}" check "$page"
 [[ $said != *"field mode"* ]] || say "a page in character mode is told as one in field mode"

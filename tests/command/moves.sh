@@ -1,5 +1,5 @@
 # Sourced by tests/feldrime: catalogue and sheet, which make a typed sheet a page with a row table, and back.
-python3 tests/moves.py "${feldrime[@]}" || failed=1
+python3 tests/command/moves.py "${feldrime[@]}" || failed=1
 
 alike() {  # alike PAGE MOVED: both have the same picture in some fields, and the same cells and text, which `rows` tells behind a row's origin
     local field

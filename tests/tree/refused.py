@@ -6,8 +6,8 @@ the prover, or says that the old proof no longer fits the edited code, the log d
 slip out. REASONS has the prover's words for these. An error of any other kind counts as a fact, so that a new way of
 failing has to be added here.
 
-tests/refused.samples has the prover's own words, each under the reason that has to be found in them. So this program is
-tried each time it runs, and each pattern has a sample."""
+tests/tree/refused.samples has the prover's own words, each under the reason that has to be found in them. So this
+program is tried each time it runs, and each pattern has a sample."""
 import re
 import sys
 from pathlib import Path
@@ -30,7 +30,7 @@ REASONS = {
         (LINE, r'but this has type `tie\.Need-'),
     ],
 }
-SAMPLES = Path('tests/refused.samples')
+SAMPLES = Path('tests/tree/refused.samples')
 
 
 def first_error(log):  # the line, and the same with what is indented below it

@@ -1,7 +1,7 @@
 # Sourced by tests/feldrime: the web site, whole and with pages that cannot be shown; and what the scripts say where something is missing.
 site=$work/site
 ends 0 "$site/index.html" "${feldrime[@]}" site "$font" "$site" samples/*.page
-python3 tests/site.py "$site" "${runner[@]}" "$example" || failed=1
+python3 tests/command/site.py "$site" "${runner[@]}" "$example" || failed=1
 
 shows() {  # shows FILE TEXT: a file of the site has this text
     grep -qF -- "$2" "$site/$1" || say "$1 does not say: $2"

@@ -7,7 +7,7 @@ import itertools
 import pathlib
 import re
 
-SAMPLES = pathlib.Path(__file__).resolve().parent.parent / "samples"
+SAMPLES = pathlib.Path(__file__).resolve().parents[2] / "samples"
 MEMORY = 16384
 SIZES = ["", "wide", "top", "bottom"]  # by a row's code
 LANGUAGES = ["en", "de", "fr", "it", "sl"]  # in the catalogue's order

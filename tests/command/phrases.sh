@@ -1,5 +1,5 @@
 # Sourced by tests/feldrime: lists of phrases, by which rows names a row's phrase and site decides which pages it shows.
-python3 tests/phrases.py "${feldrime[@]}" || failed=1
+python3 tests/command/phrases.py "${feldrime[@]}" || failed=1
 list=$here/samples/catalogue.phrases
 slip=$here/samples/slip-en.page
 site=$work/checked

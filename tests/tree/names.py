@@ -32,7 +32,7 @@ modules = {(p.parts[1], p.stem) for p in Path('.').glob('crates/*/specs/*.antt')
 crates = {p.name for p in Path('crates').iterdir()}
 edits = {p.stem for p in Path('.').glob('crates/*/must-fail/*.edit')}
 literals = {m for _, m in found(r'"([\w{}-]+)"', 'tests/independent/src/*.rs') if not m.startswith('{')}
-literals |= set(re.findall(r'`([\w-]+)`', Path('tests/SCRIPTS.md').read_text()))
+literals |= set(re.findall(r'`([\w-]+)`', Path('tests/scripts/SCRIPTS.md').read_text()))
 laws = {name for crate, name in defined if crate == 'agreement'}
 anywhere = {name for _, name in defined | functions | types | modules} | crates | edits
 

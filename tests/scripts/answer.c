@@ -1,4 +1,4 @@
-/* Answers scripts of calls (tests/SCRIPTS.md) through the library's archive: answer [exact|edge] < SCRIPTS
+/* Answers scripts of calls (tests/scripts/SCRIPTS.md) through the library's archive: answer [exact|edge] < SCRIPTS
    Lent buffers stand between guard bytes. With `exact` each is an allocation of its own size, for valgrind; with `edge` each ends where
    memory that cannot be touched begins, so that a read past the end stops the program on any machine. */
 #define _DEFAULT_SOURCE

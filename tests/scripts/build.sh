@@ -1,4 +1,5 @@
-# Sourced from the repository's folder, after tools/x86.sh: `build_independent` builds "$independent" where it is missing or older than a source.
+# Sourced from the repository's folder, after tools/x86.sh: `build_independent` builds "$independent" where it is
+# missing or older than a source.
 out=target/tests
 independent=$out/independent
 

@@ -1,5 +1,5 @@
-# Samples for tests/probes.py: each function's name begins with what has to be found there. Names stand at the start of
-# a line, and jumps go to labels that leave no symbol.
+# Samples for tests/code/probes.py: each function's name begins with what has to be found there. Names stand at the
+# start of a line, and jumps go to labels that leave no symbol.
         .section .note.GNU-stack,"",@progbits
         .text
         .globl  none_pages, none_loops, loop_entry, loop_far, loop_test, loop_tail, loop_return, loop_table
