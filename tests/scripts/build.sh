@@ -1,5 +1,5 @@
 # Sourced from the repository's folder, after tools/x86.sh: `build_independent` builds "$independent" where it is
-# missing or older than a source.
+# missing or older than a source; `build_answer` builds the program that answers scripts through the library.
 out=target/tests
 independent=$out/independent
 
@@ -10,4 +10,8 @@ build_independent() {
     need rustc rustc  # written for Rust 1.63, which Debian 12 has
     mkdir -p "$out"
     rustc -O --edition 2021 -o "$independent" tests/independent/src/main.rs
+}
+
+build_answer() {  # build_answer FILE LIBRARY: an archive, or an object that has all of the library
+    "$cc" -std=c11 -O2 -Wall -Wextra -Werror -I include -o "$1" tests/scripts/answer/*.c "$2"
 }
