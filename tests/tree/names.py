@@ -30,7 +30,8 @@ functions = found(r'\bfn (\w+)', 'crates/*/src/*.rt')
 types = found(r'\b(?:struct|enum) (\w+)', 'crates/*/src/*.rt')
 modules = {(p.parts[1], p.stem) for p in Path('.').glob('crates/*/specs/*.antt')}
 crates = {p.name for p in Path('crates').iterdir()}
-edits = {p.stem for p in Path('.').glob('crates/*/must-fail/*.edit')}
+edits = {p.stem for p in Path('.').glob('crates/*/must-fail/*.edit')} - {'together'}
+edits |= {m for _, m in found(r'^# (\w+), \w+: ', 'crates/*/must-fail/together.edit')}
 literals = {m for _, m in found(r'"([\w{}-]+)"', 'tests/independent/src/*.rs') if not m.startswith('{')}
 literals |= set(re.findall(r'`([\w-]+)`', Path('tests/scripts/SCRIPTS.md').read_text()))
 laws = {name for crate, name in defined if crate == 'agreement'}
