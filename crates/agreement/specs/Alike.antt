@@ -93,65 +93,65 @@ changed p irs s t = record {
 
 -- registers that differ in IR2[7] at most
 pub record Same (irs irs′ : List ℕ) : Type 0 where
-  pub others : (n : ℕ) → (n ≡ 2 → ⊥) → ir irs n ≡ ir irs′ n
-  pub low : ir irs 2 % 128 ≡ ir irs′ 2 % 128
+  pub others : (n : ℕ) → (n ≡ 2 → ⊥) → getD irs n 0 ≡ getD irs′ n 0
+  pub low : getD irs 2 0 % 128 ≡ getD irs′ 2 0 % 128
 
-module _ (irs irs′ : List ℕ) (e : Same irs irs′) where
-  at : (n : ℕ) → (n ≡ 2 → ⊥) → ir irs n ≡ ir irs′ n
+module _ (p q : Page) (e : Same (p .irs) (q .irs)) where
+  at : (n : ℕ) → (n ≡ 2 → ⊥) → ir p n ≡ ir q n
   at = e .others
 
-  pub same-counts : countsOf irs ≡ countsOf irs′
+  pub same-counts : countsOf p ≡ countsOf q
   unfolding countsOf
   same-counts =
-      let h : ir irs 2 / 8 % 16 ≡ ir irs′ 2 / 8 % 16 = omega (arith, e .low) in
+      let h : ir p 2 / 8 % 16 ≡ ir q 2 / 8 % 16 = omega (arith, e .low) in
       rw (h, at 0 (λ z. omega (arith, z)), at 1 (λ z. omega (arith, z)), at 3 (λ z. omega (arith, z)), at 4 (λ z. omega (arith, z)), at 5 (λ z. omega (arith, z)), at 7 (λ z. omega (arith, z)))
 
-  pub same-buffer : bufferOf irs ≡ bufferOf irs′
+  pub same-buffer : bufferOf p ≡ bufferOf q
   unfolding bufferOf
   same-buffer = rw (at 8 (λ z. omega (arith, z)), at 9 (λ z. omega (arith, z)))
 
-  pub same-cursor : cursorOf irs ≡ cursorOf irs′
+  pub same-cursor : cursorOf p ≡ cursorOf q
   unfolding cursorOf
   same-cursor = rw (at 6 (λ z. omega (arith, z)), at 7 (λ z. omega (arith, z)))
 
   -- the counts one by one
-  pub same-hact : hactOf irs ≡ hactOf irs′
+  pub same-hact : hactOf p ≡ hactOf q
   same-hact = rw (at 5 (λ z. omega (arith, z)))
 
-  pub same-rows : rowsOf irs ≡ rowsOf irs′
+  pub same-rows : rowsOf p ≡ rowsOf q
   same-rows = rw (at 4 (λ z. omega (arith, z)))
 
-  pub same-lines : linesOf irs ≡ linesOf irs′
+  pub same-lines : linesOf p ≡ linesOf q
   same-lines = rw (at 0 (λ z. omega (arith, z)))
 
   -- what a line's clocks are refused for, and interlace
-  pub same-porches : (backPorchRefused irs ≡ backPorchRefused irs′) × (lineShort irs ≡ lineShort irs′) × (frontPorchRefused irs ≡ frontPorchRefused irs′)
+  pub same-porches : (backPorchRefused p ≡ backPorchRefused q) × (lineShort p ≡ lineShort q) × (frontPorchRefused p ≡ frontPorchRefused q)
   same-porches =
-      let h : ir irs 2 / 8 % 16 ≡ ir irs′ 2 / 8 % 16 = omega (arith, e .low) in
-      let k : ir irs 2 % 8 ≡ ir irs′ 2 % 8 = omega (arith, e .low) in
+      let h : ir p 2 / 8 % 16 ≡ ir q 2 / 8 % 16 = omega (arith, e .low) in
+      let k : ir p 2 % 8 ≡ ir q 2 % 8 = omega (arith, e .low) in
       let one = at 1 (λ z. omega (arith, z)) in
       let five = at 5 (λ z. omega (arith, z)) in
       (rw k, rw (h, k, one, five), rw (h, k, one, five))
 
 -- a page with such registers, and screen starts in range, is accepted as the other is
-pub changed-accepted : (p : Page) (irs′ : List ℕ) (s t : ℕ) → Same (p .irs) irs′ → pageCheck p ≡ Done → s ≤ 16383 → t ≤ 16383 → (codedOf irs′ && not (tableOf irs′)) ≡ false → pageCheck (changed p irs′ s t) ≡ Done
+pub changed-accepted : (p : Page) (irs′ : List ℕ) (s t : ℕ) → Same (p .irs) irs′ → pageCheck p ≡ Done → s ≤ 16383 → t ≤ 16383 → (codedOf (changed p irs′ s t) && not (tableOf (changed p irs′ s t))) ≡ false → pageCheck (changed p irs′ s t) ≡ Done
 unfolding pageCheck addressRefused
 changed-accepted p irs′ s t e ok hs ht table =
     let address = passed (addressRefused p) Address _ refl ok in
-    let reserved = passed (reservedRefused (p .irs)) Reserved _ refl (address .1) in
-    let back = passed (backPorchRefused (p .irs)) BackPorch _ refl (reserved .1) in
-    let short = passed (lineShort (p .irs)) (LineShort (missing (p .irs))) _ refl (back .1) in
-    let front = passed (frontPorchRefused (p .irs)) (FrontPorch (missing (p .irs))) _ refl (short .1) in
+    let reserved = passed (reservedRefused p) Reserved _ refl (address .1) in
+    let back = passed (backPorchRefused p) BackPorch _ refl (reserved .1) in
+    let short = passed (lineShort p) (LineShort (missing p)) _ refl (back .1) in
+    let front = passed (frontPorchRefused p) (FrontPorch (missing p)) _ refl (short .1) in
     let width = passed (widthRefused (p .video .dots)) Width _ refl (front .1) in
     let strike = neither (startsRefused (p .starts) || switchesRefused (p .version) (p .switches)) (ltb 15 (p .video .strike)) (address .0) in
     let switches = neither (startsRefused (p .starts)) (switchesRefused (p .version) (p .switches)) (strike .0) in
     let starts = neither (ltb 16383 (p .starts .start1) || ltb 16383 (p .starts .cursor)) (ltb 16383 (p .starts .start2)) (switches .0) in
     let cursor = neither (ltb 16383 (p .starts .start1)) (ltb 16383 (p .starts .cursor)) (starts .0) .1 in
-    let straight = neither (eqb (ir (p .irs) 1 / 128 % 2) 1) (codedOf (p .irs) && not (tableOf (p .irs))) (reserved .0) .0 in
+    let straight = neither (eqb (ir p 1 / 128 % 2) 1) (codedOf p && not (tableOf p)) (reserved .0) .0 in
     let one = ap (λ (x : ℕ). eqb (x / 128 % 2) 1) (sym (e .others 1 (λ z. omega (arith, z)))) ∙ straight in
     let address-too : addressRefused (changed p irs′ s t) ≡ false = rw (le-ltb 16383 s hs, cursor, le-ltb 16383 t ht, switches .1, strike .1) in
-    let reserved-too : reservedRefused irs′ ≡ false = rw (one, table) in
-    let porches = same-porches (p .irs) irs′ e in
+    let reserved-too : reservedRefused (changed p irs′ s t) ≡ false = rw (one, table) in
+    let porches = same-porches p (changed p irs′ s t) e in
     all-clear _ _ _ _ _ _ _ address-too reserved-too (sym (porches .0) ∙ back .0) (sym (porches .1) ∙ short .0) (sym (porches .2) ∙ front .0) (width .0)
   where
     all-clear : (a r b l f w : Bool) (n : Clocks) → a ≡ false → r ≡ false → b ≡ false → l ≡ false → f ≡ false → w ≡ false
@@ -161,47 +161,47 @@ changed-accepted p irs′ s t e ok hs ht table =
 -- the bytes at the cells that rows fetch
 pub record Alike (p : Page) (irs′ : List ℕ) (s t : ℕ) (chars attrs chars′ attrs′ : List ℕ) : Type 0 where
   pub registers : Same (p .irs) irs′
-  pub code : (r : ℕ) → r < rowsOf (p .irs) → codeAt p chars r ≡ codeAt (changed p irs′ s t) chars′ r
-  pub start : (r : ℕ) → r < rowsOf (p .irs) → rowStart p chars r ≡ rowStart (changed p irs′ s t) chars′ r
-  pub letter : (r c : ℕ) → r < rowsOf (p .irs) → c < hactOf (p .irs) → getD chars (cellAt p chars r c) 0 ≡ getD chars′ (cellAt p chars r c) 0
-  pub byte : (r c : ℕ) → r < rowsOf (p .irs) → c < hactOf (p .irs) → getD attrs (cellAt p chars r c) 0 ≡ getD attrs′ (cellAt p chars r c) 0
+  pub code : (r : ℕ) → r < rowsOf p → codeAt p chars r ≡ codeAt (changed p irs′ s t) chars′ r
+  pub start : (r : ℕ) → r < rowsOf p → rowStart p chars r ≡ rowStart (changed p irs′ s t) chars′ r
+  pub letter : (r c : ℕ) → r < rowsOf p → c < hactOf p → getD chars (cellAt p chars r c) 0 ≡ getD chars′ (cellAt p chars r c) 0
+  pub byte : (r c : ℕ) → r < rowsOf p → c < hactOf p → getD attrs (cellAt p chars r c) 0 ≡ getD attrs′ (cellAt p chars r c) 0
 
 module _ (p : Page) (irs′ : List ℕ) (s t : ℕ) (chars attrs chars′ attrs′ : List ℕ) (a : Alike p irs′ s t chars attrs chars′ attrs′) where
   abbrev q : Page
   q = changed p irs′ s t
 
   abbrev H : ℕ
-  H = hactOf (p .irs)
+  H = hactOf p
 
-  pub same-cell : (r c : ℕ) → r < rowsOf (p .irs) → cellAt p chars r c ≡ cellAt q chars′ r c
+  pub same-cell : (r c : ℕ) → r < rowsOf p → cellAt p chars r c ≡ cellAt q chars′ r c
   unfolding fetchAt movedOf
   same-cell r c h =
       sym (cell-moved p chars r c)
-      ∙ parts (same-buffer (p .irs) irs′ (a .registers)) (same-counts (p .irs) irs′ (a .registers)) (a .code r h) (a .start r h)
+      ∙ parts (same-buffer p q (a .registers)) (same-counts p q (a .registers)) (a .code r h) (a .start r h)
       ∙ cell-moved q chars′ r c
     where
       parts : {u u′ : Buffer} {g g′ : Counts} {k k′ x x′ : ℕ} → u ≡ u′ → g ≡ g′ → k ≡ k′ → x ≡ x′ → advanceBy u (movedAt g (codeOf k) c) x ≡ advanceBy u′ (movedAt g′ (codeOf k′) c) x′
       parts ue ge ke xe = rw (ue, ge, ke, xe)
 
   -- what a column sets
-  same-set : (r c : ℕ) → r < rowsOf (p .irs) → c < H → setIn p chars attrs r c ≡ setIn q chars′ attrs′ r c
+  same-set : (r c : ℕ) → r < rowsOf p → c < H → setIn p chars attrs r c ≡ setIn q chars′ attrs′ r c
   same-set r c h l =
-      parts (same-counts (p .irs) irs′ (a .registers)) (a .code r h)
+      parts (same-counts p q (a .registers)) (a .code r h)
       (ap (λ (x : ℕ). pick (fieldMode p) x 0) (a .byte r c h l ∙ ap (λ (x : ℕ). getD attrs′ x 0) (same-cell r c h)))
     where
       parts : {g g′ : Counts} {k k′ x x′ : ℕ} → g ≡ g′ → k ≡ k′ → x ≡ x′ → pick (fetchesAt g (codeOf k) c) x 0 ≡ pick (fetchesAt g′ (codeOf k′) c) x′ 0
       parts ge ke xe = rw (ge, ke, xe)
 
-  pub same-held : (r c : ℕ) → r < rowsOf (p .irs) → heldAt p chars attrs r c ≡ heldAt q chars′ attrs′ r c
+  pub same-held : (r c : ℕ) → r < rowsOf p → heldAt p chars attrs r c ≡ heldAt q chars′ attrs′ r c
   unfolding heldAt
   same-held r c h =
       same-last (byteOf p chars attrs) (byteOf q chars′ attrs′) 0 _ each
-      ∙ ap (λ (n : ℕ). lastSet (byteOf q chars′ attrs′) 0 (r * n + min c n)) (same-hact (p .irs) irs′ (a .registers))
+      ∙ ap (λ (n : ℕ). lastSet (byteOf q chars′ attrs′) 0 (r * n + min c n)) (same-hact p q (a .registers))
     where
       some : 0 < H
       some = omega arith
 
-      few : (k : ℕ) → k < r * H + min c H → k / H < rowsOf (p .irs)
+      few : (k : ℕ) → k < r * H + min c H → k / H < rowsOf p
       few k l =
           let one : k / H < r + 1 = div-lt-iff-lt-mul some .1 (omega (arith, l, add-mul r 1 H, one-mul H)) in
           omega (arith, one, h)
@@ -209,12 +209,12 @@ module _ (p : Page) (irs′ : List ℕ) (s t : ℕ) (chars attrs chars′ attrs�
       each : (k : ℕ) → k < r * H + min c H → byteOf p chars attrs k ≡ byteOf q chars′ attrs′ k
       each k l =
           same-set (k / H) (k % H) (few k l) (mod-lt k some)
-          ∙ ap (λ (n : ℕ). setIn q chars′ attrs′ (k / n) (k % n)) (same-hact (p .irs) irs′ (a .registers))
+          ∙ ap (λ (n : ℕ). setIn q chars′ attrs′ (k / n) (k % n)) (same-hact p q (a .registers))
 
   -- ---- the place for clock n
 
   -- what the beam carries at a column, and what its row began with
-  same-carried : (r c : ℕ) → r < rowsOf (p .irs) → rowsIn p chars attrs .walk r c ≡ rowsIn q chars′ attrs′ .walk r c
+  same-carried : (r c : ℕ) → r < rowsOf p → rowsIn p chars attrs .walk r c ≡ rowsIn q chars′ attrs′ .walk r c
   unfolding cellAt
   same-carried r c h =
       let cell = same-cell r c h in
@@ -222,7 +222,7 @@ module _ (p : Page) (irs′ : List ℕ) (s t : ℕ) (chars attrs chars′ attrs�
       let code = a .code r h in
       λ i. row (cell i) (held i) (code i)
 
-  same-begun : (r : ℕ) → r < rowsOf (p .irs) → rowsIn p chars attrs .start r ≡ rowsIn q chars′ attrs′ .start r
+  same-begun : (r : ℕ) → r < rowsOf p → rowsIn p chars attrs .start r ≡ rowsIn q chars′ attrs′ .start r
   unfolding rowStart
   same-begun r h =
       let start = a .start r h in
@@ -234,7 +234,7 @@ module _ (p : Page) (irs′ : List ℕ) (s t : ℕ) (chars attrs chars′ attrs�
   unfolding placeAt countsOf
   same-place n =
       ap placeOf (same-scan (countsIn p) (omega arith) (omega arith) (rowsIn p chars attrs) (rowsIn q chars′ attrs′) same-begun same-carried (row 0 0 0) n)
-      ∙ ap (λ (g : Counts). placeOf (scanAt g (rowsIn q chars′ attrs′) (row 0 0 0) n)) (same-counts (p .irs) irs′ (a .registers))
+      ∙ ap (λ (g : Counts). placeOf (scanAt g (rowsIn q chars′ attrs′) (row 0 0 0) n)) (same-counts p q (a .registers))
 
 -- ---- lines and pictures
 
@@ -243,7 +243,7 @@ module _ (b : Board) (irs′ : List ℕ) (s t : ℕ) (e : Same (b .page .irs) ir
   pub same-state : stateRefused b ≡ stateRefused (withPage b (changed (b .page) irs′ s t))
   unfolding stateRefused
   same-state =
-      let h : ir (b .page .irs) 2 / 8 % 16 ≡ ir irs′ 2 / 8 % 16 = omega (arith, e .low) in
+      let h : ir (b .page) 2 / 8 % 16 ≡ getD irs′ 2 0 / 8 % 16 = omega (arith, e .low) in
       rw (
         h,
         e .others 0 (λ z. omega (arith, z)),
@@ -255,7 +255,7 @@ module _ (b : Board) (irs′ : List ℕ) (s t : ℕ) (e : Same (b .page .irs) ir
 
   pub same-scene : (scan field : ℕ) → sceneOf b scan field ≡ sceneOf (withPage b (changed (b .page) irs′ s t)) scan field
   unfolding sceneOf
-  same-scene scan field = rw (same-cursor (b .page .irs) irs′ e, e .others 4 (λ z. omega (arith, z)), e .others 7 (λ z. omega (arith, z)))
+  same-scene scan field = rw (same-cursor (b .page) (changed (b .page) irs′ s t) e, e .others 4 (λ z. omega (arith, z)), e .others 7 (λ z. omega (arith, z)))
 
 module _ (b : Board) (irs′ : List ℕ) (s t : ℕ) (chars attrs chars′ attrs′ : List ℕ) (f : Font) (a : Alike (b .page) irs′ s t chars attrs chars′ attrs′) where
   abbrev n : Board
@@ -272,29 +272,29 @@ module _ (b : Board) (irs′ : List ℕ) (s t : ℕ) (chars attrs chars′ attrs
   by line field c k L held x =
       columnOf (isWide (codeOf k)) (eqb (c % 2) 1) (dotsAt n chars′ attrs′ f (scanOf (codeOf k) L (line % L)) field (againAt (codeOf k) c) held x)
 
-  pub same-column : (line field c : ℕ) → line / linesOf (b .page .irs) < rowsOf (b .page .irs) → c < hactOf (b .page .irs) → columnDots b chars attrs f line field c ≡ columnDots n chars′ attrs′ f line field c
+  pub same-column : (line field c : ℕ) → line / linesOf (b .page) < rowsOf (b .page) → c < hactOf (b .page) → columnDots b chars attrs f line field c ≡ columnDots n chars′ attrs′ f line field c
   unfolding columnDots
   same-column line field c h l =
       let p = b .page in
-      let r = line / linesOf (p .irs) in
+      let r = line / linesOf p in
       let k = codeOf (codeAt p chars r) in
-      let L = same-lines (p .irs) irs′ (a .registers) in
-      ap (columnOf (isWide k) (eqb (c % 2) 1)) (same-dots (scanOf k (linesOf (p .irs)) (line % linesOf (p .irs))) field (againAt k c) (heldAt p chars attrs r c) (cellAt p chars r c) (a .letter r c h l) (a .byte r c h l))
+      let L = same-lines p (n .page) (a .registers) in
+      ap (columnOf (isWide k) (eqb (c % 2) 1)) (same-dots (scanOf k (linesOf p) (line % linesOf p)) field (againAt k c) (heldAt p chars attrs r c) (cellAt p chars r c) (a .letter r c h l) (a .byte r c h l))
       ∙ parts (a .code r h) L (same-held p irs′ s t chars attrs chars′ attrs′ a r c h) (same-cell p irs′ s t chars attrs chars′ attrs′ a r c h)
-      ∙ ap (λ (x : ℕ). by line field c (codeAt (n .page) chars′ x) (linesOf irs′) (heldAt (n .page) chars′ attrs′ x c) (cellAt (n .page) chars′ x c)) (ap (λ (x : ℕ). line / x) L)
+      ∙ ap (λ (x : ℕ). by line field c (codeAt (n .page) chars′ x) (linesOf (n .page)) (heldAt (n .page) chars′ attrs′ x c) (cellAt (n .page) chars′ x c)) (ap (λ (x : ℕ). line / x) L)
     where
       parts : {k k′ L L′ v v′ x x′ : ℕ} → k ≡ k′ → L ≡ L′ → v ≡ v′ → x ≡ x′ → by line field c k L v x ≡ by line field c k′ L′ v′ x′
       parts ke le ve xe = rw (ke, le, ve, xe)
 
-  pub same-line : (line field : ℕ) → line < visibleOf (b .page .irs) .0 → lineDots b chars attrs f line field ≡ lineDots n chars′ attrs′ f line field
+  pub same-line : (line field : ℕ) → line < visibleOf (b .page) .0 → lineDots b chars attrs f line field ≡ lineDots n chars′ attrs′ f line field
   unfolding lineDots
   same-line line field h =
-      let some : 0 < linesOf (b .page .irs) = omega arith in
-      same-joined 0 (hactOf (b .page .irs)) _ _ (λ c _ l. same-column line field c (div-lt-iff-lt-mul some .1 h) (omega (arith, l)))
-      ∙ ap (λ (w : ℕ). joined 0 w (columnDots n chars′ attrs′ f line field)) (same-hact (b .page .irs) irs′ (a .registers))
+      let some : 0 < linesOf (b .page) = omega arith in
+      same-joined 0 (hactOf (b .page)) _ _ (λ c _ l. same-column line field c (div-lt-iff-lt-mul some .1 h) (omega (arith, l)))
+      ∙ ap (λ (w : ℕ). joined 0 w (columnDots n chars′ attrs′ f line field)) (same-hact (b .page) (n .page) (a .registers))
 
   pub same-picture : (field : ℕ) → pictureDots b chars attrs f field ≡ pictureDots n chars′ attrs′ f field
   unfolding pictureDots
   same-picture field =
-      same-joined 0 (visibleOf (b .page .irs) .0) _ _ (λ line _ l. same-line line field (omega (arith, l)))
-      ∙ ap₂ (λ (x y : ℕ). joined 0 (x * y) (λ (line : ℕ). lineDots n chars′ attrs′ f line field)) (same-rows (b .page .irs) irs′ (a .registers)) (same-lines (b .page .irs) irs′ (a .registers))
+      same-joined 0 (visibleOf (b .page) .0) _ _ (λ line _ l. same-line line field (omega (arith, l)))
+      ∙ ap₂ (λ (x y : ℕ). joined 0 (x * y) (λ (line : ℕ). lineDots n chars′ attrs′ f line field)) (same-rows (b .page) (n .page) (a .registers)) (same-lines (b .page) (n .page) (a .registers))

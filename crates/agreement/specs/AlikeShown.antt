@@ -54,7 +54,7 @@ module _ (b : Board) (irs′ : List ℕ) (s t : ℕ) (chars chars′ : List ℕ)
   registers = alike [] .registers
 
   same-room : pictureLength (b .page) ≡ pictureLength (n .page)
-  same-room = parts (same-rows (b .page .irs) irs′ registers) (same-lines (b .page .irs) irs′ registers) (same-hact (b .page .irs) irs′ registers)
+  same-room = parts (same-rows (b .page) (n .page) registers) (same-lines (b .page) (n .page) registers) (same-hact (b .page) (n .page) registers)
     where
       parts : {r r′ l l′ h h′ : ℕ} → r ≡ r′ → l ≡ l′ → h ≡ h′ → r * l * (h * b .page .video .dots .0) ≡ r′ * l′ * (h′ * b .page .video .dots .0)
       parts re le he = rw (re, le, he)

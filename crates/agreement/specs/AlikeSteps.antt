@@ -43,18 +43,18 @@ pub record SameStep (b n : Board) (chars attrs chars′ attrs′ : List ℕ) (f 
   pub dots : stepOf (after b chars attrs f k) chars attrs f .dots ≡ stepOf (after n chars′ attrs′ f k) chars′ attrs′ f .dots
 
 -- past the visible lines a clock works on what is held
-hidden : (p : Page) (chars attrs : List ℕ) (k : ℕ) → visibleOf (p .irs) .0 ≤ placeAt p chars attrs k .line .0
+hidden : (p : Page) (chars attrs : List ℕ) (k : ℕ) → visibleOf p .0 ≤ placeAt p chars attrs k .line .0
     → loadedIn p chars (placeAt p chars attrs k) .beam ≡ rasterOf (placeAt p chars attrs k) .carried .beam
 unfolding loadedIn countsOf
 hidden p chars attrs k h =
-    rw (le-ltb (placeAt p chars attrs k .line .0) (visibleOf (p .irs) .0) h) (ap (λ (x : Place). rasterOf x .carried .beam) (at-settled p chars attrs k))
+    rw (le-ltb (placeAt p chars attrs k .line .0) (visibleOf p .0) h) (ap (λ (x : Place). rasterOf x .carried .beam) (at-settled p chars attrs k))
 
 -- in a visible line on the cell of its column
-visible : (b : Board) (chars attrs : List ℕ) (f : Font) → stepCheck b chars attrs f ≡ Done → (k : ℕ) → placeAt (b .page) chars attrs k .line .0 < visibleOf (b .page .irs) .0
+visible : (b : Board) (chars attrs : List ℕ) (f : Font) → stepCheck b chars attrs f ≡ Done → (k : ℕ) → placeAt (b .page) chars attrs k .line .0 < visibleOf (b .page) .0
     → loadedIn (b .page) chars (placeAt (b .page) chars attrs k) .beam
-    ≡ row (cellAt (b .page) chars (placeAt (b .page) chars attrs k .line .0 / linesOf (b .page .irs)) (placeAt (b .page) chars attrs k .clock .0))
-    (heldAt (b .page) chars attrs (placeAt (b .page) chars attrs k .line .0 / linesOf (b .page .irs)) (placeAt (b .page) chars attrs k .clock .0))
-    (codeAt (b .page) chars (placeAt (b .page) chars attrs k .line .0 / linesOf (b .page .irs)))
+    ≡ row (cellAt (b .page) chars (placeAt (b .page) chars attrs k .line .0 / linesOf (b .page)) (placeAt (b .page) chars attrs k .clock .0))
+    (heldAt (b .page) chars attrs (placeAt (b .page) chars attrs k .line .0 / linesOf (b .page)) (placeAt (b .page) chars attrs k .clock .0))
+    (codeAt (b .page) chars (placeAt (b .page) chars attrs k .line .0 / linesOf (b .page)))
 unfolding placeAt scanAt countsOf
 visible b chars attrs f ok k h = beam-at b chars attrs f ok k h
 
@@ -76,7 +76,7 @@ module _ (b : Board) (irs′ : List ℕ) (s t : ℕ) (chars attrs chars′ attrs
     same-x = same-place p irs′ s t chars attrs chars′ attrs′ a k
 
     pub same-loaded : loadedIn p chars x .beam ≡ loadedIn (n .page) chars′ x′ .beam
-    same-loaded = go (decLt (x .line .0) (visibleOf (p .irs) .0))
+    same-loaded = go (decLt (x .line .0) (visibleOf p .0))
       where
         q : Page
         q = n .page
@@ -87,18 +87,18 @@ module _ (b : Board) (irs′ : List ℕ) (s t : ℕ) (chars attrs chars′ attrs
         clock : x .clock .0 ≡ x′ .clock .0
         clock = ap (λ (y : Place). y .clock .0) same-x
 
-        lines-are : linesOf (p .irs) ≡ linesOf irs′
-        lines-are = same-lines (p .irs) irs′ (a .registers)
+        lines-are : linesOf p ≡ linesOf (n .page)
+        lines-are = same-lines p (n .page) (a .registers)
 
-        shown : visibleOf (p .irs) .0 ≡ visibleOf irs′ .0
-        shown = ap₂ (λ (r l : ℕ). r * l) (same-rows (p .irs) irs′ (a .registers)) lines-are
+        shown : visibleOf p .0 ≡ visibleOf (n .page) .0
+        shown = ap₂ (λ (r l : ℕ). r * l) (same-rows p (n .page) (a .registers)) lines-are
 
-        go : Dec (x .line .0 < visibleOf (p .irs) .0) → loadedIn p chars x .beam ≡ loadedIn q chars′ x′ .beam
+        go : Dec (x .line .0 < visibleOf p .0) → loadedIn p chars x .beam ≡ loadedIn q chars′ x′ .beam
         go (yes l) =
-            let some : 0 < linesOf (p .irs) = omega arith in
-            let r = x .line .0 / linesOf (p .irs) in
+            let some : 0 < linesOf p = omega arith in
+            let r = x .line .0 / linesOf p in
             let c = x .clock .0 in
-            let h : r < rowsOf (p .irs) = div-lt-iff-lt-mul some .1 l in
+            let h : r < rowsOf p = div-lt-iff-lt-mul some .1 l in
             let cell = same-cell p irs′ s t chars attrs chars′ attrs′ a r c h in
             let held = same-held p irs′ s t chars attrs chars′ attrs′ a r c h in
             let code = a .code r h in
@@ -117,12 +117,12 @@ module _ (b : Board) (irs′ : List ℕ) (s t : ℕ) (chars attrs chars′ attrs
   unfolding signalsOf sceneOf
   same-signals y c x =
       let e = a .registers in
-      let h : ir (p .irs) 2 / 8 % 16 ≡ ir irs′ 2 / 8 % 16 = omega (arith, e .low) in
-      let k : ir (p .irs) 2 % 8 ≡ ir irs′ 2 % 8 = omega (arith, e .low) in
+      let h : ir p 2 / 8 % 16 ≡ ir (n .page) 2 / 8 % 16 = omega (arith, e .low) in
+      let k : ir p 2 % 8 ≡ ir (n .page) 2 % 8 = omega (arith, e .low) in
       rw (
         h,
         k,
-        same-cursor (p .irs) irs′ e,
+        same-cursor p (n .page) e,
         e .others 0 (λ z. omega (arith, z)),
         e .others 1 (λ z. omega (arith, z)),
         e .others 3 (λ z. omega (arith, z)),
@@ -142,8 +142,8 @@ module _ (b : Board) (irs′ : List ℕ) (s t : ℕ) (chars attrs chars′ attrs
   unfolding clockDots
   same-clock-dots y c held x bytes = go (activeAt p y) refl (activeAt (n .page) y) (sym (same-active y))
     where
-      L : linesOf (p .irs) ≡ linesOf irs′
-      L = same-lines (p .irs) irs′ (a .registers)
+      L : linesOf p ≡ linesOf (n .page)
+      L = same-lines p (n .page) (a .registers)
 
       d : ℕ
       d = p .video .dots .0
@@ -155,11 +155,11 @@ module _ (b : Board) (irs′ : List ℕ) (s t : ℕ) (chars attrs chars′ attrs
       blank L = replicate d (sceneOf (withPlace n y) (scanOf (codeOf c) L (y .line .0 % L)) (y .field) .blank)
 
       scan : ℕ
-      scan = scanOf (codeOf c) (linesOf (p .irs)) (y .line .0 % linesOf (p .irs))
+      scan = scanOf (codeOf c) (linesOf p) (y .line .0 % linesOf p)
 
       go : (t : Bool) → activeAt p y ≡ t → (u : Bool) → u ≡ activeAt p y
           → padded (pick t (columnOf (isWide (codeOf c)) (oddIn (withPlace b y)) (dotsAt (withPlace b y) chars attrs f scan (y .field) (againAt (codeOf c) (y .clock .0)) held x)) (replicate d (sceneOf (withPlace b y) scan (y .field) .blank))) d
-          ≡ padded (pick u (dots (linesOf irs′)) (blank (linesOf irs′))) d
+          ≡ padded (pick u (dots (linesOf (n .page))) (blank (linesOf (n .page)))) d
       go true e u q =
           let k = bytes e in
           rw (q, e)
@@ -182,7 +182,7 @@ module _ (b : Board) (irs′ : List ℕ) (s t : ℕ) (chars attrs chars′ attrs
         → (getD chars (loadedIn p chars y .beam .address) 0 ≡ getD chars′ (loadedIn p chars y .beam .address) 0)
         × (getD attrs (loadedIn p chars y .beam .address) 0 ≡ getD attrs′ (loadedIn p chars y .beam .address) 0)
     bytes-are e =
-        let some : 0 < linesOf (p .irs) = omega arith in
+        let some : 0 < linesOf p = omega arith in
         let on = both _ _ e in
         let l = ltb-true _ _ (on .0) in
         let c = ltb-true _ _ (on .1) in

@@ -67,16 +67,16 @@ pub look : Page → ℕ → Look
 look p a = lookOf (sceneOf (boardOf p) 1 0) (latched (128 + a) 0) false
 
 pub holds : Page → Fact → Bool
-holds p (HT n) = eqb (htOf (p .irs)) n
-holds p (HFP n) = eqb (hfpOf (p .irs)) n
-holds p (VT n) = eqb (vtOf (p .irs)) n
-holds p (frame n) = eqb ((clocksOf (countsOf (p .irs) .vt) (countsOf (p .irs) .ht)) .0) n
+holds p (HT n) = eqb (htOf p) n
+holds p (HFP n) = eqb (hfpOf p) n
+holds p (VT n) = eqb (vtOf p) n
+holds p (frame n) = eqb ((clocksOf (countsOf p .vt) (countsOf p .ht)) .0) n
 holds p (answers n) = eqb (numberOf (pageCheck p)) n
 holds p (misses n) = eqb (besideOf (pageCheck p)) n
 holds p (column r c a) = eqb (fetched p r c) a
 holds p (columns r n a) = columnsFrom p r n a
 holds p (row r a) = eqb (rowStart p [] r) a
-holds p (wraps a b) = eqb (advance (bufferOf (p .irs)) a) b
+holds p (wraps a b) = eqb (advance (bufferOf p) a) b
 holds p (dotsFor w d l) = same (cellDots ones w d) l
 holds p (levels a x y) = eqb (look p a .symbol) x && eqb (look p a .surround) y
 

@@ -90,7 +90,7 @@ module _ (b : Board) (chars : List ℕ) (m : Movable b chars) (registers : 2 < l
   place = tablePlace p chars
 
   abbrev irs′ : List ℕ
-  irs′ = set (p .irs) 2 (ir (p .irs) 2 % 128 + 128)
+  irs′ = set (p .irs) 2 (ir p 2 % 128 + 128)
 
   abbrev q : Page
   q = changed p irs′ (p .starts .start1) place
@@ -100,16 +100,16 @@ module _ (b : Board) (chars : List ℕ) (m : Movable b chars) (registers : 2 < l
 
   same-registers : Same (p .irs) irs′
   same-registers = record {
-    others = λ n f. sym (getD-set-other (p .irs) 2 n (ir (p .irs) 2 % 128 + 128) 0 f);
-    low = let e = getD-set-same (p .irs) 2 (ir (p .irs) 2 % 128 + 128) 0 registers in omega (arith, e);
+    others = λ n f. sym (getD-set-other (p .irs) 2 n (ir p 2 % 128 + 128) 0 f);
+    low = let e = getD-set-same (p .irs) 2 (ir p 2 % 128 + 128) 0 registers in omega (arith, e);
   }
 
-  table-on : tableOf irs′ ≡ true
+  table-on : tableOf q ≡ true
   table-on =
-      let e = getD-set-same (p .irs) 2 (ir (p .irs) 2 % 128 + 128) 0 registers in
-      eq-eqb (ir irs′ 2 / 128 % 2) 1 (omega (arith, e))
+      let e = getD-set-same (p .irs) 2 (ir p 2 % 128 + 128) 0 registers in
+      eq-eqb (ir q 2 / 128 % 2) 1 (omega (arith, e))
 
-  plain : codedOf irs′ ≡ false
+  plain : codedOf q ≡ false
   plain = ap (λ (x : ℕ). eqb (x / 128 % 2) 1) (sym (same-registers .others 0 (λ z. omega (arith, z)))) ∙ m .page .coded (m .off)
 
   room : place + tableSize p ≤ length chars
@@ -125,7 +125,7 @@ module _ (b : Board) (chars : List ℕ) (m : Movable b chars) (registers : 2 < l
       let e : (place + i) % 16384 ≡ place + i = omega (arith, h, m .found) in
       rw e (put-in chars (tab (tableSize p) (tableByte p chars)) place (tableSize p) bytes-long room i h ∙ getD-tab (tableSize p) (tableByte p chars) i h)
 
-  entry-there : (r : ℕ) → r < rowsOf (p .irs) → entryOf q chars′ r ≡ rowStart p chars r
+  entry-there : (r : ℕ) → r < rowsOf p → entryOf q chars′ r ≡ rowStart p chars r
   unfolding entryOf tableByte
   entry-there r h =
       let x = rowStart p chars r in
@@ -139,14 +139,14 @@ module _ (b : Board) (chars : List ℕ) (m : Movable b chars) (registers : 2 < l
       let half-too : (2 * r + 1) / 2 ≡ r = omega arith in
       rw (at-high, low, high, even, odd, half, half-too) (omega (arith, lt))
 
-  fetches : (r c : ℕ) → r < rowsOf (p .irs) → c < hactOf (p .irs) → fetchesCell p chars (cellAt p chars r c) ≡ true
+  fetches : (r c : ℕ) → r < rowsOf p → c < hactOf p → fetchesCell p chars (cellAt p chars r c) ≡ true
   unfolding fetchesCell
   fetches r c h l =
-      any-some _ (rowsOf (p .irs)) r h
+      any-some _ (rowsOf p) r h
       (any-some _ (fetchedOf p chars r) (nthCell b chars r c) (cell-in b chars r c l) (eq-eqb _ _ (cell-shown p chars r c l)))
 
   -- no row fetches a cell of the table
-  not-in-table : (r c : ℕ) → r < rowsOf (p .irs) → c < hactOf (p .irs) → place ≤ cellAt p chars r c → cellAt p chars r c < place + tableSize p → ⊥
+  not-in-table : (r c : ℕ) → r < rowsOf p → c < hactOf p → place ≤ cellAt p chars r c → cellAt p chars r c < place + tableSize p → ⊥
   unfolding tablePlace unfetchedAt
   not-in-table r c h l low high =
       let x = cellAt p chars r c in
@@ -165,7 +165,7 @@ module _ (b : Board) (chars : List ℕ) (m : Movable b chars) (registers : 2 < l
     byte = λ r c h l. refl;
   }
     where
-      letter-kept : (r c : ℕ) → r < rowsOf (p .irs) → c < hactOf (p .irs) → getD chars (cellAt p chars r c) 0 ≡ getD chars′ (cellAt p chars r c) 0
+      letter-kept : (r c : ℕ) → r < rowsOf p → c < hactOf p → getD chars (cellAt p chars r c) 0 ≡ getD chars′ (cellAt p chars r c) 0
       letter-kept r c h l = sym (put-out chars (tab (tableSize p) (tableByte p chars)) place (tableSize p) bytes-long room (cellAt p chars r c) (not-in-table r c h l))
 
   page-ok : pageCheck p ≡ Done
@@ -191,29 +191,29 @@ module _ (b : Board) (chars : List ℕ) (m : Movable b chars) (registers : 2 < l
   row-zero : rowStart p chars 0 ≡ p .starts .start1
   row-zero =
       sym (start-sheet p chars 0 (m .off))
-      ∙ ap (λ (k : ℕ). advanceBy (bufferOf (p .irs)) k (p .starts .start1)) (zero-mul (hactOf (p .irs)))
-      ∙ advanceBy-zero (bufferOf (p .irs)) (p .starts .start1) (omega (arith, m .page .start1))
+      ∙ ap (λ (k : ℕ). advanceBy (bufferOf p) k (p .starts .start1)) (zero-mul (hactOf p))
+      ∙ advanceBy-zero (bufferOf p) (p .starts .start1) (omega (arith, m .page .start1))
 
-  row-next : (r : ℕ) → rowStart p chars (r + 1) ≡ advanceBy (bufferOf (p .irs)) (hactOf (p .irs)) (rowStart p chars r)
+  row-next : (r : ℕ) → rowStart p chars (r + 1) ≡ advanceBy (bufferOf p) (hactOf p) (rowStart p chars r)
   row-next r =
-      let B = bufferOf (p .irs) in
-      let H = hactOf (p .irs) in
+      let B = bufferOf p in
+      let H = hactOf p in
       let more : (r + 1) * H ≡ H + r * H = omega (arith, suc-mul r H, ap (λ (k : ℕ). k * H) (add-one r)) in
       sym (start-sheet p chars (r + 1) (m .off))
       ∙ ap (λ (k : ℕ). advanceBy B k (p .starts .start1)) more
-      ∙ advanceBy-add B (buffer-bounded (p .irs)) H (r * H) (p .starts .start1) (omega (arith, m .page .start1))
+      ∙ advanceBy-add B (buffer-bounded p) H (r * H) (p .starts .start1) (omega (arith, m .page .start1))
       ∙ ap (advanceBy B H) (start-sheet p chars r (m .off))
 
   -- nothing refuses the way back
   rows-follow : rowsApart q chars′ ≡ false
   unfolding rowsApart followsRow
   rows-follow =
-      any-none _ (rowsOf irs′ - 1) (λ r h.
-      let rows = same-rows (p .irs) irs′ same-registers in
+      any-none _ (rowsOf q - 1) (λ r h.
+      let rows = same-rows p q same-registers in
       let here = entry-there r (omega (arith, h, rows)) in
       let next = entry-there (r + 1) (omega (arith, h, rows)) in
-      ap not (eq-eqb _ _ (next ∙ row-next r ∙ ap₂ (λ (u : Buffer) (w : ℕ). advanceBy u w (rowStart p chars r)) (same-buffer (p .irs) irs′ same-registers) (same-hact (p .irs) irs′ same-registers)
-      ∙ ap (advanceBy (bufferOf irs′) (hactOf irs′)) (sym here))))
+      ap not (eq-eqb _ _ (next ∙ row-next r ∙ ap₂ (λ (u : Buffer) (w : ℕ). advanceBy u w (rowStart p chars r)) (same-buffer p q same-registers) (same-hact p q same-registers)
+      ∙ ap (advanceBy (bufferOf q) (hactOf q)) (sym here))))
 
   own-there : ownCheck (withPage b q) (length chars′) ≡ Done
   unfolding ownCheck therePage
@@ -228,15 +228,15 @@ module _ (b : Board) (chars : List ℕ) (m : Movable b chars) (registers : 2 < l
   back-done = rw (own-there, table-on, plain, rows-follow)
 
   -- a register is a byte
-  module _ (byte : ir (p .irs) 2 < 256) where
-    low-bits : ir irs′ 2 % 128 ≡ ir (p .irs) 2
+  module _ (byte : ir p 2 < 256) where
+    low-bits : ir q 2 % 128 ≡ ir p 2
     low-bits =
-        let e = getD-set-same (p .irs) 2 (ir (p .irs) 2 % 128 + 128) 0 registers in
-        let f : ir (p .irs) 2 / 128 % 2 ≡ 1 → ⊥ = λ z. true≢false (sym (eq-eqb (ir (p .irs) 2 / 128 % 2) 1 z) ∙ m .off) in
+        let e = getD-set-same (p .irs) 2 (ir p 2 % 128 + 128) 0 registers in
+        let f : ir p 2 / 128 % 2 ≡ 1 → ⊥ = λ z. true≢false (sym (eq-eqb (ir p 2 / 128 % 2) 1 z) ∙ m .off) in
         omega (arith, e, byte, f)
 
-    registers-back : set irs′ 2 (ir irs′ 2 % 128) ≡ p .irs
-    registers-back = set-twice (p .irs) 2 (ir (p .irs) 2 % 128 + 128) (ir irs′ 2 % 128) ∙ ap (set (p .irs) 2) low-bits ∙ set-getD (p .irs) 2 0
+    registers-back : set irs′ 2 (ir q 2 % 128) ≡ p .irs
+    registers-back = set-twice (p .irs) 2 (ir p 2 % 128 + 128) (ir q 2 % 128) ∙ ap (set (p .irs) 2) low-bits ∙ set-getD (p .irs) 2 0
 
     -- there and back: nothing but screen start 2 has changed
     pub returned : backOf (withPage b q) chars′ ≡ movedTo Done (withPage b (changed p (p .irs) (p .starts .start1) place))
@@ -254,7 +254,7 @@ module _ (b : Board) (chars : List ℕ) (m : Movable b chars) (registers : 2 < l
 
 module _ (b : Board) (chars : List ℕ) (m : Returnable b chars) (registers : 2 < length (b .page .irs)) where
   abbrev sheetIrs : List ℕ
-  sheetIrs = set (b .page .irs) 2 (ir (b .page .irs) 2 % 128)
+  sheetIrs = set (b .page .irs) 2 (ir (b .page) 2 % 128)
 
   abbrev first : ℕ
   first = entryOf (b .page) chars 0
@@ -264,33 +264,33 @@ module _ (b : Board) (chars : List ℕ) (m : Returnable b chars) (registers : 2 
 
   sheet-registers : Same (b .page .irs) sheetIrs
   sheet-registers = record {
-    others = λ n f. sym (getD-set-other (b .page .irs) 2 n (ir (b .page .irs) 2 % 128) 0 f);
-    low = let e = getD-set-same (b .page .irs) 2 (ir (b .page .irs) 2 % 128) 0 registers in omega (arith, e);
+    others = λ n f. sym (getD-set-other (b .page .irs) 2 n (ir (b .page) 2 % 128) 0 f);
+    low = let e = getD-set-same (b .page .irs) 2 (ir (b .page) 2 % 128) 0 registers in omega (arith, e);
   }
 
-  sheet-off : tableOf sheetIrs ≡ false
+  sheet-off : tableOf sheet ≡ false
   sheet-off =
-      let e = getD-set-same (b .page .irs) 2 (ir (b .page .irs) 2 % 128) 0 registers in
-      ne-eqb (ir sheetIrs 2 / 128 % 2) 1 (λ z. omega (arith, e, z))
+      let e = getD-set-same (b .page .irs) 2 (ir (b .page) 2 % 128) 0 registers in
+      ne-eqb (ir sheet 2 / 128 % 2) 1 (λ z. omega (arith, e, z))
 
-  sheet-plain : codedOf sheetIrs ≡ false
+  sheet-plain : codedOf sheet ≡ false
   sheet-plain = ap (λ (x : ℕ). eqb (x / 128 % 2) 1) (sym (sheet-registers .others 0 (λ z. omega (arith, z)))) ∙ m .codeless
 
   -- the rows follow one another
-  follows-on : (r : ℕ) → r < rowsOf (b .page .irs) → entryOf (b .page) chars r ≡ advanceBy (bufferOf (b .page .irs)) (r * hactOf (b .page .irs)) first
+  follows-on : (r : ℕ) → r < rowsOf (b .page) → entryOf (b .page) chars r ≡ advanceBy (bufferOf (b .page)) (r * hactOf (b .page)) first
   unfolding rowsApart followsRow
   follows-on zero h =
-      sym (ap (λ (k : ℕ). advanceBy (bufferOf (b .page .irs)) k first) (zero-mul (hactOf (b .page .irs))) ∙ advanceBy-zero (bufferOf (b .page .irs)) first (entry-lt (b .page) chars 0))
+      sym (ap (λ (k : ℕ). advanceBy (bufferOf (b .page)) k first) (zero-mul (hactOf (b .page))) ∙ advanceBy-zero (bufferOf (b .page)) first (entry-lt (b .page) chars 0))
   follows-on (suc r) h =
-      let B = bufferOf (b .page .irs) in
-      let H = hactOf (b .page .irs) in
-      let next = none-of (λ k. not (followsRow (b .page) chars k)) (rowsOf (b .page .irs) - 1) (m .joined) r (omega (arith, h)) in
+      let B = bufferOf (b .page) in
+      let H = hactOf (b .page) in
+      let next = none-of (λ k. not (followsRow (b .page) chars k)) (rowsOf (b .page) - 1) (m .joined) r (omega (arith, h)) in
       let is : entryOf (b .page) chars (r + 1) ≡ advanceBy B H (entryOf (b .page) chars r) = eqb-true _ _ (not-false _ next) in
       let more : H + r * H ≡ suc r * H = omega (arith, suc-mul r H) in
       ap (entryOf (b .page) chars) (sym (add-one r))
       ∙ is
       ∙ ap (advanceBy B H) (follows-on r (omega (arith, h)))
-      ∙ sym (advanceBy-add B (buffer-bounded (b .page .irs)) H (r * H) first (entry-lt (b .page) chars 0))
+      ∙ sym (advanceBy-add B (buffer-bounded (b .page)) H (r * H) first (entry-lt (b .page) chars 0))
       ∙ ap (λ (k : ℕ). advanceBy B k first) more
 
   pub back-alike : (attrs : List ℕ) → Alike (b .page) sheetIrs first (b .page .starts .start2) chars attrs chars attrs
@@ -300,7 +300,7 @@ module _ (b : Board) (chars : List ℕ) (m : Returnable b chars) (registers : 2 
     start = λ r h.
         sym (start-table (b .page) chars r (m .on))
         ∙ follows-on r h
-        ∙ ap₂ (λ (u : Buffer) (n : ℕ). advanceBy u (r * n) first) (same-buffer (b .page .irs) sheetIrs sheet-registers) (same-hact (b .page .irs) sheetIrs sheet-registers)
+        ∙ ap₂ (λ (u : Buffer) (n : ℕ). advanceBy u (r * n) first) (same-buffer (b .page) sheet sheet-registers) (same-hact (b .page) sheet sheet-registers)
         ∙ start-sheet sheet chars r sheet-off;
     letter = λ r c h l. refl;
     byte = λ r c h l. refl;
@@ -336,7 +336,7 @@ module _ (b : Board) (chars : List ℕ) (registers : 2 < length (b .page .irs)) 
 
   registers-kept : backCheck b chars ≡ Done → 2 < length (backOf b chars .board .page .irs)
   unfolding backOf backPage
-  registers-kept ok = rw (ok, length-set (b .page .irs) 2 (ir (b .page .irs) 2 % 128)) registers
+  registers-kept ok = rw (ok, length-set (b .page .irs) 2 (ir (b .page) 2 % 128)) registers
 
   -- and one that is moved back and there again
   pub back-and-there : backCheck b chars ≡ Done → thereCheck (backOf b chars .board) chars ≡ Done
@@ -344,7 +344,7 @@ module _ (b : Board) (chars : List ℕ) (registers : 2 < length (b .page .irs)) 
   back-and-there ok again = shows-on (back-shows ok) (there-shows (backOf b chars .board) chars (registers-kept ok) again)
 
   -- a sheet that is moved there and back has another screen start 2, and nothing else of its board has changed
-  pub there-and-back : ir (b .page .irs) 2 < 256 → thereCheck b chars ≡ Done
+  pub there-and-back : ir (b .page) 2 < 256 → thereCheck b chars ≡ Done
       → backOf (thereOf b chars .board) (thereLeft b chars) ≡ movedTo Done (withPage b (changed (b .page) (b .page .irs) (b .page .starts .start1) (tablePlace (b .page) chars)))
   unfolding thereOf thereLeft therePage
   there-and-back byte ok = rw ok (returned b chars (there-passed b chars ok) registers byte)

@@ -238,7 +238,7 @@ module _ (numbers chars : List ℕ) (done : toTableCheck numbers chars ≡ Done)
 
   long′ : length (therePage p place .irs) ≡ 15
   unfolding therePage
-  long′ = length-set (p .irs) 2 (ir (p .irs) 2 % 128 + 128) ∙ long
+  long′ = length-set (p .irs) 2 (ir p 2 % 128 + 128) ∙ long
 
   version : therePage p place .version ≡ getD numbers 0 0
   unfolding therePage pageAt
@@ -309,7 +309,7 @@ module _ (numbers chars : List ℕ) (done : toSheetCheck numbers chars ≡ Done)
 
   back-long : length (sheetPage .irs) ≡ 15
   unfolding backPage
-  back-long = length-set (numbersBoard numbers .page .irs) 2 (ir (numbersBoard numbers .page .irs) 2 % 128) ∙ irs-all numbers (back-taken .0)
+  back-long = length-set (numbersBoard numbers .page .irs) 2 (ir (numbersBoard numbers .page) 2 % 128) ∙ irs-all numbers (back-taken .0)
 
   back-version : sheetPage .version ≡ getD numbers 0 0
   unfolding backPage pageAt

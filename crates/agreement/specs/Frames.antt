@@ -25,12 +25,12 @@ use Rattle.agreement.specs.Lines.{addressAt, DrawnFrom, address-is, draw
 
 -- the clocks of a frame
 abbrev pub frameClocks : Board → ℕ
-frameClocks b = (clocksOf (countsOf (b .page .irs) .vt) (countsOf (b .page .irs) .ht)) .0
+frameClocks b = (clocksOf (countsOf (b .page) .vt) (countsOf (b .page) .ht)) .0
 
 module _ (b : Board) (chars attrs : List ℕ) (f : Font) (ok : stepCheck b chars attrs f ≡ Done) where
-  frame-product : frameClocks b ≡ htOf (b .page .irs) * vtOf (b .page .irs)
+  frame-product : frameClocks b ≡ htOf (b .page) * vtOf (b .page)
   unfolding countsOf
-  frame-product = mul-comm (vtOf (b .page .irs)) (htOf (b .page .irs))
+  frame-product = mul-comm (vtOf (b .page)) (htOf (b .page))
 
   -- the counts of the beam
   good : Good (countsIn (b .page))
@@ -52,27 +52,27 @@ module _ (b : Board) (chars attrs : List ℕ) (f : Font) (ok : stepCheck b chars
       record {
         ends = λ e. rw at-n (frame→ counts rows good (row 0 0 0) n (rw frame-product at e));
         nowhere-else = λ p q. rw frame-product (frame← counts rows good (row 0 0 0) n (rw at-n at p) (rw at-n at q));
-        counted = rw (at-n, frame-product) (ap (λ (x : ℕ). x % 256) (sym (by-frame n (htOf (b .page .irs)) (vtOf (b .page .irs)))));
+        counted = rw (at-n, frame-product) (ap (λ (x : ℕ). x % 256) (sym (by-frame n (htOf (b .page)) (vtOf (b .page)))));
       }
 
   pub frame-at-most : frameClocks b ≤ 826752
-  frame-at-most = frame-bound (b .page .irs)
+  frame-at-most = frame-bound (b .page)
 
-  cells-stay : tableOf (b .page .irs) ≡ false → Inside (bufferOf (b .page .irs)) (b .page .starts .start1)
-      → (r c : ℕ) → Inside (bufferOf (b .page .irs)) (cellAt (b .page) chars r c)
+  cells-stay : tableOf (b .page) ≡ false → Inside (bufferOf (b .page)) (b .page .starts .start1)
+      → (r c : ℕ) → Inside (bufferOf (b .page)) (cellAt (b .page) chars r c)
   unfolding cellAt
-  cells-stay t i r c = cells-inside (feedIn (b .page) chars) (tallyIn (b .page) chars) t (buffer-bounded (b .page .irs) .last-lt) i r c
+  cells-stay t i r c = cells-inside (feedIn (b .page) chars) (tallyIn (b .page) chars) t (buffer-bounded (b .page) .last-lt) i r c
 
   -- table off, first ≤ screen start 1 ≤ last: line l of frame k fetches nothing outside that range
   pub record Stays (k l : ℕ) : Type 0 where
     -- every address that an active clock of the line puts out
-    pub stepped : (c : ℕ) → c < hactOf (b .page .irs) → Inside (bufferOf (b .page .irs)) (addressAt b chars attrs f k l c)
+    pub stepped : (c : ℕ) → c < hactOf (b .page) → Inside (bufferOf (b .page)) (addressAt b chars attrs f k l c)
     -- and what is drawn of the line, in any field, is the dots of the cells at those addresses, end to end
     pub drawn : DrawnFrom b chars attrs f l (addressAt b chars attrs f k l)
 
-  pub stays-inside : tableOf (b .page .irs) ≡ false → Inside (bufferOf (b .page .irs)) (b .page .starts .start1)
-      → (k l : ℕ) → l < visibleOf (b .page .irs) .0 → Stays k l
+  pub stays-inside : tableOf (b .page) ≡ false → Inside (bufferOf (b .page)) (b .page .starts .start1)
+      → (k l : ℕ) → l < visibleOf (b .page) .0 → Stays k l
   stays-inside t i k l hl = record {
-    stepped = λ c hc. rw (address-is b chars attrs f ok k l c hl hc) (cells-stay t i (l / linesOf (b .page .irs)) c);
+    stepped = λ c hc. rw (address-is b chars attrs f ok k l c hl hc) (cells-stay t i (l / linesOf (b .page)) c);
     drawn = drawn-from b chars attrs f ok l hl (addressAt b chars attrs f k l) (λ c hc. address-is b chars attrs f ok k l c hl hc);
   }

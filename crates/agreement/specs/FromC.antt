@@ -127,7 +127,7 @@ module _ (numbers chars attrs words flags unshifted shifted : List ℕ) where
   unfolding lineDrawCheck drawCheck numbersCheck
   drawn-begins line room e =
       let d = passed (numbersRefused numbers) Size _ refl (zero-done (lineDrawCheck numbers chars attrs f line room) e) in
-      let asked = leb (visibleOf (b .page .irs) .0) line in
+      let asked = leb (visibleOf (b .page) .0) line in
       let short = ltb room (lineLength b) in
       let page = call-page b (lentRefused chars attrs f) asked short (d .1) in
       begins-from-c (rw (d .0) page) (call-passed b (lentRefused chars attrs f) asked short (d .1) .sized)
@@ -166,11 +166,11 @@ module _ (numbers chars attrs words flags unshifted shifted : List ℕ) where
         rw (steps-from-c m, steps-from-c n) (ap numberOf (s .0), s .1)
 
     -- feldrime_page_size gives the visible lines, and how many bytes a line takes
-    pub size-from-c : sizeFor numbers ≡ sizeAnswer Done (visibleOf (b .page .irs) .0) (lineLength b)
+    pub size-from-c : sizeFor numbers ≡ sizeAnswer Done (visibleOf (b .page) .0) (lineLength b)
     unfolding sizeFor sizeOf numbersCheck
     size-from-c = rw (numbers-passed numbers check-ok, page-fine)
 
-    line-in : (l : ℕ) → l < sizeFor numbers .lines → l < visibleOf (b .page .irs) .0
+    line-in : (l : ℕ) → l < sizeFor numbers .lines → l < visibleOf (b .page) .0
     line-in l h = rw size-from-c at h
 
     room-in : (room : ℕ) → sizeFor numbers .dots ≤ room → lineLength b ≤ room
@@ -190,7 +190,7 @@ module _ (numbers chars attrs words flags unshifted shifted : List ℕ) where
     pub same-line-from-c : (k l : ℕ) → l < sizeFor numbers .lines → (out : List ℕ) → sizeFor numbers .dots ≤ length out
         → (drawC l (length out) ≡ answerOf Done)
         × (drawnC l (k % 256) out
-        ≡ joined 0 (hactOf (b .page .irs)) (λ c. take (b .page .video .dots .0) (stepC (clockOf b k l c) .dots)) ++ drop (sizeFor numbers .dots) out)
+        ≡ joined 0 (hactOf (b .page)) (λ c. take (b .page .video .dots .0) (stepC (clockOf b k l c) .dots)) ++ drop (sizeFor numbers .dots) out)
     unfolding numbered
     same-line-from-c k l hl out room = (
       draw-answers-from-c l hl (length out) room,
@@ -198,7 +198,7 @@ module _ (numbers chars attrs words flags unshifted shifted : List ℕ) where
           ∙ same-line b chars attrs f step-ok k l (line-in l hl) out (room-in (length out) room)
           ∙ rw size-from-c
           (ap (λ (d : List ℕ). d ++ drop (lineLength b) out)
-          (same-joined 0 (hactOf (b .page .irs)) _ _
+          (same-joined 0 (hactOf (b .page)) _ _
           (λ c _ h. ap (λ (x : Board). take (b .page .video .dots .0) (stepOf x chars attrs f .dots)) (sym (steps-from-c (clockOf b k l c)))))),
     )
 
@@ -221,22 +221,22 @@ module _ (numbers chars attrs words flags unshifted shifted : List ℕ) where
         pictured-is field out
         ∙ picture-by-lines b chars attrs f step-ok field out part (rw size-from-c at room) (rw size-from-c at enough)
         ∙ rw size-from-c
-        (ap (λ (d : List ℕ). d ++ drop (visibleOf (b .page .irs) .0 * lineLength b) out)
-        (same-joined 0 (visibleOf (b .page .irs) .0) _ _ (λ l _ h. ap (take (lineLength b)) (sym (drawn-is l field part)))))
+        (ap (λ (d : List ℕ). d ++ drop (visibleOf (b .page) .0 * lineLength b) out)
+        (same-joined 0 (visibleOf (b .page) .0) _ _ (λ l _ h. ap (take (lineLength b)) (sym (drawn-is l field part)))))
 
     -- frame k, with field count k modulo 256: the dots of all its active clocks as feldrime_step answers them, in order
     pub picture-by-steps-from-c : (k : ℕ) (out : List ℕ) → sizeFor numbers .lines * sizeFor numbers .dots ≤ length out
         → picturedC (k % 256) out
-        ≡ joined 0 (sizeFor numbers .lines) (λ l. joined 0 (hactOf (b .page .irs)) (λ c. take (b .page .video .dots .0) (stepC (clockOf b k l c) .dots)))
+        ≡ joined 0 (sizeFor numbers .lines) (λ l. joined 0 (hactOf (b .page)) (λ c. take (b .page .video .dots .0) (stepC (clockOf b k l c) .dots)))
         ++ drop (sizeFor numbers .lines * sizeFor numbers .dots) out
     unfolding numbered
     picture-by-steps-from-c k out room =
         pictured-is (k % 256) out
         ∙ picture-by-steps b chars attrs f step-ok k out (rw size-from-c at room)
         ∙ rw size-from-c
-        (ap (λ (d : List ℕ). d ++ drop (visibleOf (b .page .irs) .0 * lineLength b) out)
-        (same-joined 0 (visibleOf (b .page .irs) .0) _ _ (λ l _ _.
-        same-joined 0 (hactOf (b .page .irs)) _ _
+        (ap (λ (d : List ℕ). d ++ drop (visibleOf (b .page) .0 * lineLength b) out)
+        (same-joined 0 (visibleOf (b .page) .0) _ _ (λ l _ _.
+        same-joined 0 (hactOf (b .page)) _ _
         (λ c _ h. ap (λ (x : Board). take (b .page .video .dots .0) (stepOf x chars attrs f .dots)) (sym (steps-from-c (clockOf b k l c)))))))
 
     -- ---- the frame
@@ -265,7 +265,7 @@ module _ (numbers chars attrs words flags unshifted shifted : List ℕ) where
     abbrev pub DrawnFromC : (line : ℕ) → (address : ℕ → ℕ) → Type 0
     DrawnFromC line address = (field : ℕ) (out : List ℕ) → sizeFor numbers .dots ≤ length out
         → drawnC line field out
-        ≡ joined 0 (hactOf (b .page .irs)) (λ c. shownAt b chars attrs f line field c (heldAt (b .page) chars attrs (rowFor b line) c) (address c))
+        ≡ joined 0 (hactOf (b .page)) (λ c. shownAt b chars attrs f line field c (heldAt (b .page) chars attrs (rowFor b line) c) (address c))
         ++ drop (sizeFor numbers .dots) out
 
     drawn-from-c : (line : ℕ) (address : ℕ → ℕ) → DrawnFrom b chars attrs f line address → DrawnFromC line address
@@ -274,10 +274,10 @@ module _ (numbers chars attrs words flags unshifted shifted : List ℕ) where
     -- table off, first ≤ screen start 1 ≤ last: every address that feldrime_step answers on an active clock of line l of
     -- frame k is in that range, and what feldrime_line_draw puts of the line is the dots of the cells at those addresses
     pub record StaysC (k l : ℕ) : Type 0 where
-      pub stepped : (c : ℕ) → c < hactOf (b .page .irs) → Inside (bufferOf (b .page .irs)) (stepC (clockOf b k l c) .address)
+      pub stepped : (c : ℕ) → c < hactOf (b .page) → Inside (bufferOf (b .page)) (stepC (clockOf b k l c) .address)
       pub drawn : DrawnFromC l (λ c. stepC (clockOf b k l c) .address)
 
-    pub stays-inside-from-c : tableOf (b .page .irs) ≡ false → Inside (bufferOf (b .page .irs)) (b .page .starts .start1)
+    pub stays-inside-from-c : tableOf (b .page) ≡ false → Inside (bufferOf (b .page)) (b .page .starts .start1)
         → (k l : ℕ) → l < sizeFor numbers .lines → StaysC k l
     unfolding numbered
     stays-inside-from-c t i k l hl =
@@ -287,18 +287,18 @@ module _ (numbers chars attrs words flags unshifted shifted : List ℕ) where
           drawn = λ field out room.
               drawn-from-c l _ (s .drawn) field out room
               ∙ ap (λ (d : List ℕ). d ++ drop (sizeFor numbers .dots) out)
-              (same-joined 0 (hactOf (b .page .irs)) _ _ (λ c _ h.
+              (same-joined 0 (hactOf (b .page)) _ _ (λ c _ h.
               ap (λ (x : Board). shownAt b chars attrs f l field c (heldAt (b .page) chars attrs (rowFor b l) c) (stepOf x chars attrs f .address)) (sym (steps-from-c (clockOf b k l c)))));
         }
 
     -- line l of row r, where the row's cells follow from an address: the addresses that feldrime_step answers in every frame, and the cells whose dots
     -- feldrime_line_draw puts
     pub record ShownC (r l start : ℕ) : Type 0 where
-      pub stepped : (k c : ℕ) → c < hactOf (b .page .irs) → stepC (clockOf b k (lineOf b r l) c) .address ≡ follows b start (nthCell b chars r c)
+      pub stepped : (k c : ℕ) → c < hactOf (b .page) → stepC (clockOf b k (lineOf b r l) c) .address ≡ follows b start (nthCell b chars r c)
       pub draw-done : (room : ℕ) → sizeFor numbers .dots ≤ room → drawC (lineOf b r l) room ≡ answerOf Done
       pub drawn : DrawnFromC (lineOf b r l) (λ c. follows b start (nthCell b chars r c))
 
-    module _ (r l : ℕ) (hr : r < rowsOf (b .page .irs)) (hl : l < linesOf (b .page .irs)) where
+    module _ (r l : ℕ) (hr : r < rowsOf (b .page)) (hl : l < linesOf (b .page)) where
       shown-from-c : (start : ℕ) → Shown b chars attrs f step-ok r l hr hl start → ShownC r l start
       unfolding numbered
       shown-from-c start s = record {
@@ -308,11 +308,11 @@ module _ (numbers chars attrs words flags unshifted shifted : List ℕ) where
       }
 
       -- with the row table on they follow from the row's own entry, whatever the rest of memory holds
-      pub row-from-table-from-c : tableOf (b .page .irs) ≡ true → ShownC r l (entryOf (b .page) chars r)
+      pub row-from-table-from-c : tableOf (b .page) ≡ true → ShownC r l (entryOf (b .page) chars r)
       row-from-table-from-c t = shown-from-c (entryOf (b .page) chars r) (row-from-table b chars attrs f step-ok r l hr hl t)
 
       -- with it off, from the cell r x HACT moves after screen start 1
-      pub row-from-start-from-c : tableOf (b .page .irs) ≡ false → ShownC r l (follows b (b .page .starts .start1) (r * hactOf (b .page .irs)))
+      pub row-from-start-from-c : tableOf (b .page) ≡ false → ShownC r l (follows b (b .page .starts .start1) (r * hactOf (b .page)))
       row-from-start-from-c t = shown-from-c _ (row-from-start b chars attrs f step-ok r l hr hl t)
 
       run-is : runFor numbers chars r ≡ runAnswer Done (spanOf b chars r .start) (spanOf b chars r .count)
@@ -358,8 +358,8 @@ module _ (numbers chars attrs words flags unshifted shifted : List ℕ) where
     -- the picture that feldrime_picture_draw leaves is the dots of the cells that feldrime_row_cells gives, row by row, line by line, column by column
     pub picture-from-cells-from-c : (field : ℕ) (cells : List ℕ) → 256 ≤ length cells → (out : List ℕ) → sizeFor numbers .lines * sizeFor numbers .dots ≤ length out
         → picturedC field out
-        ≡ joined 0 (rowsOf (b .page .irs)) (λ r. joined 0 (linesOf (b .page .irs)) (λ l.
-        joined 0 (hactOf (b .page .irs)) (λ c. shownAt b chars attrs f (lineOf b r l) field c (heldAt (b .page) chars attrs r c) (getD (cellsPutFor numbers chars r cells) (nthCell b chars r c) 0))))
+        ≡ joined 0 (rowsOf (b .page)) (λ r. joined 0 (linesOf (b .page)) (λ l.
+        joined 0 (hactOf (b .page)) (λ c. shownAt b chars attrs f (lineOf b r l) field c (heldAt (b .page) chars attrs r c) (getD (cellsPutFor numbers chars r cells) (nthCell b chars r c) 0))))
         ++ drop (sizeFor numbers .lines * sizeFor numbers .dots) out
     unfolding cellsPutFor
     picture-from-cells-from-c field cells wide out room =

@@ -40,10 +40,10 @@ use Rattle.agreement.specs.Steps.{after, fits, lawful, raster-at, atCloc
 
 -- line l of frame k, and clock c of it, counted from clock 0
 unfoldable pub lineCount : Board → (k l : ℕ) → ℕ
-lineCount b k l = k * vtOf (b .page .irs) + l
+lineCount b k l = k * vtOf (b .page) + l
 
 unfoldable pub clockOf : Board → (k l c : ℕ) → ℕ
-clockOf b k l c = lineCount b k l * htOf (b .page .irs) + c
+clockOf b k l c = lineCount b k l * htOf (b .page) + c
 
 -- the address that the step at that clock puts out
 abbrev pub addressAt : Board → (chars attrs : List ℕ) → Font → (k l c : ℕ) → ℕ
@@ -60,53 +60,53 @@ shownAt b chars attrs f line field c held a =
 abbrev pub DrawnFrom : Board → (chars attrs : List ℕ) → Font → (line : ℕ) → (address : ℕ → ℕ) → Type 0
 DrawnFrom b chars attrs f line address = (field : ℕ) (out : List ℕ) → lineLength b ≤ length out
     → drawnOf b chars attrs f line field out
-    ≡ joined 0 (hactOf (b .page .irs)) (λ c. shownAt b chars attrs f line field c (heldAt (b .page) chars attrs (rowFor b line) c) (address c))
+    ≡ joined 0 (hactOf (b .page)) (λ c. shownAt b chars attrs f line field c (heldAt (b .page) chars attrs (rowFor b line) c) (address c))
     ++ drop (lineLength b) out
 
-loaded-visible : (p : Page) (chars attrs : List ℕ) (q : Place) → settledIn p q ≡ q → q .line .0 < visibleOf (p .irs) .0
+loaded-visible : (p : Page) (chars attrs : List ℕ) (q : Place) → settledIn p q ≡ q → q .line .0 < visibleOf p .0
     → loadedIn p chars q ≡ carriedOf (loaded (countsIn p) (carrierIn p chars (setsOf (fieldMode p) attrs)) (q .line .0) (q .clock .0) (rasterOf q .carried))
 unfolding loadedIn loaded countsOf
 loaded-visible p chars attrs q s h =
-    rw (lt-ltb (q .line .0) (visibleOf (p .irs) .0) h)
+    rw (lt-ltb (q .line .0) (visibleOf p .0) h)
     (ap (λ (x : Place). carriedOf (loaded (countsIn p) (carrierIn p chars (setsOf (fieldMode p) attrs)) (q .line .0) (q .clock .0) (rasterOf x .carried))) s)
 
 module _ (b : Board) (chars attrs : List ℕ) (f : Font) (ok : stepCheck b chars attrs f ≡ Done) where
   -- what the step at clock n works on in a visible line
-  pub beam-at : (n : ℕ) → n / htOf (b .page .irs) % vtOf (b .page .irs) < visibleOf (b .page .irs) .0
+  pub beam-at : (n : ℕ) → n / htOf (b .page) % vtOf (b .page) < visibleOf (b .page) .0
       → loadedIn (b .page) chars (placeAt (b .page) chars attrs n) .beam
-      ≡ row (cellAt (b .page) chars (n / htOf (b .page .irs) % vtOf (b .page .irs) / linesOf (b .page .irs)) (n % htOf (b .page .irs)))
-      (heldAt (b .page) chars attrs (n / htOf (b .page .irs) % vtOf (b .page .irs) / linesOf (b .page .irs)) (n % htOf (b .page .irs)))
-      (codeAt (b .page) chars (n / htOf (b .page .irs) % vtOf (b .page .irs) / linesOf (b .page .irs)))
+      ≡ row (cellAt (b .page) chars (n / htOf (b .page) % vtOf (b .page) / linesOf (b .page)) (n % htOf (b .page)))
+      (heldAt (b .page) chars attrs (n / htOf (b .page) % vtOf (b .page) / linesOf (b .page)) (n % htOf (b .page)))
+      (codeAt (b .page) chars (n / htOf (b .page) % vtOf (b .page) / linesOf (b .page)))
   unfolding placeAt scanAt cellAt heldAt validAt countsOf
   beam-at n h =
       let p = b .page in
       let page = fits b chars attrs f ok .page in
       ap (λ (x : Carried). x .beam) (loaded-visible p chars attrs (placeAt p chars attrs n) (at-settled p chars attrs n) h)
-      ∙ ap (λ (s : Scan Row). loaded (countsIn p) (carrierIn p chars (setsOf (fieldMode p) attrs)) (n / htOf (p .irs) % vtOf (p .irs)) (n % htOf (p .irs)) (s .carried) .beam) (raster-at p chars attrs page n)
+      ∙ ap (λ (s : Scan Row). loaded (countsIn p) (carrierIn p chars (setsOf (fieldMode p) attrs)) (n / htOf p % vtOf p) (n % htOf p) (s .carried) .beam) (raster-at p chars attrs page n)
       ∙ ap (λ (x : Pair Row). x .beam)
       (loaded-meets (countsIn p) (carrierIn p chars (setsOf (fieldMode p) attrs)) (rowsIn p chars attrs) (accepted-good p page) (lawful p chars attrs page)
-      (row 0 0 0) (n % htOf (p .irs)) (n / htOf (p .irs) % vtOf (p .irs)) (n / htOf (p .irs) / vtOf (p .irs)) h)
+      (row 0 0 0) (n % htOf p) (n / htOf p % vtOf p) (n / htOf p / vtOf p) h)
 
-  module _ (k l c : ℕ) (hl : l < visibleOf (b .page .irs) .0) (hc : c < hactOf (b .page .irs)) where
-    c-lt : c < htOf (b .page .irs)
+  module _ (k l c : ℕ) (hl : l < visibleOf (b .page) .0) (hc : c < hactOf (b .page)) where
+    c-lt : c < htOf (b .page)
     c-lt = omega (arith, fits b chars attrs f ok .page .hfp)
 
-    l-lt : l < vtOf (b .page .irs)
+    l-lt : l < vtOf (b .page)
     l-lt = omega arith
 
-    clock-is : clockOf b k l c % htOf (b .page .irs) ≡ c
+    clock-is : clockOf b k l c % htOf (b .page) ≡ c
     unfolding clockOf
     clock-is = digits-mod (lineCount b k l) c-lt
 
-    count-is : clockOf b k l c / htOf (b .page .irs) ≡ lineCount b k l
+    count-is : clockOf b k l c / htOf (b .page) ≡ lineCount b k l
     unfolding clockOf
     count-is = digits-div (lineCount b k l) c-lt
 
-    line-is : clockOf b k l c / htOf (b .page .irs) % vtOf (b .page .irs) ≡ l
+    line-is : clockOf b k l c / htOf (b .page) % vtOf (b .page) ≡ l
     unfolding lineCount
     line-is = rw count-is (digits-mod k l-lt)
 
-    frame-is : clockOf b k l c / htOf (b .page .irs) / vtOf (b .page .irs) ≡ k
+    frame-is : clockOf b k l c / htOf (b .page) / vtOf (b .page) ≡ k
     unfolding lineCount
     frame-is = rw count-is (digits-div k l-lt)
 
@@ -115,14 +115,14 @@ module _ (b : Board) (chars attrs : List ℕ) (f : Font) (ok : stepCheck b chars
     worked-on = beam-at (clockOf b k l c) (rw line-is hl) ∙ rw (line-is, clock-is)
 
     -- the address that the step puts out, and the board's place
-    pub address-is : stepOf (after b chars attrs f (clockOf b k l c)) chars attrs f .address ≡ cellAt (b .page) chars (l / linesOf (b .page .irs)) c
+    pub address-is : stepOf (after b chars attrs f (clockOf b k l c)) chars attrs f .address ≡ cellAt (b .page) chars (l / linesOf (b .page)) c
     unfolding steppedOf
     address-is =
         rw (steps-are b chars attrs f ok (clockOf b k l c), step-is b chars attrs f ok (clockOf b k l c)) (ap (λ (x : Row). x .address) worked-on)
 
     active : activeAt (b .page) (atClock b chars attrs f ok (clockOf b k l c) .place) ≡ true
     unfolding placeAt scanAt countsOf
-    active = rw (line-is, clock-is, lt-ltb l (visibleOf (b .page .irs) .0) hl, lt-ltb c (hactOf (b .page .irs)) hc)
+    active = rw (line-is, clock-is, lt-ltb l (visibleOf (b .page) .0) hl, lt-ltb c (hactOf (b .page)) hc)
 
     pub dots-are : stepOf (after b chars attrs f (clockOf b k l c)) chars attrs f .dots
         ≡ padded (columnDots b chars attrs f l (k % 256) c) (b .page .video .dots .0)
@@ -135,41 +135,41 @@ module _ (b : Board) (chars attrs : List ℕ) (f : Font) (ok : stepCheck b chars
   -- ---- the line
 
   -- a visible line and a buffer with room: nothing is refused, and the line's dots stand at the front of the buffer
-  pub draw-answers : (l : ℕ) → l < visibleOf (b .page .irs) .0 → (room : ℕ) → lineLength b ≤ room
+  pub draw-answers : (l : ℕ) → l < visibleOf (b .page) .0 → (room : ℕ) → lineLength b ≤ room
       → drawCheck b (lentRefused chars attrs f) l room ≡ Done
   unfolding drawCheck
-  draw-answers l hl room h = rw (lt-leb (visibleOf (b .page .irs) .0) l hl, le-ltb room (lineLength b) h) ok
+  draw-answers l hl room h = rw (lt-leb (visibleOf (b .page) .0) l hl, le-ltb room (lineLength b) h) ok
 
-  pub draw-is : (l : ℕ) → l < visibleOf (b .page .irs) .0 → (field : ℕ) (out : List ℕ) → lineLength b ≤ length out
+  pub draw-is : (l : ℕ) → l < visibleOf (b .page) .0 → (field : ℕ) (out : List ℕ) → lineLength b ≤ length out
       → drawnOf b chars attrs f l field out ≡ lineDots b chars attrs f l field ++ drop (lineLength b) out
   unfolding drawnOf
   draw-is l hl field out room = rw (draw-answers l hl (length out) room)
 
-  pub drawn-from : (l : ℕ) → l < visibleOf (b .page .irs) .0 → (address : ℕ → ℕ)
-      → ((c : ℕ) → c < hactOf (b .page .irs) → address c ≡ cellAt (b .page) chars (l / linesOf (b .page .irs)) c) → DrawnFrom b chars attrs f l address
+  pub drawn-from : (l : ℕ) → l < visibleOf (b .page) .0 → (address : ℕ → ℕ)
+      → ((c : ℕ) → c < hactOf (b .page) → address c ≡ cellAt (b .page) chars (l / linesOf (b .page)) c) → DrawnFrom b chars attrs f l address
   unfolding lineDots columnDots
   drawn-from l hl address same field out room =
       draw-is l hl field out room
       ∙ ap (λ (d : List ℕ). d ++ drop (lineLength b) out)
-      (same-joined 0 (hactOf (b .page .irs)) _ _
+      (same-joined 0 (hactOf (b .page)) _ _
       (λ c _ h. ap (shownAt b chars attrs f l field c (heldAt (b .page) chars attrs (rowFor b l) c)) (sym (same c (omega arith)))))
 
-  module _ (k l : ℕ) (hl : l < visibleOf (b .page .irs) .0) where
+  module _ (k l : ℕ) (hl : l < visibleOf (b .page) .0) where
     -- the dots that the step at column c puts out, without the places past them
     abbrev stepDots : ℕ → List ℕ
     stepDots c = take (b .page .video .dots .0) (stepOf (after b chars attrs f (clockOf b k l c)) chars attrs f .dots)
 
-    same-dots : (c : ℕ) → c < hactOf (b .page .irs) → stepDots c ≡ columnDots b chars attrs f l (k % 256) c
+    same-dots : (c : ℕ) → c < hactOf (b .page) → stepDots c ≡ columnDots b chars attrs f l (k % 256) c
     same-dots c hc =
         rw (dots-are k l c hl hc)
         (take-at _ _ (b .page .video .dots .0) (length-dots b chars attrs f l (k % 256) (fits b chars attrs f ok .page) c))
 
     -- the dots of the active clocks of line l of frame k, end to end
-    pub stepped-line : joined 0 (hactOf (b .page .irs)) stepDots ≡ lineDots b chars attrs f l (k % 256)
+    pub stepped-line : joined 0 (hactOf (b .page)) stepDots ≡ lineDots b chars attrs f l (k % 256)
     unfolding lineDots
-    stepped-line = same-joined 0 (hactOf (b .page .irs)) stepDots (columnDots b chars attrs f l (k % 256)) (λ c _ h. same-dots c (omega arith))
+    stepped-line = same-joined 0 (hactOf (b .page)) stepDots (columnDots b chars attrs f l (k % 256)) (λ c _ h. same-dots c (omega arith))
 
     -- the line drawn whole with field count k modulo 256, into any buffer that has room
     pub same-line : (out : List ℕ) → lineLength b ≤ length out
-        → drawnOf b chars attrs f l (k % 256) out ≡ joined 0 (hactOf (b .page .irs)) stepDots ++ drop (lineLength b) out
+        → drawnOf b chars attrs f l (k % 256) out ≡ joined 0 (hactOf (b .page)) stepDots ++ drop (lineLength b) out
     same-line out room = draw-is l hl (k % 256) out room ∙ ap (λ (d : List ℕ). d ++ drop (lineLength b) out) (sym stepped-line)

@@ -53,8 +53,8 @@ module _ (p : Page) (character : fieldMode p ≡ false) (chars attrs : List ℕ)
       let s = sym (next-settled p chars attrs q) in
       (ap (λ (x : Place). x .beam .latch) s ∙ none-counts _, ap (λ (x : Place). x .row .latch) s ∙ none-counts _)
 
-module _ (p : Page) (plain : codedOf (p .irs) ≡ false) (chars attrs : List ℕ) where
-  pub no-row-codes : (row : ℕ) → (codeAt p chars row ≡ 0) × (fetchedOf p chars row ≡ hactOf (p .irs))
+module _ (p : Page) (plain : codedOf p ≡ false) (chars attrs : List ℕ) where
+  pub no-row-codes : (row : ℕ) → (codeAt p chars row ≡ 0) × (fetchedOf p chars row ≡ hactOf p)
   unfolding fetchedOf countsOf
   no-row-codes row = (no-codes p chars plain row, rw (no-codes p chars plain row))
 

@@ -29,7 +29,7 @@ use Rattle.catalogue.specs.Marks.{own-passed}
 
 page-below : (p : Page) → numberOf (pageCheck p) < 16
 unfolding pageCheck
-page-below p = go (addressRefused p) (reservedRefused (p .irs)) (backPorchRefused (p .irs)) (lineShort (p .irs)) (frontPorchRefused (p .irs)) (widthRefused (p .video .dots)) (missing (p .irs))
+page-below p = go (addressRefused p) (reservedRefused p) (backPorchRefused p) (lineShort p) (frontPorchRefused p) (widthRefused (p .video .dots)) (missing p)
   where
     go : (a r b l f w : Bool) (n : Clocks)
         → numberOf (firstOf ((a, Address) ∷ (r, Reserved) ∷ (b, BackPorch) ∷ (l, LineShort n) ∷ (f, FrontPorch n) ∷ (w, Width) ∷ []) Done) < 16
@@ -63,10 +63,10 @@ module _ (b : Board) where
     own = doneOf (ownCheck b (length chars))
 
     abbrev on : Bool
-    on = tableOf (b .page .irs)
+    on = tableOf (b .page)
 
     abbrev coded : Bool
-    coded = codedOf (b .page .irs)
+    coded = codedOf (b .page)
 
     -- no place has a table's cells unfetched
     abbrev none : Bool

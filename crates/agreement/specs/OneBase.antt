@@ -200,38 +200,38 @@ page-check-one p = only _
 pub page-size-one : (p : Page) → OneAnswer (λ r. r ≡ sizeOf p)
 page-size-one p = only _
 
-pub timing-of-one : (irs : List ℕ) → OneAnswer (λ r. r ≡ timingOf irs)
-timing-of-one irs = only _
+pub timing-of-one : (p : Page) → OneAnswer (λ r. r ≡ timingOf p)
+timing-of-one p = only _
 
-pub row-of-one : (irs : List ℕ) (line : Lines) → OneAnswer (λ r. r ≡ line .0 / linesOf irs)
-row-of-one irs line = only _
+pub row-of-one : (p : Page) (line : Lines) → OneAnswer (λ r. r ≡ line .0 / linesOf p)
+row-of-one p line = only _
 
-pub line-of-row-one : (irs : List ℕ) (line : Lines) → OneAnswer (λ r. r ≡ lines (line .0 % linesOf irs))
-line-of-row-one irs line = only _
+pub line-of-row-one : (p : Page) (line : Lines) → OneAnswer (λ r. r ≡ lines (line .0 % linesOf p))
+line-of-row-one p line = only _
 
-pub buffer-of-one : (irs : List ℕ) → OneAnswer (λ r. r ≡ bufferOf irs)
-buffer-of-one irs = only _
+pub buffer-of-one : (p : Page) → OneAnswer (λ r. r ≡ bufferOf p)
+buffer-of-one p = only _
 
-pub table-of-one : (irs : List ℕ) → OneAnswer (λ r. r ≡ tableOf irs)
-table-of-one irs = only _
+pub table-of-one : (p : Page) → OneAnswer (λ r. r ≡ tableOf p)
+table-of-one p = only _
 
-pub coded-of-one : (irs : List ℕ) → OneAnswer (λ r. r ≡ codedOf irs)
-coded-of-one irs = only _
+pub coded-of-one : (p : Page) → OneAnswer (λ r. r ≡ codedOf p)
+coded-of-one p = only _
 
-pub cursor-of-one : (irs : List ℕ) → OneAnswer (λ r. r ≡ cursorOf irs)
-cursor-of-one irs = only _
+pub cursor-of-one : (p : Page) → OneAnswer (λ r. r ≡ cursorOf p)
+cursor-of-one p = only _
 
-pub underline-of-one : (irs : List ℕ) → OneAnswer (λ r. r ≡ underlineOf irs)
-underline-of-one irs = only _
+pub underline-of-one : (p : Page) → OneAnswer (λ r. r ≡ underlineOf p)
+underline-of-one p = only _
 
-pub blink-of-one : (irs : List ℕ) → OneAnswer (λ r. r ≡ blinkOf irs)
-blink-of-one irs = only _
+pub blink-of-one : (p : Page) → OneAnswer (λ r. r ≡ blinkOf p)
+blink-of-one p = only _
 
 pub width-refused-one : (d : Dots) → OneAnswer (λ r. r ≡ widthRefused d)
 width-refused-one d = only _
 
-pub visible-of-one : (irs : List ℕ) → OneAnswer (λ r. r ≡ visibleOf irs)
-visible-of-one irs = only _
+pub visible-of-one : (p : Page) → OneAnswer (λ r. r ≡ visibleOf p)
+visible-of-one p = only _
 
 pub state-refused-one : (b : Board) → OneAnswer (λ r. r ≡ stateRefused b)
 state-refused-one b = only _

@@ -182,8 +182,8 @@ reading-of-one p = only _
 pub scan-of-one : (k : Code) (of line : ℕ) → OneAnswer (λ r. r ≡ lines (scanOf k of line))
 scan-of-one k of line = only _
 
-pub scan-at-one : (irs : List ℕ) (k : Code) (line : ℕ) → OneAnswer (λ r. r ≡ lines (scanAt irs k line))
-scan-at-one irs k line = only _
+pub scan-at-one : (p : Page) (k : Code) (line : ℕ) → OneAnswer (λ r. r ≡ lines (scanAt p k line))
+scan-at-one p k line = only _
 
 pub counted-byte-one : (k : Reading) (again : Bool) (byte : ℕ) → OneAnswer (λ r. r ≡ countedByte k again byte)
 counted-byte-one k again byte = only _

@@ -39,32 +39,32 @@ module _ (b : Board) (chars attrs : List ℕ) (f : Font) (ok : stepCheck b chars
   abbrev written : (field : ℕ) → List ℕ → ℕ → List ℕ
   written field part l = take (lineLength b) (drawnOf b chars attrs f l field part)
 
-  written-is : (field : ℕ) (part : List ℕ) → lineLength b ≤ length part → (l : ℕ) → l < visibleOf (b .page .irs) .0 → written field part l ≡ lineDots b chars attrs f l field
+  written-is : (field : ℕ) (part : List ℕ) → lineLength b ≤ length part → (l : ℕ) → l < visibleOf (b .page) .0 → written field part l ≡ lineDots b chars attrs f l field
   written-is field part room l h =
       rw (draw-is b chars attrs f ok l h field part room)
       (take-at _ _ (lineLength b) (length-line b chars attrs f l field (fits b chars attrs f ok .page)))
 
   -- the picture is what draw_line writes of line 0, 1, .., end to end; bytes beyond stay
   pub picture-by-lines : (field : ℕ) (out part : List ℕ) → pictureLength (b .page) ≤ length out → lineLength b ≤ length part
-      → picturedOf b chars attrs f field out ≡ joined 0 (visibleOf (b .page .irs) .0) (written field part) ++ drop (pictureLength (b .page)) out
+      → picturedOf b chars attrs f field out ≡ joined 0 (visibleOf (b .page) .0) (written field part) ++ drop (pictureLength (b .page)) out
   unfolding pictureDots
   picture-by-lines field out part room enough =
       picture-is field out room
       ∙ ap (λ (d : List ℕ). d ++ drop (pictureLength (b .page)) out)
-      (same-joined 0 (visibleOf (b .page .irs) .0) _ _ (λ l _ h. sym (written-is field part enough l (omega arith))))
+      (same-joined 0 (visibleOf (b .page) .0) _ _ (λ l _ h. sym (written-is field part enough l (omega arith))))
 
   -- the dots of the active clocks of line l of frame k, end to end
   abbrev pub lineSteps : (k l : ℕ) → List ℕ
-  lineSteps k l = joined 0 (hactOf (b .page .irs)) (λ c. take (b .page .video .dots .0) (stepOf (after b chars attrs f (clockOf b k l c)) chars attrs f .dots))
+  lineSteps k l = joined 0 (hactOf (b .page)) (λ c. take (b .page .video .dots .0) (stepOf (after b chars attrs f (clockOf b k l c)) chars attrs f .dots))
 
   -- the picture with field count k modulo 256 is the dots of all active clocks of frame k, in order
   pub picture-by-steps : (k : ℕ) (out : List ℕ) → pictureLength (b .page) ≤ length out
-      → picturedOf b chars attrs f (k % 256) out ≡ joined 0 (visibleOf (b .page .irs) .0) (lineSteps k) ++ drop (pictureLength (b .page)) out
+      → picturedOf b chars attrs f (k % 256) out ≡ joined 0 (visibleOf (b .page) .0) (lineSteps k) ++ drop (pictureLength (b .page)) out
   unfolding pictureDots
   picture-by-steps k out room =
       picture-is (k % 256) out room
       ∙ ap (λ (d : List ℕ). d ++ drop (pictureLength (b .page)) out)
-      (same-joined 0 (visibleOf (b .page .irs) .0) _ _ (λ l _ h. sym (stepped-line b chars attrs f ok k l (omega arith))))
+      (same-joined 0 (visibleOf (b .page) .0) _ _ (λ l _ h. sym (stepped-line b chars attrs f ok k l (omega arith))))
 
   -- ---- the cells of its rows
 
@@ -72,25 +72,25 @@ module _ (b : Board) (chars attrs : List ℕ) (f : Font) (ok : stepCheck b chars
     -- line l of row r from what `row_cells` leaves of the row in a buffer, and what is valid before each of its cells
     abbrev pub cellLine : (r l : ℕ) → List ℕ
     cellLine r l =
-        joined 0 (hactOf (b .page .irs)) (λ c. shownAt b chars attrs f (lineOf b r l) field c (heldAt (b .page) chars attrs r c) (getD (cellsPut b chars r cells) (nthCell b chars r c) 0))
+        joined 0 (hactOf (b .page)) (λ c. shownAt b chars attrs f (lineOf b r l) field c (heldAt (b .page) chars attrs r c) (getD (cellsPut b chars r cells) (nthCell b chars r c) 0))
 
-    line-from-cells : (r l : ℕ) → r < rowsOf (b .page .irs) → l < linesOf (b .page .irs) → lineDots b chars attrs f (lineOf b r l) field ≡ cellLine r l
+    line-from-cells : (r l : ℕ) → r < rowsOf (b .page) → l < linesOf (b .page) → lineDots b chars attrs f (lineOf b r l) field ≡ cellLine r l
     unfolding lineDots columnDots
     line-from-cells r l hr hl =
-        let q : lineOf b r l / linesOf (b .page .irs) ≡ r = digits-div r hl in
-        same-joined 0 (hactOf (b .page .irs)) _ _ (λ c _ h.
+        let q : lineOf b r l / linesOf (b .page) ≡ r = digits-div r hl in
+        same-joined 0 (hactOf (b .page)) _ _ (λ c _ h.
         ap (λ (x : ℕ). shownAt b chars attrs f (lineOf b r l) field c (heldAt (b .page) chars attrs x c) (cellAt (b .page) chars x c)) q
         ∙ ap (shownAt b chars attrs f (lineOf b r l) field c (heldAt (b .page) chars attrs r c)) (sym (at-column b chars attrs f ok r l hr hl cells wide c (omega arith))))
 
     -- the picture is the dots of the cells that `row_cells` gives, row by row, line by line, column by column; bytes beyond stay
     pub picture-from-cells : (out : List ℕ) → pictureLength (b .page) ≤ length out
         → picturedOf b chars attrs f field out
-        ≡ joined 0 (rowsOf (b .page .irs)) (λ r. joined 0 (linesOf (b .page .irs)) (cellLine r)) ++ drop (pictureLength (b .page)) out
+        ≡ joined 0 (rowsOf (b .page)) (λ r. joined 0 (linesOf (b .page)) (cellLine r)) ++ drop (pictureLength (b .page)) out
     unfolding pictureDots
     picture-from-cells out room =
         picture-is field out room
         ∙ ap (λ (d : List ℕ). d ++ drop (pictureLength (b .page)) out)
         (sym
-        (same-joined 0 (rowsOf (b .page .irs)) _ _ (λ r _ hr.
-        same-joined 0 (linesOf (b .page .irs)) _ _ (λ l _ hl. sym (line-from-cells r l (omega arith) (omega arith))))
-        ∙ join-all (λ (line : ℕ). lineDots b chars attrs f line field) (linesOf (b .page .irs)) (rowsOf (b .page .irs))))
+        (same-joined 0 (rowsOf (b .page)) _ _ (λ r _ hr.
+        same-joined 0 (linesOf (b .page)) _ _ (λ l _ hl. sym (line-from-cells r l (omega arith) (omega arith))))
+        ∙ join-all (λ (line : ℕ). lineDots b chars attrs f line field) (linesOf (b .page)) (rowsOf (b .page))))

@@ -19,34 +19,31 @@ use Rattle.timing.specs.Fields.{ir, restOf, hfpOf, htOf}
 use Rattle.timing.specs.Check.{reservedRefused, backPorchRefused, lineShort, frontPorchRefused, missing, widthRefused, pageCheck}
 
 -- 01: HBP code 0, or HFP below 2
-abbrev pub porchRefused : List ℕ → Bool
-porchRefused irs = eqb (ir irs 2 % 8) 0 || ltb (hfpOf irs) 2
+abbrev pub porchRefused : Page → Bool
+porchRefused p = eqb (ir p 2 % 8) 0 || ltb (hfpOf p) 2
 
 abbrev pub accepted : Page → Bool
-accepted p = not (addressRefused p) && not (reservedRefused (p .irs)) && not (porchRefused (p .irs)) && not (widthRefused (p .video .dots))
+accepted p = not (addressRefused p) && not (reservedRefused p) && not (porchRefused p) && not (widthRefused (p .video .dots))
 
 -- the page check by its six facts
 abbrev order : (a r b l f w : Bool) → Clocks → Refusal
 order a r b l f w n = firstOf ((a, Address) ∷ (r, Reserved) ∷ (b, BackPorch) ∷ (l, LineShort n) ∷ (f, FrontPorch n) ∷ (w, Width) ∷ []) Done
 
 module _ (p : Page) where
-  abbrev irs : List ℕ
-  irs = p .irs
-
-  by-facts : pageCheck p ≡ order (addressRefused p) (reservedRefused irs) (backPorchRefused irs) (lineShort irs) (frontPorchRefused irs) (widthRefused (p .video .dots)) (missing irs)
+  by-facts : pageCheck p ≡ order (addressRefused p) (reservedRefused p) (backPorchRefused p) (lineShort p) (frontPorchRefused p) (widthRefused (p .video .dots)) (missing p)
   unfolding pageCheck
   by-facts = refl
 
   -- a line that is too short has no front porch
-  short-porch : lineShort irs ≡ true → frontPorchRefused irs ≡ true
-  short-porch e = lt-ltb (hfpOf irs) 2 (omega (arith, ltb-true (htOf irs) (restOf irs) e))
+  short-porch : lineShort p ≡ true → frontPorchRefused p ≡ true
+  short-porch e = lt-ltb (hfpOf p) 2 (omega (arith, ltb-true (htOf p) (restOf p) e))
 
   pub accepted-exactly : doneOf (pageCheck p) ≡ accepted p
   accepted-exactly =
-      ap doneOf by-facts ∙ go (addressRefused p) (reservedRefused irs) (backPorchRefused irs) (lineShort irs) (frontPorchRefused irs) (widthRefused (p .video .dots)) short-porch
+      ap doneOf by-facts ∙ go (addressRefused p) (reservedRefused p) (backPorchRefused p) (lineShort p) (frontPorchRefused p) (widthRefused (p .video .dots)) short-porch
     where
       go : (a r b l f w : Bool) → (l ≡ true → f ≡ true)
-          → doneOf (order a r b l f w (missing irs)) ≡ not a && not r && not (b || f) && not w
+          → doneOf (order a r b l f w (missing p)) ≡ not a && not r && not (b || f) && not w
       go true r b l f w s = refl
       go false true b l f w s = refl
       go false false true l f w s = refl
@@ -60,25 +57,25 @@ module _ (p : Page) where
 
   -- neither 12 nor 4, which come before a porch
   abbrev pub clear : Bool
-  clear = not (addressRefused p) && not (reservedRefused irs)
+  clear = not (addressRefused p) && not (reservedRefused p)
 
   -- nor 13
   abbrev pub reached : Bool
-  reached = clear && not (backPorchRefused irs)
+  reached = clear && not (backPorchRefused p)
 
   -- each exactly where its fact holds and none before it does, and what stands beside it
-  pub told : (eqb number 13 ≡ clear && backPorchRefused irs)
-      × (eqb number 14 ≡ reached && lineShort irs)
-      × (eqb number 15 ≡ reached && not (lineShort irs) && frontPorchRefused irs)
-      × (besideOf (pageCheck p) ≡ pick (eqb number 14 || eqb number 15) (restOf irs + 2 - htOf irs) 0)
+  pub told : (eqb number 13 ≡ clear && backPorchRefused p)
+      × (eqb number 14 ≡ reached && lineShort p)
+      × (eqb number 15 ≡ reached && not (lineShort p) && frontPorchRefused p)
+      × (besideOf (pageCheck p) ≡ pick (eqb number 14 || eqb number 15) (restOf p + 2 - htOf p) 0)
   unfolding pageCheck
-  told = go (addressRefused p) (reservedRefused irs) (backPorchRefused irs) (lineShort irs) (frontPorchRefused irs) (widthRefused (p .video .dots))
+  told = go (addressRefused p) (reservedRefused p) (backPorchRefused p) (lineShort p) (frontPorchRefused p) (widthRefused (p .video .dots))
     where
-      go : (a r b l f w : Bool) → (eqb (numberOf (order a r b l f w (missing irs))) 13 ≡ not a && not r && b)
-          × (eqb (numberOf (order a r b l f w (missing irs))) 14 ≡ not a && not r && not b && l)
-          × (eqb (numberOf (order a r b l f w (missing irs))) 15 ≡ not a && not r && not b && not l && f)
-          × (besideOf (order a r b l f w (missing irs))
-          ≡ pick (eqb (numberOf (order a r b l f w (missing irs))) 14 || eqb (numberOf (order a r b l f w (missing irs))) 15) (restOf irs + 2 - htOf irs) 0)
+      go : (a r b l f w : Bool) → (eqb (numberOf (order a r b l f w (missing p))) 13 ≡ not a && not r && b)
+          × (eqb (numberOf (order a r b l f w (missing p))) 14 ≡ not a && not r && not b && l)
+          × (eqb (numberOf (order a r b l f w (missing p))) 15 ≡ not a && not r && not b && not l && f)
+          × (besideOf (order a r b l f w (missing p))
+          ≡ pick (eqb (numberOf (order a r b l f w (missing p))) 14 || eqb (numberOf (order a r b l f w (missing p))) 15) (restOf p + 2 - htOf p) 0)
       go true r b l f w = (refl, refl, refl, refl)
       go false true b l f w = (refl, refl, refl, refl)
       go false false true l f w = (refl, refl, refl, refl)
@@ -89,14 +86,14 @@ module _ (p : Page) where
 
   pub missed-14 : number ≡ 14 → 3 ≤ besideOf (pageCheck p)
   missed-14 e =
-      let short = both reached (lineShort irs) (sym (told .1) ∙ rw e) .1 in
-      rw (told .3, e) (omega (arith, ltb-true (htOf irs) (restOf irs) short))
+      let short = both reached (lineShort p) (sym (told .1) ∙ rw e) .1 in
+      rw (told .3, e) (omega (arith, ltb-true (htOf p) (restOf p) short))
 
   pub missed-15 : number ≡ 15 → (1 ≤ besideOf (pageCheck p)) × (besideOf (pageCheck p) ≤ 2)
   missed-15 e =
-      let f = both (reached && not (lineShort irs)) (frontPorchRefused irs) (sym (told .2) ∙ rw e) in
-      let long = ltb-false (htOf irs) (restOf irs) (not-true _ (both reached (not (lineShort irs)) (f .0) .1)) in
-      let low = ltb-true (hfpOf irs) 2 (f .1) in
+      let f = both (reached && not (lineShort p)) (frontPorchRefused p) (sym (told .2) ∙ rw e) in
+      let long = ltb-false (htOf p) (restOf p) (not-true _ (both reached (not (lineShort p)) (f .0) .1)) in
+      let low = ltb-true (hfpOf p) 2 (f .1) in
       rw (told .3, e) (omega (arith, long, low), omega (arith, long, low))
 
 -- no other refusal has a number beside it

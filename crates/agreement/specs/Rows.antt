@@ -34,11 +34,11 @@ use Rattle.agreement.specs.Lines.{addressAt, shownAt, DrawnFrom, address
 
 -- line l of row r
 abbrev pub lineOf : Board → (r l : ℕ) → ℕ
-lineOf b r l = r * linesOf (b .page .irs) + l
+lineOf b r l = r * linesOf (b .page) + l
 
 -- what follows from an address: the cell i moves on
 abbrev pub follows : Board → (from i : ℕ) → ℕ
-follows b from i = advanceBy (bufferOf (b .page .irs)) i from
+follows b from i = advanceBy (bufferOf (b .page)) i from
 
 -- how many of its cells row r fetches before the one that column c shows: each has a column, or where the row is of double width two
 abbrev pub nthCell : Board → (chars : List ℕ) → (r c : ℕ) → ℕ
@@ -48,41 +48,41 @@ nthCell b chars r c = pick (isWide (codeOf (codeAt (b .page) chars r))) (c / 2) 
 abbrev pub nthColumn : Board → (chars : List ℕ) → (r i : ℕ) → ℕ
 nthColumn b chars r i = pick (isWide (codeOf (codeAt (b .page) chars r))) (2 * i) i
 
-column-in : (b : Board) (chars : List ℕ) (r i : ℕ) → i < fetchedOf (b .page) chars r → (nthColumn b chars r i < hactOf (b .page .irs)) × (nthCell b chars r (nthColumn b chars r i) ≡ i)
+column-in : (b : Board) (chars : List ℕ) (r i : ℕ) → i < fetchedOf (b .page) chars r → (nthColumn b chars r i < hactOf (b .page)) × (nthCell b chars r (nthColumn b chars r i) ≡ i)
 unfolding fetchedOf countsOf
 column-in b chars r i = go (isWide (codeOf (codeAt (b .page) chars r)))
   where
-    go : (t : Bool) → i < pick t ((hactOf (b .page .irs) + 1) / 2) (hactOf (b .page .irs)) → (pick t (2 * i) i < hactOf (b .page .irs)) × (pick t (pick t (2 * i) i / 2) (pick t (2 * i) i) ≡ i)
+    go : (t : Bool) → i < pick t ((hactOf (b .page) + 1) / 2) (hactOf (b .page)) → (pick t (2 * i) i < hactOf (b .page)) × (pick t (pick t (2 * i) i / 2) (pick t (2 * i) i) ≡ i)
     go true h = (omega (arith, h), omega arith)
     go false h = (h, refl)
 
-pub cell-in : (b : Board) (chars : List ℕ) (r c : ℕ) → c < hactOf (b .page .irs) → nthCell b chars r c < fetchedOf (b .page) chars r
+pub cell-in : (b : Board) (chars : List ℕ) (r c : ℕ) → c < hactOf (b .page) → nthCell b chars r c < fetchedOf (b .page) chars r
 unfolding fetchedOf countsOf
 cell-in b chars r c h = go (isWide (codeOf (codeAt (b .page) chars r)))
   where
-    go : (t : Bool) → pick t (c / 2) c < pick t ((hactOf (b .page .irs) + 1) / 2) (hactOf (b .page .irs))
+    go : (t : Bool) → pick t (c / 2) c < pick t ((hactOf (b .page) + 1) / 2) (hactOf (b .page))
     go true = omega (arith, h)
     go false = h
 
 module _ (b : Board) (chars attrs : List ℕ) (f : Font) (ok : stepCheck b chars attrs f ≡ Done) (r l : ℕ)
-    (hr : r < rowsOf (b .page .irs)) (hl : l < linesOf (b .page .irs)) where
-  row-is : lineOf b r l / linesOf (b .page .irs) ≡ r
+    (hr : r < rowsOf (b .page)) (hl : l < linesOf (b .page)) where
+  row-is : lineOf b r l / linesOf (b .page) ≡ r
   row-is = digits-div r hl
 
-  line-visible : lineOf b r l < visibleOf (b .page .irs) .0
+  line-visible : lineOf b r l < visibleOf (b .page) .0
   line-visible = digits-lt hr hl
 
   -- what `step` puts out on line l of row r
-  fetched : (k c : ℕ) → c < hactOf (b .page .irs) → addressAt b chars attrs f k (lineOf b r l) c ≡ cellAt (b .page) chars r c
+  fetched : (k c : ℕ) → c < hactOf (b .page) → addressAt b chars attrs f k (lineOf b r l) c ≡ cellAt (b .page) chars r c
   fetched k c h = address-is b chars attrs f ok k (lineOf b r l) c line-visible h ∙ rw row-is
 
   -- what `step` puts out and what `draw_line` writes on line l of row r, where the row's cells follow from an address
   pub record Shown (start : ℕ) : Type 0 where
-    pub stepped : (k c : ℕ) → c < hactOf (b .page .irs) → addressAt b chars attrs f k (lineOf b r l) c ≡ follows b start (nthCell b chars r c)
+    pub stepped : (k c : ℕ) → c < hactOf (b .page) → addressAt b chars attrs f k (lineOf b r l) c ≡ follows b start (nthCell b chars r c)
     pub drawn : DrawnFrom b chars attrs f (lineOf b r l) (λ c. follows b start (nthCell b chars r c))
 
   -- what column c shows, from the row's start
-  from-start : (start : ℕ) → start ≡ rowStart (b .page) chars r → (c : ℕ) → c < hactOf (b .page .irs) → follows b start (nthCell b chars r c) ≡ cellAt (b .page) chars r c
+  from-start : (start : ℕ) → start ≡ rowStart (b .page) chars r → (c : ℕ) → c < hactOf (b .page) → follows b start (nthCell b chars r c) ≡ cellAt (b .page) chars r c
   unfolding fetchAt
   from-start start begins c h = rw begins (cell-shown (b .page) chars r c h)
 
@@ -93,21 +93,21 @@ module _ (b : Board) (chars attrs : List ℕ) (f : Font) (ok : stepCheck b chars
   }
 
   -- with the table on: they follow from the row's entry
-  pub row-from-table : tableOf (b .page .irs) ≡ true → Shown (entryOf (b .page) chars r)
+  pub row-from-table : tableOf (b .page) ≡ true → Shown (entryOf (b .page) chars r)
   row-from-table t = shown (entryOf (b .page) chars r) (start-table (b .page) chars r t)
 
   -- with it off: from the cell r x HACT moves after screen start 1
-  pub row-from-start : tableOf (b .page .irs) ≡ false → Shown (follows b (b .page .starts .start1) (r * hactOf (b .page .irs)))
-  row-from-start t = shown (follows b (b .page .starts .start1) (r * hactOf (b .page .irs))) (start-sheet (b .page) chars r t)
+  pub row-from-start : tableOf (b .page) ≡ false → Shown (follows b (b .page .starts .start1) (r * hactOf (b .page)))
+  row-from-start t = shown (follows b (b .page .starts .start1) (r * hactOf (b .page))) (start-sheet (b .page) chars r t)
 
   -- in character mode nothing that stands before a cell plays a part in its dots
   pub plain-row : fieldMode (b .page) ≡ false → (start : ℕ) → Shown start → (field : ℕ) (out : List ℕ) → lineLength b ≤ length out
       → drawnOf b chars attrs f (lineOf b r l) field out
-      ≡ joined 0 (hactOf (b .page .irs)) (λ c. shownAt b chars attrs f (lineOf b r l) field c 0 (follows b start (nthCell b chars r c))) ++ drop (lineLength b) out
+      ≡ joined 0 (hactOf (b .page)) (λ c. shownAt b chars attrs f (lineOf b r l) field c 0 (follows b start (nthCell b chars r c))) ++ drop (lineLength b) out
   plain-row m start s field out room =
       s .drawn field out room
       ∙ ap (λ (d : List ℕ). d ++ drop (lineLength b) out)
-      (same-joined 0 (hactOf (b .page .irs)) _ _ (λ c _ h.
+      (same-joined 0 (hactOf (b .page)) _ _ (λ c _ h.
       ap (λ (held : ℕ). shownAt b chars attrs f (lineOf b r l) field c held (follows b start (nthCell b chars r c))) (held-plain (b .page) chars attrs m _ c)))
 
   -- ---- the row's run
@@ -115,7 +115,7 @@ module _ (b : Board) (chars attrs : List ℕ) (f : Font) (ok : stepCheck b chars
   pub run-answers : runCheck b (length chars) r ≡ Done
   unfolding runCheck
   run-answers =
-      rw (lt-leb (rowsOf (b .page .irs)) r hr)
+      rw (lt-leb (rowsOf (b .page)) r hr)
       (call-ok b (memoryRefused (length chars)) (rw (eq-eqb _ _ (fits b chars attrs f ok .chars-all))) (page-ok b chars attrs f ok)
       (range-ok b (fits b chars attrs f ok .state)))
 
@@ -156,7 +156,7 @@ module _ (b : Board) (chars attrs : List ℕ) (f : Font) (ok : stepCheck b chars
     pub at-cell : (i : ℕ) → i < fetchedOf (b .page) chars r → getD (cellsPut b chars r cells) i 0 ≡ fetchAt (b .page) chars r i
     at-cell i h = cells-at b chars r cells i (rw given h)
 
-    pub at-column : (c : ℕ) → c < hactOf (b .page .irs) → getD (cellsPut b chars r cells) (nthCell b chars r c) 0 ≡ cellAt (b .page) chars r c
+    pub at-column : (c : ℕ) → c < hactOf (b .page) → getD (cellsPut b chars r cells) (nthCell b chars r c) 0 ≡ cellAt (b .page) chars r c
     at-column c h = at-cell (nthCell b chars r c) (cell-in b chars r c h) ∙ cell-shown (b .page) chars r c h
 
     pub cells-shown : CellsShown cells

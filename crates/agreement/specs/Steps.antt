@@ -40,8 +40,8 @@ use Rattle.place.specs.Settled.{at-settled}
 pub range-ok : (b : Board) → InRange b → stateRefused b ≡ false
 unfolding stateRefused
 range-ok b i =
-    let line = lt-leb (vtOf (b .page .irs)) (b .place .line .0) (i .line-lt) in
-    let clock = lt-leb (htOf (b .page .irs)) (b .place .clock .0) (i .clock-lt) in
+    let line = lt-leb (vtOf (b .page)) (b .place .line .0) (i .line-lt) in
+    let clock = lt-leb (htOf (b .page)) (b .place .clock .0) (i .clock-lt) in
     let beam = le-ltb 16383 (b .place .beam .address) (i .beam-le) in
     let row = le-ltb 16383 (b .place .row .address) (i .row-le) in
     rw (line, clock, beam, row, le-ltb 14 (b .pointer) (i .pointer-le))
@@ -81,10 +81,10 @@ module _ (p : Page) (chars attrs : List ℕ) (a : Accepted p) where
   pub raster-at : (n : ℕ) → rasterOf (placeAt p chars attrs n) ≡ scanAt (countsIn p) (rowsIn p chars attrs) (row 0 0 0) n
   unfolding placeAt scanAt carriedBefore countsOf
   raster-at n =
-      let y = n / htOf (p .irs) in
+      let y = n / htOf p in
       let s = scanAt (countsIn p) (rowsIn p chars attrs) (row 0 0 0) n in
       ap (λ (k : ℕ). scan (s .field) (s .line) (s .clock) (pair (row (s .carried .beam .address) (s .carried .beam .latch) k) (s .carried .row)))
-      (sym (one-code (n % htOf (p .irs)) (y % vtOf (p .irs)) (y / vtOf (p .irs))))
+      (sym (one-code (n % htOf p) (y % vtOf p) (y / vtOf p)))
 
   pub next-place : (n : ℕ) → nextPlace p chars attrs (placeAt p chars attrs n) ≡ placeAt p chars attrs (suc n)
   unfolding nextPlace placeAt
@@ -117,12 +117,12 @@ module _ (b : Board) (chars attrs : List ℕ) (f : Font) (ok : stepCheck b chars
   clock-in-range : (n : ℕ) → InRange (atClock n)
   unfolding placeAt scanAt carriedBefore countsOf
   clock-in-range n =
-      let h : 0 < htOf (b .page .irs) = omega arith in
-      let v : 0 < vtOf (b .page .irs) = omega arith in
-      let y = n / htOf (b .page .irs) in
-      let c = carried-small (b .page) chars attrs (fits .page) (n % htOf (b .page .irs)) (y % vtOf (b .page .irs)) (y / vtOf (b .page .irs)) in
+      let h : 0 < htOf (b .page) = omega arith in
+      let v : 0 < vtOf (b .page) = omega arith in
+      let y = n / htOf (b .page) in
+      let c = carried-small (b .page) chars attrs (fits .page) (n % htOf (b .page)) (y % vtOf (b .page)) (y / vtOf (b .page)) in
       record {
-        line-lt = mod-lt (n / htOf (b .page .irs)) v;
+        line-lt = mod-lt (n / htOf (b .page)) v;
         clock-lt = mod-lt n h;
         beam-le = omega (arith, c .beam-lt);
         row-le = omega (arith, c .row-address-lt);

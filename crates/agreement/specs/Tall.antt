@@ -32,29 +32,29 @@ use Rattle.agreement.specs.Rows.{lineOf}
 module _ (b : Board) (chars attrs : List ℕ) (f : Font) (field r s : ℕ) (top : codeAt (b .page) chars r ≡ 2) (bottom : codeAt (b .page) chars s ≡ 3)
     (start : rowStart (b .page) chars r ≡ rowStart (b .page) chars s) where
   abbrev L : ℕ
-  L = linesOf (b .page .irs)
+  L = linesOf (b .page)
 
   -- a scan line of the row's cells, of double width
   abbrev pub tallLine : (scan : ℕ) → List ℕ
   tallLine scan =
-      joined 0 (hactOf (b .page .irs))
+      joined 0 (hactOf (b .page))
       (λ (c : ℕ). columnOf true (eqb (c % 2) 1) (dotsAt b chars attrs f scan field (againAt Wide c) (heldAt (b .page) chars attrs r c) (cellAt (b .page) chars r c)))
 
   -- line j of the two rows
   abbrev pub pairLine : (j : ℕ) → List ℕ
   pairLine j = pick (ltb j L) (lineDots b chars attrs f (lineOf b r j) field) (lineDots b chars attrs f (lineOf b s (j - L)) field)
 
-  same-cell : (c : ℕ) → c < hactOf (b .page .irs) → cellAt (b .page) chars s c ≡ cellAt (b .page) chars r c
+  same-cell : (c : ℕ) → c < hactOf (b .page) → cellAt (b .page) chars s c ≡ cellAt (b .page) chars r c
   unfolding fetchAt
   same-cell c h =
       let at-r = rw top at (cell-shown (b .page) chars r c h) in
       let at-s = rw bottom at (cell-shown (b .page) chars s c h) in
-      sym at-s ∙ ap (advanceBy (bufferOf (b .page .irs)) (c / 2)) (sym start) ∙ at-r
+      sym at-s ∙ ap (advanceBy (bufferOf (b .page)) (c / 2)) (sym start) ∙ at-r
 
   -- a line by its row's code and its scan line
   abbrev lineBy : Code → (scan row : ℕ) → List ℕ
   lineBy k scan q =
-      joined 0 (hactOf (b .page .irs))
+      joined 0 (hactOf (b .page))
       (λ (c : ℕ). columnOf (isWide k) (eqb (c % 2) 1) (dotsAt b chars attrs f scan field (againAt k c) (heldAt (b .page) chars attrs q c) (cellAt (b .page) chars q c)))
 
   in-row : (q l : ℕ) → l < L → (k : ℕ) → codeAt (b .page) chars q ≡ k → lineDots b chars attrs f (lineOf b q l) field ≡ lineBy (codeOf k) (scanOf (codeOf k) L l) q
@@ -67,11 +67,11 @@ module _ (b : Board) (chars attrs : List ℕ) (f : Font) (field r s : ℕ) (top 
   in-top j h = in-row r j h 2 top
 
   -- where what is valid before each column is the same in both rows
-  module _ (valid : (c : ℕ) → c < hactOf (b .page .irs) → heldAt (b .page) chars attrs s c ≡ heldAt (b .page) chars attrs r c) where
+  module _ (valid : (c : ℕ) → c < hactOf (b .page) → heldAt (b .page) chars attrs s c ≡ heldAt (b .page) chars attrs r c) where
     in-bottom : (l : ℕ) → l < L → lineDots b chars attrs f (lineOf b s l) field ≡ tallLine ((L + l) / 2)
     in-bottom l h =
         in-row s l h 3 bottom
-        ∙ same-joined 0 (hactOf (b .page .irs)) _ _ (λ c _ k.
+        ∙ same-joined 0 (hactOf (b .page)) _ _ (λ c _ k.
         ap₂ (λ (held a : ℕ). columnOf true (eqb (c % 2) 1) (dotsAt b chars attrs f ((L + l) / 2) field (againAt Wide c) held a)) (valid c (omega arith)) (same-cell c (omega arith)))
 
     pub double-height : (j : ℕ) → j < 2 * L → pairLine j ≡ tallLine (j / 2)

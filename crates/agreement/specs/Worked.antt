@@ -77,7 +77,7 @@ pub low-taken : stepCheck low memory memory font ≡ Done
 unfolding low memory font page callCheck pageCheck addressRefused stateRefused
 low-taken = refl
 
-pub outside : Inside (bufferOf (low .page .irs)) (addressAt low memory memory font 0 0 0) → ⊥
+pub outside : Inside (bufferOf (low .page)) (addressAt low memory memory font 0 0 0) → ⊥
 unfolding low page codeAt bufferOf advanceBy toLast
 outside i =
     let shown = row-from-start low memory memory font low-taken 0 0 (omega arith) (omega arith) refl in

@@ -19,17 +19,17 @@ use Rattle.catalogue.specs.There.{ownCheck, movedTo, withPage}
 
 -- the entry of the row after row r is where row r ended; of its high byte six bits count
 unfoldable pub followsRow : Page → (chars : List ℕ) → (r : ℕ) → Bool
-followsRow p chars r = eqb (entryOf p chars (r + 1)) (advanceBy (bufferOf (p .irs)) (hactOf (p .irs)) (entryOf p chars r))
+followsRow p chars r = eqb (entryOf p chars (r + 1)) (advanceBy (bufferOf p) (hactOf p) (entryOf p chars r))
 
 -- some later entry is not
 unfoldable pub rowsApart : Page → (chars : List ℕ) → Bool
-rowsApart p chars = anyBelow (λ r. not (followsRow p chars r)) (rowsOf (p .irs) - 1)
+rowsApart p chars = anyBelow (λ r. not (followsRow p chars r)) (rowsOf p - 1)
 
 -- IR2[7] is cleared and screen start 1 is the first entry; memory stays
 abbrev pub sheetAt : Page → (first : ℕ) → Page
 sheetAt p a = record {
   version = p .version;
-  irs = set (p .irs) 2 (ir (p .irs) 2 % 128);
+  irs = set (p .irs) 2 (ir p 2 % 128);
   starts = record { start1 = a; cursor = p .starts .cursor; start2 = p .starts .start2 };
   switches = p .switches;
   video = p .video;
@@ -40,7 +40,7 @@ backPage p chars = sheetAt p (entryOf p chars 0)
 
 -- 16, 19, 18
 abbrev pub backOrder : Page → (chars : List ℕ) → Refusal
-backOrder p chars = firstOf ((not (tableOf (p .irs)), Kind) ∷ (codedOf (p .irs), Coded) ∷ (rowsApart p chars, Apart) ∷ []) Done
+backOrder p chars = firstOf ((not (tableOf p), Kind) ∷ (codedOf p, Coded) ∷ (rowsApart p chars, Apart) ∷ []) Done
 
 -- after the page's own
 unfoldable pub backCheck : Board → (chars : List ℕ) → Refusal

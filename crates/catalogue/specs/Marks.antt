@@ -162,13 +162,13 @@ module _ (marks : List ℕ) (n : ℕ) where
 -- ---- a sheet's
 
 unfoldable pub sheetMarks : Page → List ℕ
-sheetMarks p = markedBy (bufferOf (p .irs)) (p .starts .start1) (replicate 16384 0) (rowsOf (p .irs) * hactOf (p .irs))
+sheetMarks p = markedBy (bufferOf p) (p .starts .start1) (replicate 16384 0) (rowsOf p * hactOf p)
 
 unfoldable pub sheetPlace : Page → ℕ
 sheetPlace p = firstBelow (freeIn (sheetMarks p) (tableSize p)) (tablePlaces p)
 
 -- in the words of the calls that find it
-pub place-found : (p : Page) {t : Timing} {u : Buffer} {k : ℕ} {marks : List ℕ} {r : ℕ} → t ≡ timingOf (p .irs) → u ≡ bufferOf (p .irs) → k ≡ t .counts .rows * t .counts .hact .0
+pub place-found : (p : Page) {t : Timing} {u : Buffer} {k : ℕ} {marks : List ℕ} {r : ℕ} → t ≡ timingOf p → u ≡ bufferOf p → k ≡ t .counts .rows * t .counts .hact .0
     → marks ≡ markedBy u (p .starts .start1) (replicate 16384 0) k → r ≡ firstBelow (freeIn marks (2 * t .counts .rows)) (16385 - 2 * t .counts .rows) → r ≡ sheetPlace p
 unfolding timingOf countsOf sheetPlace sheetMarks
 place-found p te ue ke me re = rw (me, ue, ke, te) at re
@@ -193,12 +193,12 @@ module _ (b : Buffer) (a h : ℕ) (out₀ out : List ℕ) (r : ℕ) (e : out ≡
       rw n (tab-turn (entryByte b a h) out₀ _ (2 * r + 1) (tab-turn (entryByte b a h) out₀ out (2 * r) e (x .address % 256) (omega arith) low) (x .address / 256) l high)
 
 -- where it stands in memory, in the words of the calls that write it
-pub table-written : (p : Page) (chars : List ℕ) (a : ℕ) {t : Timing} {u : Buffer} {ys : List ℕ} → a + tableSize p ≤ length chars → t ≡ timingOf (p .irs) → u ≡ bufferOf (p .irs)
+pub table-written : (p : Page) (chars : List ℕ) (a : ℕ) {t : Timing} {u : Buffer} {ys : List ℕ} → a + tableSize p ≤ length chars → t ≡ timingOf p → u ≡ bufferOf p
     → ys ≡ tab (2 * t .counts .rows) (entryByte u (p .starts .start1) (t .counts .hact .0)) ++ drop (2 * t .counts .rows) (take (length chars - a) (drop a chars))
     → take a chars ++ (ys ++ drop (length chars - a) (drop a chars))
-    ≡ take a chars ++ (tab (tableSize p) (entryByte (bufferOf (p .irs)) (p .starts .start1) (hactOf (p .irs))) ++ drop (a + tableSize p) chars)
+    ≡ take a chars ++ (tab (tableSize p) (entryByte (bufferOf p) (p .starts .start1) (hactOf p)) ++ drop (a + tableSize p) chars)
 unfolding timingOf countsOf
-table-written p chars a h te ue q = lent chars _ (tab (tableSize p) (entryByte (bufferOf (p .irs)) (p .starts .start1) (hactOf (p .irs)))) a (tableSize p) h (rw (te, ue) at q)
+table-written p chars a h te ue q = lent chars _ (tab (tableSize p) (entryByte (bufferOf p) (p .starts .start1) (hactOf p))) a (tableSize p) h (rw (te, ue) at q)
 
 -- the next row's start
 pub row-on : (b : Buffer) → Bounded b → (r h a : ℕ) (x : Cell) → a < 16384 → x ≡ cell (advanceBy b (r * h) a) → cell (advanceBy b h (x .address)) ≡ cell (advanceBy b ((r + 1) * h) a)
@@ -206,12 +206,12 @@ row-on b o r h a x l e =
     let n : (r + 1) * h ≡ h + r * h = omega (arith, add-mul r 1 h, one-mul h) in
     rw (e, n) (ap cell (sym (advanceBy-add b o h (r * h) a l)))
 
-module _ (p : Page) (chars : List ℕ) (a : Accepted p) (off : tableOf (p .irs) ≡ false) where
+module _ (p : Page) (chars : List ℕ) (a : Accepted p) (off : tableOf p ≡ false) where
   abbrev H : ℕ
-  H = hactOf (p .irs)
+  H = hactOf p
 
   abbrev B : Buffer
-  B = bufferOf (p .irs)
+  B = bufferOf p
 
   -- every row is plain
   fetched-all : (r : ℕ) → fetchedOf p chars r ≡ H
@@ -223,20 +223,20 @@ module _ (p : Page) (chars : List ℕ) (a : Accepted p) (off : tableOf (p .irs) 
   unfolding fetchAt
   fetch-on r i =
       ap (advanceBy B i) (sym (start-sheet p chars r off))
-      ∙ sym (advanceBy-add B (buffer-bounded (p .irs)) i (r * H) (p .starts .start1) (omega (arith, a .start1)))
+      ∙ sym (advanceBy-add B (buffer-bounded p) i (r * H) (p .starts .start1) (omega (arith, a .start1)))
       ∙ ap (λ (k : ℕ). advanceBy B k (p .starts .start1)) (add-comm i (r * H))
 
-  fetches-is : (x : ℕ) → fetchesCell p chars x ≡ anyBelow (λ j. eqb (advanceBy B j (p .starts .start1)) x) (rowsOf (p .irs) * H)
+  fetches-is : (x : ℕ) → fetchesCell p chars x ≡ anyBelow (λ j. eqb (advanceBy B j (p .starts .start1)) x) (rowsOf p * H)
   unfolding fetchesCell
   fetches-is x =
-      same-any _ _ (rowsOf (p .irs)) (λ r _. rw (fetched-all r) (same-any _ _ H (λ i _. ap (λ (y : ℕ). eqb y x) (fetch-on r i))))
-      ∙ any-all (λ j. eqb (advanceBy B j (p .starts .start1)) x) H (rowsOf (p .irs))
+      same-any _ _ (rowsOf p) (λ r _. rw (fetched-all r) (same-any _ _ H (λ i _. ap (λ (y : ℕ). eqb y x) (fetch-on r i))))
+      ∙ any-all (λ j. eqb (advanceBy B j (p .starts .start1)) x) H (rowsOf p)
 
   mark-is : (x : ℕ) → x < 16384 → not (eqb (getD (sheetMarks p) x 0) 0) ≡ fetchesCell p chars x
   unfolding sheetMarks markedBy
   mark-is x h =
-      rw (getD-tab 16384 (λ y. pick (anyBelow (λ i. eqb (advanceBy B i (p .starts .start1)) y) (rowsOf (p .irs) * H)) 1 (getD (replicate 16384 0) y 0)) x h, getD-replicate {A = ℕ} 16384 x 0 0 h)
-      (go (anyBelow (λ i. eqb (advanceBy B i (p .starts .start1)) x) (rowsOf (p .irs) * H)))
+      rw (getD-tab 16384 (λ y. pick (anyBelow (λ i. eqb (advanceBy B i (p .starts .start1)) y) (rowsOf p * H)) 1 (getD (replicate 16384 0) y 0)) x h, getD-replicate {A = ℕ} 16384 x 0 0 h)
+      (go (anyBelow (λ i. eqb (advanceBy B i (p .starts .start1)) x) (rowsOf p * H)))
       ∙ sym (fetches-is x)
     where
       go : (t : Bool) → not (eqb (pick t 1 0) 0) ≡ t
@@ -263,12 +263,12 @@ own-passed b n e = let k = call-passed b (memoryRefused n) false false e in (k .
 
 pub same-check : (b : Board) (chars : List ℕ) → sheetCheck b (length chars) ≡ thereCheck b chars
 unfolding sheetCheck thereCheck
-same-check b chars = go (doneOf (ownCheck b (length chars))) refl (tableOf (b .page .irs)) refl
+same-check b chars = go (doneOf (ownCheck b (length chars))) refl (tableOf (b .page)) refl
   where
     p : Page
     p = b .page
 
-    go : (t : Bool) → doneOf (ownCheck b (length chars)) ≡ t → (on : Bool) → tableOf (p .irs) ≡ on
+    go : (t : Bool) → doneOf (ownCheck b (length chars)) ≡ t → (on : Bool) → tableOf p ≡ on
         → pick t (thereOrder p (sheetPlace p)) (ownCheck b (length chars)) ≡ pick t (thereOrder p (tablePlace p chars)) (ownCheck b (length chars))
     go false e on q = refl
     go true e true q = rw q
@@ -280,7 +280,7 @@ pub record Movable (b : Board) (chars : List ℕ) : Type 0 where
   pub own : ownCheck b (length chars) ≡ Done
   pub page : Accepted (b .page)
   pub whole : length chars ≡ 16384
-  pub off : tableOf (b .page .irs) ≡ false
+  pub off : tableOf (b .page) ≡ false
   pub found : tablePlace (b .page) chars < tablePlaces (b .page)
 
 pub there-passed : (b : Board) (chars : List ℕ) → thereCheck b chars ≡ Done → Movable b chars
@@ -294,8 +294,8 @@ there-passed b chars all = go (doneOf (ownCheck b (length chars))) refl all
     go false q e = absurd (true≢false (sym (ap doneOf e) ∙ q))
     go true q e =
         let own = own-passed b (length chars) (done-is _ q) in
-        let kind = passed (tableOf (p .irs)) Kind _ refl e in
-        let coded = passed (codedOf (p .irs)) Coded _ refl (kind .1) in
+        let kind = passed (tableOf p) Kind _ refl e in
+        let coded = passed (codedOf p) Coded _ refl (kind .1) in
         let some = passed (eqb (tablePlace p chars) (tablePlaces p)) Stretch _ refl (coded .1) in
         let other : tablePlace p chars ≡ tablePlaces p → ⊥ = λ z. true≢false (sym (eq-eqb _ _ z) ∙ some .0) in
         record { done = all; own = done-is _ q; page = own .0; whole = own .1; off = kind .0; found = omega (arith, other, first-le (unfetchedAt p chars) (tablePlaces p)) }
@@ -312,7 +312,7 @@ module _ (b : Board) (chars : List ℕ) where
 
   -- what is answered and left, in the words of the calls that move the page
   pub there-moved : Movable b chars → {r : Refusal} {a : ℕ} {p : Page} {n : Board} → r ≡ thereCheck b chars → a ≡ sheetPlace page → p ≡ therePage page a → n ≡ withPage b p → (out : List ℕ)
-      → out ≡ take a chars ++ (tab (tableSize page) (entryByte (bufferOf (page .irs)) (page .starts .start1) (hactOf (page .irs))) ++ drop (a + tableSize page) chars)
+      → out ≡ take a chars ++ (tab (tableSize page) (entryByte (bufferOf page) (page .starts .start1) (hactOf page)) ++ drop (a + tableSize page) chars)
       → (_≡_ {A = Moved} (movedTo r n) (thereOf b chars)) × (out ≡ thereLeft b chars)
   unfolding thereOf thereLeft thereChars
   there-moved m re ae pe ne out q =
@@ -334,13 +334,13 @@ module _ (b : Board) (chars : List ℕ) where
 abbrev pub apartBy : Page → (chars : List ℕ) → (r : ℕ) → Bool
 apartBy p chars r = not (followsRow p chars r)
 
-pub apart-more : (p : Page) (chars : List ℕ) (r : ℕ) {t : Timing} {u : Buffer} {x end y : Cell} {before : Bool} → t ≡ timingOf (p .irs) → u ≡ bufferOf (p .irs) → x ≡ cell (entryOf p chars r)
+pub apart-more : (p : Page) (chars : List ℕ) (r : ℕ) {t : Timing} {u : Buffer} {x end y : Cell} {before : Bool} → t ≡ timingOf p → u ≡ bufferOf p → x ≡ cell (entryOf p chars r)
     → end ≡ cell (advanceBy u (t .counts .hact .0) (x .address)) → y ≡ cell (entryOf p chars (r + 1)) → before ≡ anyBelow (apartBy p chars) r
     → (before || not (eqb (y .address) (end .address))) ≡ anyBelow (apartBy p chars) (r + 1)
 unfolding anyBelow followsRow timingOf countsOf
 apart-more p chars r te ue xe ee ye be = rw (ee, xe, ye, ue, te, be) (ap (anyBelow (apartBy p chars)) (sym (add-one r)))
 
-pub apart-all : (p : Page) (chars : List ℕ) {t : Timing} {r : ℕ} {apart : Bool} → t ≡ timingOf (p .irs) → r ≡ t .counts .rows - 1 → apart ≡ anyBelow (apartBy p chars) r → apart ≡ rowsApart p chars
+pub apart-all : (p : Page) (chars : List ℕ) {t : Timing} {r : ℕ} {apart : Bool} → t ≡ timingOf p → r ≡ t .counts .rows - 1 → apart ≡ anyBelow (apartBy p chars) r → apart ≡ rowsApart p chars
 unfolding rowsApart timingOf countsOf
 apart-all p chars te re e = rw (re, te) at e
 
@@ -359,8 +359,8 @@ pub record Returnable (b : Board) (chars : List ℕ) : Type 0 where
   pub own : ownCheck b (length chars) ≡ Done
   pub page : Accepted (b .page)
   pub whole : length chars ≡ 16384
-  pub on : tableOf (b .page .irs) ≡ true
-  pub codeless : codedOf (b .page .irs) ≡ false
+  pub on : tableOf (b .page) ≡ true
+  pub codeless : codedOf (b .page) ≡ false
   pub joined : rowsApart (b .page) chars ≡ false
 
 pub back-passed : (b : Board) (chars : List ℕ) → backCheck b chars ≡ Done → Returnable b chars
@@ -374,8 +374,8 @@ back-passed b chars = go (doneOf (ownCheck b (length chars))) refl
     go false d e = absurd (true≢false (sym (ap doneOf e) ∙ d))
     go true d e =
         let own = own-passed b (length chars) (done-is _ d) in
-        let kind = passed (not (tableOf (p .irs))) Kind _ refl e in
-        let coded = passed (codedOf (p .irs)) Coded _ refl (kind .1) in
+        let kind = passed (not (tableOf p)) Kind _ refl e in
+        let coded = passed (codedOf p) Coded _ refl (kind .1) in
         let apart = passed (rowsApart p chars) Apart _ refl (coded .1) in
         record { own = done-is _ d; page = own .0; whole = own .1; on = not-false _ (kind .0); codeless = coded .0; joined = apart .0 }
 

@@ -21,11 +21,11 @@ use Rattle.catalogue.specs.declared.Moved.{Moved}
 
 -- whether some row fetches the cell at an address
 unfoldable pub fetchesCell : Page → (chars : List ℕ) → (x : ℕ) → Bool
-fetchesCell p chars x = anyBelow (λ r. anyBelow (λ i. eqb (fetchAt p chars r i) x) (fetchedOf p chars r)) (rowsOf (p .irs))
+fetchesCell p chars x = anyBelow (λ r. anyBelow (λ i. eqb (fetchAt p chars r i) x) (fetchedOf p chars r)) (rowsOf p)
 
 -- a table has two bytes a row
 abbrev pub tableSize : Page → ℕ
-tableSize p = 2 * rowsOf (p .irs)
+tableSize p = 2 * rowsOf p
 
 -- from 0 on, the places from which a table does not pass 16383
 abbrev pub tablePlaces : Page → ℕ
@@ -47,7 +47,7 @@ tableByte p chars i = pick (eqb (i % 2) 0) (rowStart p chars (i / 2) % 256) (row
 unfoldable pub therePage : Page → (place : ℕ) → Page
 therePage p a = record {
   version = p .version;
-  irs = set (p .irs) 2 (ir (p .irs) 2 % 128 + 128);
+  irs = set (p .irs) 2 (ir p 2 % 128 + 128);
   starts = record { start1 = p .starts .start1; cursor = p .starts .cursor; start2 = a };
   switches = p .switches;
   video = p .video;
@@ -63,7 +63,7 @@ ownCheck b n = callCheck b (memoryRefused n) false false
 
 -- then 16, 19, 17
 abbrev pub thereOrder : Page → (place : ℕ) → Refusal
-thereOrder p a = firstOf ((tableOf (p .irs), Kind) ∷ (codedOf (p .irs), Coded) ∷ (eqb a (tablePlaces p), Stretch) ∷ []) Done
+thereOrder p a = firstOf ((tableOf p, Kind) ∷ (codedOf p, Coded) ∷ (eqb a (tablePlaces p), Stretch) ∷ []) Done
 
 unfoldable pub thereCheck : Board → (chars : List ℕ) → Refusal
 thereCheck b chars = pick (doneOf (ownCheck b (length chars))) (thereOrder (b .page) (tablePlace (b .page) chars)) (ownCheck b (length chars))

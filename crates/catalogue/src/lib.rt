@@ -64,15 +64,14 @@ fn place_for(p: board::Page) -> usize
     requires { ⌜ Accepted p ⌝ }
     ensures { λ r. ⌜ r ≡ sheetPlace p ⌝ }
 {
-    let irs = p.irs;
-    let t = timing::timing_of(irs);
+    let t = timing::timing_of(p);
     let rows = t.counts.rows;
     let cells = t.counts.hact.times(rows).cells();
     let start = raster::Cell {
         address: p.starts.start1,
     };
     let mut marks = [0u8; 16384];
-    mark(&mut marks, timing::buffer_of(irs), start, cells);
+    mark(&mut marks, timing::buffer_of(p), start, cells);
     lowest(&marks, 2 * rows as usize)
 }
 
@@ -104,14 +103,13 @@ fn there_order(p: board::Page) -> refusal::Refusal
     requires { ⌜ Accepted p ⌝ }
     ensures { λ r. ⌜ r ≡ thereOrder p (sheetPlace p) ⌝ }
 {
-    let irs = p.irs;
-    if timing::table_of(irs) {
+    if timing::table_of(p) {
         return refusal::Refusal::Kind;
     }
-    if timing::coded_of(irs) {
+    if timing::coded_of(p) {
         return refusal::Refusal::Coded;
     }
-    let t = timing::timing_of(irs);
+    let t = timing::timing_of(p);
     if place_for(p) == 16385 - 2 * t.counts.rows as usize {
         return refusal::Refusal::Stretch;
     }
@@ -150,11 +148,10 @@ fn with_page(b: board::Board, p: board::Page) -> board::Board
 fn write_table(chars: &mut [u8], p: board::Page, place: usize)
     requires { ⌜ Accepted p × (place + tableSize p ≤ length (now chars)) ⌝ }
     ensures { λ _. ⌜ now (chars .exit) ≡ take place (now (chars .entry))
-        ++ (tab (tableSize p) (entryByte (bufferOf (p .irs)) (p .starts .start1) (hactOf (p .irs)))
+        ++ (tab (tableSize p) (entryByte (bufferOf p) (p .starts .start1) (hactOf p))
         ++ drop (place + tableSize p) (now (chars .entry))) ⌝ }
 {
-    let irs = p.irs;
-    let t = timing::timing_of(irs);
+    let t = timing::timing_of(p);
     let start = raster::Cell {
         address: p.starts.start1,
     };
@@ -162,7 +159,7 @@ fn write_table(chars: &mut [u8], p: board::Page, place: usize)
     let rows = t.counts.rows as usize;
     put_table(
         &mut chars[place..],
-        timing::buffer_of(irs),
+        timing::buffer_of(p),
         start,
         columns,
         rows,
@@ -194,9 +191,8 @@ fn rows_apart(p: board::Page, chars: &[u8]) -> bool
     requires { ⌜ Accepted p × (length (now chars) ≡ 16384) ⌝ }
     ensures { λ r. ⌜ r ≡ rowsApart p (now (chars .entry)) ⌝ }
 {
-    let irs = p.irs;
-    let t = timing::timing_of(irs);
-    let buffer = timing::buffer_of(irs);
+    let t = timing::timing_of(p);
+    let buffer = timing::buffer_of(p);
     let columns = t.counts.hact.cells();
     let n = t.counts.rows - 1;
     let mut apart = false;
@@ -215,11 +211,10 @@ fn back_order(p: board::Page, chars: &[u8]) -> refusal::Refusal
     requires { ⌜ Accepted p × (length (now chars) ≡ 16384) ⌝ }
     ensures { λ r. ⌜ r ≡ backOrder p (now (chars .entry)) ⌝ }
 {
-    let irs = p.irs;
-    if !timing::table_of(irs) {
+    if !timing::table_of(p) {
         return refusal::Refusal::Kind;
     }
-    if timing::coded_of(irs) {
+    if timing::coded_of(p) {
         return refusal::Refusal::Coded;
     }
     if rows_apart(p, chars) {

@@ -35,7 +35,7 @@ unfolding entryOf
 entry-lt p chars r = omega arith
 
 -- without IR0[7] every row is plain
-pub no-codes : (p : Page) (chars : List ℕ) → codedOf (p .irs) ≡ false → (r : ℕ) → codeAt p chars r ≡ 0
+pub no-codes : (p : Page) (chars : List ℕ) → codedOf p ≡ false → (r : ℕ) → codeAt p chars r ≡ 0
 unfolding codeAt
 no-codes p chars e r = rw e
 
@@ -43,31 +43,31 @@ module _ (p : Page) (chars : List ℕ) (a : Accepted p) where
   pub fed : Fed (feedIn p chars)
   fed = accepted-fed p (entryOf p chars) (codeAt p chars) a (entry-lt p chars)
 
-  pub tallied : Tallied (countsOf (p .irs)) (feedIn p chars) (tallyIn p chars)
+  pub tallied : Tallied (countsOf p) (feedIn p chars) (tallyIn p chars)
   tallied = accepted-tallied p (entryOf p chars) (codeAt p chars) a (no-codes p chars)
 
   pub row-start-lt : (r : ℕ) → rowStart p chars r < 16384
   unfolding rowStart
-  row-start-lt r = start-lt (countsOf (p .irs)) (feedIn p chars) (tallyIn p chars) fed tallied r
+  row-start-lt r = start-lt (countsOf p) (feedIn p chars) (tallyIn p chars) fed tallied r
 
 pub cell-at-lt : (p : Page) (chars : List ℕ) (r c : ℕ) → cellAt p chars r c < 16384
 unfolding cellAt cellOf
-cell-at-lt p chars r c = advanceBy-lt (bufferOf (p .irs)) (tallyIn p chars .moved r c) (startOf (feedIn p chars) (tallyIn p chars) r)
+cell-at-lt p chars r c = advanceBy-lt (bufferOf p) (tallyIn p chars .moved r c) (startOf (feedIn p chars) (tallyIn p chars) r)
 
 -- ---- the definitions as the code has them
 
-pub moves-fit : (p : Page) (r : ℕ) → r < 8192 → r * hactOf (p .irs) < 2 ^ 32
+pub moves-fit : (p : Page) (r : ℕ) → r < 8192 → r * hactOf p < 2 ^ 32
 moves-fit p r h =
     let a : r ≤ 8192 = omega arith in
-    let b : hactOf (p .irs) ≤ 256 = omega arith in
+    let b : hactOf p ≤ 256 = omega arith in
     omega (arith, mul-le-mul a b)
 
 module _ (p : Page) (chars : List ℕ) (r : ℕ) where
-  pub start-table : tableOf (p .irs) ≡ true → entryOf p chars r ≡ rowStart p chars r
+  pub start-table : tableOf p ≡ true → entryOf p chars r ≡ rowStart p chars r
   unfolding rowStart startOf
   start-table e = rw e
 
-  pub start-sheet : tableOf (p .irs) ≡ false → advanceBy (bufferOf (p .irs)) (r * hactOf (p .irs)) (p .starts .start1) ≡ rowStart p chars r
+  pub start-sheet : tableOf p ≡ false → advanceBy (bufferOf p) (r * hactOf p) (p .starts .start1) ≡ rowStart p chars r
   unfolding rowStart startOf countsOf
   start-sheet e = rw e
 
@@ -75,12 +75,12 @@ module _ (p : Page) (chars : List ℕ) (r : ℕ) where
   unfolding cellAt cellOf rowStart fetchAt movedOf countsOf
   cell-moved c = refl
 
-  moved-in : (c : ℕ) → c < hactOf (p .irs) → movedOf p chars r c ≡ pick (isWide (codeOf (codeAt p chars r))) (c / 2) c
+  moved-in : (c : ℕ) → c < hactOf p → movedOf p chars r c ≡ pick (isWide (codeOf (codeAt p chars r))) (c / 2) c
   unfolding movedOf countsOf
-  moved-in c h = rw (lt-ltb c (hactOf (p .irs)) h)
+  moved-in c h = rw (lt-ltb c (hactOf p) h)
 
   -- within the row a column shows the cell of its own place, or of half of it where the row is of double width
-  pub cell-shown : (c : ℕ) → c < hactOf (p .irs) → fetchAt p chars r (pick (isWide (codeOf (codeAt p chars r))) (c / 2) c) ≡ cellAt p chars r c
+  pub cell-shown : (c : ℕ) → c < hactOf p → fetchAt p chars r (pick (isWide (codeOf (codeAt p chars r))) (c / 2) c) ≡ cellAt p chars r c
   cell-shown c h = ap (fetchAt p chars r) (sym (moved-in c h)) ∙ cell-moved c
 
 -- ---- a row's code, as the code has it
@@ -90,55 +90,55 @@ module _ (p : Page) (chars : List ℕ) (r : ℕ) where
   pub wide-is : {t : Bool} {k : Code} {byte : ℕ} → t ≡ isWide k → k ≡ codeOf byte → byte ≡ codeAt p chars r → t ≡ isWide (codeOf (codeAt p chars r))
   wide-is e f g = rw (e, f, g)
 
-  pub fetched-by : {t : Bool} → t ≡ isWide (codeOf (codeAt p chars r)) → pick t ((hactOf (p .irs) + 1) / 2) (hactOf (p .irs)) ≡ fetchedOf p chars r
+  pub fetched-by : {t : Bool} → t ≡ isWide (codeOf (codeAt p chars r)) → pick t ((hactOf p + 1) / 2) (hactOf p) ≡ fetchedOf p chars r
   unfolding fetchedOf countsOf
   fetched-by e = rw e
 
-  pub moved-by : {t : Bool} (c : ℕ) → t ≡ isWide (codeOf (codeAt p chars r)) → ltb c (hactOf (p .irs)) ≡ true → pick t (c / 2) c ≡ movedOf p chars r c
+  pub moved-by : {t : Bool} (c : ℕ) → t ≡ isWide (codeOf (codeAt p chars r)) → ltb c (hactOf p) ≡ true → pick t (c / 2) c ≡ movedOf p chars r c
   unfolding movedOf countsOf
   moved-by c e h = rw (h, e)
 
-  pub moved-past : (c : ℕ) → ltb c (hactOf (p .irs)) ≡ false → fetchedOf p chars r ≡ movedOf p chars r c
+  pub moved-past : (c : ℕ) → ltb c (hactOf p) ≡ false → fetchedOf p chars r ≡ movedOf p chars r c
   unfolding movedOf fetchedOf countsOf
   moved-past c h = rw h
 
-  pub begun-by : {t : Bool} (c : ℕ) → t ≡ isWide (codeOf (codeAt p chars r)) → pick t ((min c (hactOf (p .irs)) + 1) / 2) (min c (hactOf (p .irs))) ≡ begunOf p chars r c
+  pub begun-by : {t : Bool} (c : ℕ) → t ≡ isWide (codeOf (codeAt p chars r)) → pick t ((min c (hactOf p) + 1) / 2) (min c (hactOf p)) ≡ begunOf p chars r c
   unfolding begunOf fetchedBy
   begun-by c e = rw e
 
-  pub begun-least : (c : ℕ) → begunOf p chars r (min c (hactOf (p .irs))) ≡ begunOf p chars r c
+  pub begun-least : (c : ℕ) → begunOf p chars r (min c (hactOf p)) ≡ begunOf p chars r c
   unfolding begunOf
   begun-least c =
-      let m : min (min c (hactOf (p .irs))) (hactOf (p .irs)) ≡ min c (hactOf (p .irs)) = omega arith in
+      let m : min (min c (hactOf p)) (hactOf p) ≡ min c (hactOf p) = omega arith in
       rw m
 
   -- at the row's end all of them
-  pub begun-all : begunOf p chars r (hactOf (p .irs)) ≡ fetchedOf p chars r
+  pub begun-all : begunOf p chars r (hactOf p) ≡ fetchedOf p chars r
   unfolding begunOf fetchedBy fetchedOf countsOf
   begun-all =
-      let m : min (hactOf (p .irs)) (hactOf (p .irs)) ≡ hactOf (p .irs) = omega arith in
+      let m : min (hactOf p) (hactOf p) ≡ hactOf p = omega arith in
       rw m
 
 pub fetched-small : (p : Page) (chars : List ℕ) (r : ℕ) → (0 < fetchedOf p chars r) × (fetchedOf p chars r ≤ 256)
 unfolding fetchedOf countsOf
 fetched-small p chars r = go (isWide (codeOf (codeAt p chars r)))
   where
-    go : (t : Bool) → (0 < pick t ((hactOf (p .irs) + 1) / 2) (hactOf (p .irs))) × (pick t ((hactOf (p .irs) + 1) / 2) (hactOf (p .irs)) ≤ 256)
+    go : (t : Bool) → (0 < pick t ((hactOf p + 1) / 2) (hactOf p)) × (pick t ((hactOf p + 1) / 2) (hactOf p) ≤ 256)
     go true = (omega arith, omega arith)
     go false = (omega arith, omega arith)
 
 -- ---- what a row begins with, as the code has it
 
 module _ (p : Page) (chars : List ℕ) (r a : ℕ) where
-  pub begins-table : tableOf (p .irs) ≡ true → entryOf p chars r ≡ begins (feedIn p chars) r a
+  pub begins-table : tableOf p ≡ true → entryOf p chars r ≡ begins (feedIn p chars) r a
   unfolding begins
   begins-table e = rw e
 
-  pub begins-first : tableOf (p .irs) ≡ false → r ≡ 0 → p .starts .start1 ≡ begins (feedIn p chars) r a
+  pub begins-first : tableOf p ≡ false → r ≡ 0 → p .starts .start1 ≡ begins (feedIn p chars) r a
   unfolding begins
   begins-first e z = rw (e, eq-eqb r 0 z)
 
-  pub begins-on : tableOf (p .irs) ≡ false → (r ≡ 0 → ⊥) → a ≡ begins (feedIn p chars) r a
+  pub begins-on : tableOf p ≡ false → (r ≡ 0 → ⊥) → a ≡ begins (feedIn p chars) r a
   unfolding begins
   begins-on e z = rw (e, ne-eqb r 0 z)
 
@@ -147,12 +147,12 @@ module _ (p : Page) (chars : List ℕ) (r a : ℕ) where
 pub record Run (b : Board) (n row : ℕ) : Type 0 where
   pub page : Accepted (b .page)
   pub whole : n ≡ 16384
-  pub row-lt : row < rowsOf (b .page .irs)
+  pub row-lt : row < rowsOf (b .page)
 
 pub run-passed : (b : Board) (n row : ℕ) → runCheck b n row ≡ Done → Run b n row
 unfolding runCheck
 run-passed b n row e =
-    let k = call-passed b (memoryRefused n) (leb (rowsOf (b .page .irs)) row) false e in
+    let k = call-passed b (memoryRefused n) (leb (rowsOf (b .page)) row) false e in
     record { page = k .page; whole = memory-all n (k .sized); row-lt = leb-false _ _ (k .in-reach) }
 
 count-some : (p : Page) (n s : ℕ) → 0 < n → s < 16384 → 0 < runCount p n s

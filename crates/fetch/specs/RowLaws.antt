@@ -41,7 +41,7 @@ columnBy b start c = advanceBy b c start
 pub cells-passed : (b : Board) (n row room : ℕ) → cellsCheck b n row room ≡ Done → (runCheck b n row ≡ Done) × (256 ≤ room)
 unfolding cellsCheck runCheck
 cells-passed b n row room e =
-    let asked = leb (rowsOf (b .page .irs)) row in
+    let asked = leb (rowsOf (b .page)) row in
     let sized = call-passed b (memoryRefused n || ltb room 256) asked false e .sized in
     let s = neither (memoryRefused n) (ltb room 256) sized in
     (ap (λ (t : Bool). callCheck b t asked false) (s .0 ∙ sym sized) ∙ e, ltb-false _ _ (s .1))
@@ -50,7 +50,7 @@ pub cells-as-run : (b : Board) (n row room : ℕ) → 256 ≤ room → cellsChec
 unfolding cellsCheck runCheck
 cells-as-run b n row room h = rw (le-ltb room 256 h, or-false (memoryRefused n))
 
-pub cells-walked : (p : Page) (chars : List ℕ) (row : ℕ) → tab (fetchedOf p chars row) (columnBy (bufferOf (p .irs)) (rowStart p chars row)) ≡ cellsOf p chars row
+pub cells-walked : (p : Page) (chars : List ℕ) (row : ℕ) → tab (fetchedOf p chars row) (columnBy (bufferOf p) (rowStart p chars row)) ≡ cellsOf p chars row
 unfolding cellsOf columnBy fetchAt
 cells-walked p chars row = refl
 
@@ -65,7 +65,7 @@ module _ (b : Board) (chars : List ℕ) (row : ℕ) (cells₀ : List ℕ) where
 
   pub cells-given : done ≡ true → {r : RowCells} {cells : List ℕ}
       → r ≡ rowOf (cellsCheck b (length chars) row (length cells₀)) (fetchedOf (b .page) chars row)
-      → cells ≡ tab (fetchedOf (b .page) chars row) (columnBy (bufferOf (b .page .irs)) (rowStart (b .page) chars row)) ++ drop (fetchedOf (b .page) chars row) cells₀
+      → cells ≡ tab (fetchedOf (b .page) chars row) (columnBy (bufferOf (b .page)) (rowStart (b .page) chars row)) ++ drop (fetchedOf (b .page) chars row) cells₀
       → Left r cells
   unfolding cellsGiven cellsPut
   cells-given t e q = (rw t e, rw t (q ∙ ap (λ (l : List ℕ). l ++ drop (fetchedOf (b .page) chars row) cells₀) (cells-walked (b .page) chars row)))
@@ -101,9 +101,9 @@ cells-at b chars row cells₀ i h =
 
 -- ---- the run
 
-side-by-side : (p : Page) (n start i : ℕ) → i < runCount p n start → (i < n) × (columnBy (bufferOf (p .irs)) start i ≡ start + i)
+side-by-side : (p : Page) (n start i : ℕ) → i < runCount p n start → (i < n) × (columnBy (bufferOf p) start i ≡ start + i)
 unfolding runCount columnBy
-side-by-side p n start i h = (omega arith, by-near (bufferOf (p .irs)) i start (omega arith) ∙ omega arith)
+side-by-side p n start i h = (omega arith, by-near (bufferOf p) i start (omega arith) ∙ omega arith)
 
 pub run-at : (b : Board) (chars : List ℕ) (row i : ℕ) → i < spanOf b chars row .count
     → (i < fetchedOf (b .page) chars row) × (fetchAt (b .page) chars row i ≡ spanOf b chars row .start + i)

@@ -21,13 +21,13 @@ entryOf p chars r = byteAt chars (p .starts .start2 + 2 * r) % 256 + 256 * (byte
 
 -- the row's code, the two upper bits of its entry's high byte while IR0[7] is set (02, R-4)
 unfoldable pub codeAt : Page → List ℕ → ℕ → ℕ
-codeAt p chars r = pick (codedOf (p .irs)) (byteAt chars (p .starts .start2 + 2 * r + 1) / 64 % 4) 0
+codeAt p chars r = pick (codedOf p) (byteAt chars (p .starts .start2 + 2 * r + 1) / 64 % 4) 0
 
 abbrev pub feedIn : Page → List ℕ → Feed
 feedIn p chars = feedOf p (entryOf p chars) (codeAt p chars)
 
 abbrev pub tallyIn : Page → List ℕ → Tally
-tallyIn p chars = tallyBy (countsOf (p .irs)) (codeAt p chars)
+tallyIn p chars = tallyBy (countsOf p) (codeAt p chars)
 
 -- where row r starts
 unfoldable pub rowStart : Page → List ℕ → ℕ → ℕ
@@ -39,15 +39,15 @@ cellAt p chars r c = cellOf (feedIn p chars) (tallyIn p chars) r c
 
 -- how many cells row r fetches, and how many of them it has moved on from by column c
 unfoldable pub fetchedOf : Page → List ℕ → (row : ℕ) → ℕ
-fetchedOf p chars r = fetchedIn (countsOf (p .irs)) (codeOf (codeAt p chars r))
+fetchedOf p chars r = fetchedIn (countsOf p) (codeOf (codeAt p chars r))
 
 unfoldable pub movedOf : Page → List ℕ → (row column : ℕ) → ℕ
-movedOf p chars r c = movedAt (countsOf (p .irs)) (codeOf (codeAt p chars r)) c
+movedOf p chars r c = movedAt (countsOf p) (codeOf (codeAt p chars r)) c
 
 -- and how many it has fetched before column c
 unfoldable pub begunOf : Page → List ℕ → (row column : ℕ) → ℕ
-begunOf p chars r c = fetchedBy (codeOf (codeAt p chars r)) (min c (hactOf (p .irs)))
+begunOf p chars r c = fetchedBy (codeOf (codeAt p chars r)) (min c (hactOf p))
 
 -- the cell that row r fetches after i others
 unfoldable pub fetchAt : Page → List ℕ → (row i : ℕ) → ℕ
-fetchAt p chars r i = advanceBy (bufferOf (p .irs)) i (rowStart p chars r)
+fetchAt p chars r i = advanceBy (bufferOf p) i (rowStart p chars r)

@@ -22,7 +22,7 @@ use Rattle.fetch.specs.Rows.{rowStart, fetchedOf}
 
 -- a call that asks for a row: 3 where a lent part has a wrong size, 12, 4, 13, 14, 15, 6, 7
 abbrev pub rowCheck : Board → (size : Bool) → (row : ℕ) → Refusal
-rowCheck b size row = callCheck b size (leb (rowsOf (b .page .irs)) row) false
+rowCheck b size row = callCheck b size (leb (rowsOf (b .page)) row) false
 
 -- 3 for a character memory of n cells
 unfoldable pub runCheck : Board → (n row : ℕ) → Refusal
@@ -30,7 +30,7 @@ runCheck b n row = rowCheck b (memoryRefused n) row
 
 -- so many cells to the row's end, so many to the last buffer address, so many to 16383
 unfoldable pub runCount : Page → (cells start : ℕ) → ℕ
-runCount p cells start = min cells (min (toLast (bufferOf (p .irs)) start + 1) (16384 - start))
+runCount p cells start = min cells (min (toLast (bufferOf p) start + 1) (16384 - start))
 
 -- whether n cells from an address on are one run
 unfoldable pub oneRun : Buffer → (start n : ℕ) → Bool

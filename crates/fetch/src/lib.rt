@@ -62,8 +62,7 @@ pub fn code_at(p: board::Page, chars: &[u8], row: u32) -> u8
     requires { ⌜ (length (now chars) ≡ 16384) × (row < 8192) ⌝ }
     ensures { λ r. ⌜ r ≡ codeAt p (now (chars .entry)) row ⌝ }
 {
-    let irs = p.irs;
-    if timing::coded_of(irs) {
+    if timing::coded_of(p) {
         return byte_at(chars, p.starts.start2 as u32 + 2 * row + 1) / 64 % 4;
     }
     0
@@ -74,8 +73,7 @@ pub fn fetched_of(p: board::Page, chars: &[u8], row: u32) -> u32
     requires { ⌜ (length (now chars) ≡ 16384) × (row < 8192) ⌝ }
     ensures { λ r. ⌜ r ≡ fetchedOf p (now (chars .entry)) row ⌝ }
 {
-    let irs = p.irs;
-    let t = timing::timing_of(irs);
+    let t = timing::timing_of(p);
     let hact = t.counts.hact;
     let code = raster::code_of(code_at(p, chars, row));
     if raster::is_wide(code) {
@@ -89,8 +87,7 @@ fn moved_of(p: board::Page, chars: &[u8], row: u32, column: units::Clocks) -> u3
     requires { ⌜ (length (now chars) ≡ 16384) × (row < 8192) ⌝ }
     ensures { λ r. ⌜ r ≡ movedOf p (now (chars .entry)) row (column .0) ⌝ }
 {
-    let irs = p.irs;
-    let t = timing::timing_of(irs);
+    let t = timing::timing_of(p);
     if column.below(t.counts.hact) {
         let code = raster::code_of(code_at(p, chars, row));
         if raster::is_wide(code) {
@@ -106,8 +103,7 @@ pub fn begun_of(p: board::Page, chars: &[u8], row: u32, column: units::Clocks) -
     requires { ⌜ (length (now chars) ≡ 16384) × (row < 8192) ⌝ }
     ensures { λ r. ⌜ r ≡ begunOf p (now (chars .entry)) row (column .0) ⌝ }
 {
-    let irs = p.irs;
-    let t = timing::timing_of(irs);
+    let t = timing::timing_of(p);
     let n = column.least(t.counts.hact);
     let code = raster::code_of(code_at(p, chars, row));
     if raster::is_wide(code) {
@@ -121,16 +117,15 @@ pub fn row_start(p: board::Page, chars: &[u8], row: u32) -> raster::Cell
     requires { ⌜ (length (now chars) ≡ 16384) × (row < 8192) ⌝ }
     ensures { λ r. ⌜ r ≡ cell (rowStart p (now (chars .entry)) row) ⌝ }
 {
-    let irs = p.irs;
-    if timing::table_of(irs) {
+    if timing::table_of(p) {
         return entry(p, chars, row);
     }
-    let t = timing::timing_of(irs);
+    let t = timing::timing_of(p);
     let before = t.counts.hact.times(row);
     let start = raster::Cell {
         address: p.starts.start1,
     };
-    raster::advance_by(timing::buffer_of(irs), before.cells(), start)
+    raster::advance_by(timing::buffer_of(p), before.cells(), start)
 }
 
 // The cell at a column of a row, at once.
@@ -138,10 +133,9 @@ pub fn cell_at(p: board::Page, chars: &[u8], row: u32, column: units::Clocks) ->
     requires { ⌜ (length (now chars) ≡ 16384) × (row < 8192) ⌝ }
     ensures { λ r. ⌜ r ≡ cell (cellAt p (now (chars .entry)) row (column .0)) ⌝ }
 {
-    let irs = p.irs;
     let moves = moved_of(p, chars, row, column);
     let start = row_start(p, chars, row);
-    raster::advance_by(timing::buffer_of(irs), moves, start)
+    raster::advance_by(timing::buffer_of(p), moves, start)
 }
 
 // How many of a row's cells stand side by side from its start on.
@@ -149,8 +143,7 @@ fn run_count(p: board::Page, cells: u32, start: u16) -> u32
     requires { ⌜ start < 16384 ⌝ }
     ensures { λ r. ⌜ r ≡ runCount p cells start ⌝ }
 {
-    let irs = p.irs;
-    let b = timing::buffer_of(irs);
+    let b = timing::buffer_of(p);
     let at = start as u32;
     let to_last = (b.last as u32 + 16384 - at % 16384) % 16384;
     least(cells, least(to_last + 1, 16384 - at))
@@ -169,8 +162,8 @@ pub fn one_run(b: raster::Buffer, start: raster::Cell, n: usize) -> bool
 fn row_check(b: board::Board, size: bool, row: u32) -> refusal::Refusal
     ensures { λ r. ⌜ r ≡ rowCheck b size row ⌝ }
 {
-    let irs = b.page.irs;
-    let t = timing::timing_of(irs);
+    let page = b.page;
+    let t = timing::timing_of(page);
     timing::call_check(b, size, t.counts.rows <= row, false)
 }
 
@@ -240,12 +233,11 @@ pub fn row_cells(b: board::Board, chars: &[u8], row: u32, cells: &mut [u16]) -> 
     ensures { λ r. ⌜ GivesCells b (now (chars .entry)) row (now (cells .entry)) r (now (cells .exit)) ⌝ }
 {
     let page = b.page;
-    let irs = page.irs;
     let refused = cells_check(b, chars.len(), row, cells.len());
     if refusal::is_done(refused) {
         let count = fetched_of(page, chars, row) as usize;
         let start = row_start(page, chars, row);
-        put_cells(cells, timing::buffer_of(irs), start, count);
+        put_cells(cells, timing::buffer_of(page), start, count);
         return RowCells {
             refusal: refused,
             count,

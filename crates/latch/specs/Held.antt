@@ -11,12 +11,12 @@ use Rattle.fetch.specs.Rows.{codeAt, cellAt}
 
 -- what column c of row r sets: the attribute byte of the cell that it fetches, if it fetches one
 abbrev pub setIn : Page → (chars attrs : List ℕ) → (row column : ℕ) → ℕ
-setIn p chars attrs r c = pick (fetchesAt (countsOf (p .irs)) (codeOf (codeAt p chars r)) c) (setsOf (fieldMode p) attrs (cellAt p chars r c)) 0
+setIn p chars attrs r c = pick (fetchesAt (countsOf p) (codeOf (codeAt p chars r)) c) (setsOf (fieldMode p) attrs (cellAt p chars r c)) 0
 
 -- the column after k others, from row 0, column 0 of the frame on
 abbrev pub byteOf : Page → (chars attrs : List ℕ) → (k : ℕ) → ℕ
-byteOf p chars attrs k = setIn p chars attrs (k / hactOf (p .irs)) (k % hactOf (p .irs))
+byteOf p chars attrs k = setIn p chars attrs (k / hactOf p) (k % hactOf p)
 
 -- of the last cell with AFLG that is fetched in the frame before column c of row r, or 0 for none
 unfoldable pub heldAt : Page → (chars attrs : List ℕ) → (row column : ℕ) → ℕ
-heldAt p chars attrs r c = lastSet (byteOf p chars attrs) 0 (r * hactOf (p .irs) + min c (hactOf (p .irs)))
+heldAt p chars attrs r c = lastSet (byteOf p chars attrs) 0 (r * hactOf p + min c (hactOf p))

@@ -33,7 +33,7 @@ use Rattle.fetch.specs.Laws.{cell-shown, begun-all}
 use Rattle.latch.specs.Held.{setIn, byteOf, heldAt}
 
 -- the count of columns that a timing has
-pub columns-of : (p : Page) (t : Timing) → t ≡ timingOf (p .irs) → t .counts .hact .0 ≡ hactOf (p .irs)
+pub columns-of : (p : Page) (t : Timing) → t ≡ timingOf p → t .counts .hact .0 ≡ hactOf p
 unfolding timingOf countsOf
 columns-of p t e = rw e
 
@@ -53,9 +53,9 @@ run-part attrs b start n v e l q =
 
 module _ (p : Page) (chars attrs : List ℕ) where
   abbrev H : ℕ
-  H = hactOf (p .irs)
+  H = hactOf p
 
-  pub held-valid : (r c : ℕ) → heldAt p chars attrs r c ≡ validAt (countsOf (p .irs)) (feedIn p chars) (codeAt p chars) (setsOf (fieldMode p) attrs) (tallyIn p chars) r c
+  pub held-valid : (r c : ℕ) → heldAt p chars attrs r c ≡ validAt (countsOf p) (feedIn p chars) (codeAt p chars) (setsOf (fieldMode p) attrs) (tallyIn p chars) r c
   unfolding heldAt validAt cellAt countsOf
   held-valid r c = refl
 
@@ -67,7 +67,7 @@ module _ (p : Page) (chars attrs : List ℕ) where
 
   pub held-in-row : (r c : ℕ) → c ≤ H → heldAt p chars attrs r c ≡ lastSet (setIn p chars attrs r) (heldAt p chars attrs r 0) c
   unfolding heldAt validAt cellAt countsOf
-  held-in-row r c h = valid-in-row (countsOf (p .irs)) (feedIn p chars) (codeAt p chars) (setsOf (fieldMode p) attrs) (tallyIn p chars) r c (omega arith)
+  held-in-row r c h = valid-in-row (countsOf p) (feedIn p chars) (codeAt p chars) (setsOf (fieldMode p) attrs) (tallyIn p chars) r c (omega arith)
 
   -- a column of the row, by the number of the cell that it shows
   column-sets : (r i : ℕ) → i < H
@@ -105,7 +105,7 @@ module _ (p : Page) (chars attrs : List ℕ) where
 
   pub held-plain : fieldMode p ≡ false → (r c : ℕ) → heldAt p chars attrs r c ≡ 0
   unfolding heldAt
-  held-plain m r c = last-none (byteOf p chars attrs) 0 _ (λ i h. rw m (none (fetchesAt (countsOf (p .irs)) (codeOf (codeAt p chars (i / H))) (i % H))))
+  held-plain m r c = last-none (byteOf p chars attrs) 0 _ (λ i h. rw m (none (fetchesAt (countsOf p) (codeOf (codeAt p chars (i / H))) (i % H))))
     where
       none : (t : Bool) → pick t 0 0 < 128
       none true = omega arith
@@ -119,14 +119,14 @@ module _ (p : Page) (chars attrs : List ℕ) where
 
   module _ (runs : fieldMode p ≡ true) where
     abbrev bytes : ℕ → ℕ → ℕ
-    bytes r = rowByte attrs (bufferOf (p .irs)) (rowStart p chars r)
+    bytes r = rowByte attrs (bufferOf p) (rowStart p chars r)
 
     from-row : (r c : ℕ) → c ≤ H → heldAt p chars attrs r c ≡ lastSet (bytes r) (heldAt p chars attrs r 0) (begunOf p chars r c)
     unfolding fetchAt
     from-row r c h = rw runs at (held-along r c h)
 
     -- what the search of a row answers, in the words of the calls before it
-    pub looked-in : (r n : ℕ) {u : Buffer} {start : Cell} {m v : ℕ} → u ≡ bufferOf (p .irs) → start ≡ cell (rowStart p chars r) → m ≡ n
+    pub looked-in : (r n : ℕ) {u : Buffer} {start : Cell} {m v : ℕ} → u ≡ bufferOf p → start ≡ cell (rowStart p chars r) → m ≡ n
         → v ≡ lastSet (rowByte attrs u (start .address)) 0 m → v ≡ lastSet (bytes r) 0 n
     looked-in r n eu es em e = rw (eu, es, em) at e
 

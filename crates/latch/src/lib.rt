@@ -81,8 +81,7 @@ fn held_above(p: board::Page, chars: &[u8], attrs: &[u8], row: u32) -> u8
     requires { ⌜ (length (now chars) ≡ 16384) × (length (now attrs) ≡ 16384) × (row < 8192) × (fieldMode p ≡ true) ⌝ }
     ensures { λ r. ⌜ r ≡ heldAt p (now (chars .entry)) (now (attrs .entry)) row 0 ⌝ }
 {
-    let irs = p.irs;
-    let buffer = timing::buffer_of(irs);
+    let buffer = timing::buffer_of(p);
     let mut left = row;
     while 0 < left {
         left -= 1;
@@ -122,10 +121,9 @@ pub fn held_at(
     if !board::field_mode(p) {
         return 0;
     }
-    let irs = p.irs;
     let n = fetch::begun_of(p, chars, row, column);
     let start = fetch::row_start(p, chars, row);
-    let byte = last_in_row(attrs, timing::buffer_of(irs), start, n);
+    let byte = last_in_row(attrs, timing::buffer_of(p), start, n);
     if byte != 0 {
         return byte;
     }

@@ -132,17 +132,17 @@ pub record Drawn (b : Board) (chars attrs : List ℕ) (f : Font) (line room : �
   pub chars-all : length chars ≡ 16384
   pub attrs-all : length attrs ≡ 16384
   pub font : Whole f
-  pub row-lt : line / linesOf (b .page .irs) < rowsOf (b .page .irs)
+  pub row-lt : line / linesOf (b .page) < rowsOf (b .page)
   pub roomy : lineLength b ≤ room
 
 pub draw-passed : (b : Board) (chars attrs : List ℕ) (f : Font) (line room : ℕ) → drawCheck b (lentRefused chars attrs f) line room ≡ Done
     → Drawn b chars attrs f line room
 unfolding drawCheck
 draw-passed b chars attrs f line room e =
-    let k = call-passed b (lentRefused chars attrs f) (leb (visibleOf (b .page .irs) .0) line) (ltb room (lineLength b)) e in
+    let k = call-passed b (lentRefused chars attrs f) (leb (visibleOf (b .page) .0) line) (ltb room (lineLength b)) e in
     let s = neither (memoriesRefused (length chars) (length attrs)) (fontRefused f) (k .sized) in
     let m = memories-all (length chars) (length attrs) (s .0) in
-    let some : 0 < linesOf (b .page .irs) = omega arith in
+    let some : 0 < linesOf (b .page) = omega arith in
     record {
       page = k .page;
       chars-all = m .0;
@@ -154,9 +154,9 @@ draw-passed b chars attrs f line room e =
 
 -- what is valid before the cell that the row fetches after i others
 abbrev pub validBy : Page → (chars attrs : List ℕ) → (r i : ℕ) → ℕ
-validBy p chars attrs r i = heldBy (fieldMode p) attrs (bufferOf (p .irs)) (heldAt p chars attrs r 0) (rowStart p chars r) i
+validBy p chars attrs r i = heldBy (fieldMode p) attrs (bufferOf p) (heldAt p chars attrs r 0) (rowStart p chars r) i
 
-pub valid-along : (p : Page) (chars attrs : List ℕ) (r c : ℕ) → c ≤ hactOf (p .irs) → validBy p chars attrs r (begunOf p chars r c) ≡ heldAt p chars attrs r c
+pub valid-along : (p : Page) (chars attrs : List ℕ) (r c : ℕ) → c ≤ hactOf p → validBy p chars attrs r (begunOf p chars r c) ≡ heldAt p chars attrs r c
 unfolding heldBy fetchAt
 valid-along p chars attrs r c h = sym (held-along p chars attrs r c h)
 
@@ -180,10 +180,10 @@ own-last f v h (suc n) a = ap (latched (f (suc n))) (own-last f v h n a)
 -- so it makes no difference to the row's cells
 module _ (p : Page) (chars attrs : List ℕ) (r : ℕ) (page : Accepted p) where
   abbrev made : (held i : ℕ) → ℕ
-  made held = cellBy (readingOf p) chars attrs (bufferOf (p .irs)) held (rowStart p chars r)
+  made held = cellBy (readingOf p) chars attrs (bufferOf p) held (rowStart p chars r)
 
-  first-at : advanceBy (bufferOf (p .irs)) 0 (rowStart p chars r) ≡ rowStart p chars r
-  first-at = advanceBy-zero (bufferOf (p .irs)) (rowStart p chars r) (row-start-lt p chars page r)
+  first-at : advanceBy (bufferOf p) 0 (rowStart p chars r) ≡ rowStart p chars r
+  first-at = advanceBy-zero (bufferOf p) (rowStart p chars r) (row-start-lt p chars page r)
 
   own-cell : (v h i : ℕ) → fieldMode p ≡ true → 128 ≤ getD attrs (rowStart p chars r) 0 → made v i ≡ made h i
   unfolding cellBy heldBy lastSet
@@ -191,7 +191,7 @@ module _ (p : Page) (chars attrs : List ℕ) (r : ℕ) (page : Accepted p) where
       let k = contentAt (readingOf p) chars attrs false 0 (rowStart p chars r) in
       rw first-at (ap (λ (x : ℕ). numberFor (record { code = k .code; attributes = x; here = k .here })) (own-byte (getD attrs (rowStart p chars r) 0) v h a))
   own-cell v h (suc i) m a =
-      ap (λ (x : ℕ). numberFor (contentAt (readingOf p) chars attrs false x (advanceBy (bufferOf (p .irs)) (suc i) (rowStart p chars r)))) (own-last (λ (j : ℕ). setsOf (fieldMode p) attrs (advanceBy (bufferOf (p .irs)) j (rowStart p chars r))) v h i (rw (m, first-at) a))
+      ap (λ (x : ℕ). numberFor (contentAt (readingOf p) chars attrs false x (advanceBy (bufferOf p) (suc i) (rowStart p chars r)))) (own-last (λ (j : ℕ). setsOf (fieldMode p) attrs (advanceBy (bufferOf p) j (rowStart p chars r))) v h i (rw (m, first-at) a))
 
   pub held-counts : (n : ℕ) → tab n (made (heldFor p chars attrs r (rowStart p chars r))) ≡ tab n (made (heldAt p chars attrs r 0))
   unfolding heldFor
@@ -214,7 +214,7 @@ again-valid k byte held = go (k .runs)
     go true = refl
     go false = refl
 
-module _ (p : Page) (chars attrs : List ℕ) (r c : ℕ) (h : c < hactOf (p .irs)) where
+module _ (p : Page) (chars attrs : List ℕ) (r c : ℕ) (h : c < hactOf p) where
   abbrev k : Code
   k = codeOf (codeAt p chars r)
 
@@ -227,13 +227,13 @@ module _ (p : Page) (chars attrs : List ℕ) (r c : ℕ) (h : c < hactOf (p .irs
   unfolding begunOf fetchedBy
   attributes-are = go (isWide k) (ℕ-discrete (c % 2) 1)
     where
-      m : min c (hactOf (p .irs)) ≡ c
+      m : min c (hactOf p) ≡ c
       m = omega arith
 
       byte : ℕ → ℕ
       byte i = getD attrs (fetchAt p chars r i) 0
 
-      go : (t : Bool) → Dec (c % 2 ≡ 1) → latched (countedByte (readingOf p) (t && eqb (c % 2) 1) (byte (pick t (c / 2) c))) (validBy p chars attrs r (pick t ((min c (hactOf (p .irs)) + 1) / 2) (min c (hactOf (p .irs)))))
+      go : (t : Bool) → Dec (c % 2 ≡ 1) → latched (countedByte (readingOf p) (t && eqb (c % 2) 1) (byte (pick t (c / 2) c))) (validBy p chars attrs r (pick t ((min c (hactOf p) + 1) / 2) (min c (hactOf p))))
           ≡ latched (byte (pick t (c / 2) c)) (validBy p chars attrs r (pick t (c / 2) c))
       go false d = rw m
       go true (yes o) =
@@ -249,7 +249,7 @@ module _ (p : Page) (chars attrs : List ℕ) (r c : ℕ) (h : c < hactOf (p .irs
       rw (← cell-shown p chars r c h, ← v) (ap (λ (x : ℕ). record { code = contentBy p chars attrs r i .code; attributes = x; here = contentBy p chars attrs r i .here }) attributes-are)
 
 -- a column shows it
-pub column-content : (b : Board) (chars attrs : List ℕ) (f : Font) (line field c : ℕ) → c < hactOf (b .page .irs)
+pub column-content : (b : Board) (chars attrs : List ℕ) (f : Font) (line field c : ℕ) → c < hactOf (b .page)
     → shownOf (isWide (codeFor b chars line)) (λ (i : ℕ). scanDots b f (scanFor b chars line) field (contentBy (b .page) chars attrs (rowFor b line) i)) c ≡ columnDots b chars attrs f line field c
 unfolding columnDots dotsAt shownOf
 column-content b chars attrs f line field c h =
@@ -257,21 +257,21 @@ column-content b chars attrs f line field c h =
 
 -- what the drawer has before it goes along the line: how many columns, the line's constants, the row's cells, and the levels of the scan line's marks
 pub record Prepared (b : Board) (chars attrs : List ℕ) (f : Font) (line field n : ℕ) (w : Walk) (wide : Bool) (row looks : List ℕ) : Type 0 where
-  pub counted : n ≡ hactOf (b .page .irs)
+  pub counted : n ≡ hactOf (b .page)
   pub walked : w ≡ walkOf (b .page) (f .unshifted) (f .shifted) (scanFor b chars line)
   pub widened : wide ≡ isWide (codeFor b chars line)
   pub beyond : List ℕ
   pub row-is : row
-      ≡ tab (fetchedFor wide n) (cellBy (readingOf (b .page)) chars attrs (bufferOf (b .page .irs)) (heldAt (b .page) chars attrs (rowFor b line) 0)
+      ≡ tab (fetchedFor wide n) (cellBy (readingOf (b .page)) chars attrs (bufferOf (b .page)) (heldAt (b .page) chars attrs (rowFor b line) 0)
       (rowStart (b .page) chars (rowFor b line))) ++ beyond
   pub above : List ℕ
   pub looks-is : looks ≡ tab 128 (levelsOf (sceneOf b (scanFor b chars line) field)) ++ above
 
 -- the same in the words of the calls that made it
 pub prepared-of : (b : Board) (chars attrs : List ℕ) (f : Font) (line field : ℕ) {row looks : List ℕ} (beyond above : List ℕ) {t : Timing} {r byte n : ℕ} {k : Code} {wide : Bool} {s : Lines} {w : Walk} {start : Cell} {v : ℕ} {g : Reading} {u : Buffer} {scene : Scene}
-    → t ≡ timingOf (b .page .irs) → r ≡ rowFor b line → byte ≡ codeAt (b .page) chars r → k ≡ codeOf byte → s ≡ lines (scanAt (b .page .irs) k line)
+    → t ≡ timingOf (b .page) → r ≡ rowFor b line → byte ≡ codeAt (b .page) chars r → k ≡ codeOf byte → s ≡ lines (scanAt (b .page) k line)
     → w ≡ walkOf (b .page) (f .unshifted) (f .shifted) (s .0)
-    → Accepted (b .page) → start ≡ cell (rowStart (b .page) chars r) → v ≡ heldFor (b .page) chars attrs r (start .address) → n ≡ fetchedOf (b .page) chars r → g ≡ readingOf (b .page) → u ≡ bufferOf (b .page .irs)
+    → Accepted (b .page) → start ≡ cell (rowStart (b .page) chars r) → v ≡ heldFor (b .page) chars attrs r (start .address) → n ≡ fetchedOf (b .page) chars r → g ≡ readingOf (b .page) → u ≡ bufferOf (b .page)
     → row ≡ tab n (cellBy g chars attrs u v (start .address)) ++ beyond → scene ≡ sceneOf b (s .0) field → looks ≡ tab 128 (levelsOf scene) ++ above → wide ≡ isWide k
     → Prepared b chars attrs f line field (t .counts .hact .0) w wide row looks
 unfolding timingOf countsOf fetchedOf

@@ -104,11 +104,10 @@ fn held_for(p: board::Page, chars: &[u8], attrs: &[u8], row: u32, start: raster:
 // 7 for a line that is not visible, 8 for a buffer that is too short; of an accepted page the line's dots are few enough to count.
 fn line_check(p: board::Page, line: units::Lines, room: usize) -> refusal::Refusal
     requires { ⌜ Accepted p ⌝ }
-    ensures { λ r. ⌜ r ≡ lastOf (leb (visibleOf (p .irs) .0) (line .0)) (ltb room (hactOf (p .irs) * p .video .dots .0)) ⌝ }
+    ensures { λ r. ⌜ r ≡ lastOf (leb (visibleOf p .0) (line .0)) (ltb room (hactOf p * p .video .dots .0)) ⌝ }
 {
-    let irs = p.irs;
-    let t = timing::timing_of(irs);
-    if timing::visible_of(irs).at_most(line) {
+    let t = timing::timing_of(p);
+    if timing::visible_of(p).at_most(line) {
         return refusal::Refusal::Range;
     }
     if room < units::dots_of(t.counts.hact, p.video.dots).places() {
@@ -145,11 +144,10 @@ pub fn whole_line(
         (line .0) field (now (out .entry)) ⌝ }
 {
     let page = b.page;
-    let irs = page.irs;
-    let t = timing::timing_of(irs);
-    let row = timing::row_of(irs, line);
+    let t = timing::timing_of(page);
+    let row = timing::row_of(page, line);
     let code = raster::code_of(fetch::code_at(page, chars, row));
-    let scan = video::scan_at(irs, code, line);
+    let scan = video::scan_at(page, code, line);
     let w = walk_of(page, unshifted, shifted, scan);
     let start = fetch::row_start(page, chars, row);
     let held = held_for(page, chars, attrs, row, start);
@@ -161,7 +159,7 @@ pub fn whole_line(
         chars,
         attrs,
         video::reading_of(page),
-        timing::buffer_of(irs),
+        timing::buffer_of(page),
         start,
         held,
         n as usize,

@@ -30,7 +30,7 @@ use Rattle.listing.specs.Answers.{listed, refused-so, done-so, listed-wi
 
 line-some : (b : Board) → Accepted (b .page) → 0 < lineLength b
 line-some b a =
-    let h : 1 ≤ hactOf (b .page .irs) = omega arith in
+    let h : 1 ≤ hactOf (b .page) = omega arith in
     omega (arith, mul-le-mul h (a .least))
 
 one-less : (room n : ℕ) → 0 < n → ltb (room - 1) n ≡ ltb room (n + 1)
@@ -61,7 +61,7 @@ pub record Fitting (b : Board) (room : ℕ) : Type 0 where
 line-passed : (b : Board) (size : Bool) (line room : ℕ) → lineCheck b size line room ≡ Done → Fitting b room
 unfolding lineCheck callCheck sizeOf
 line-passed b size line room e =
-    let k = call-passed b size (leb (visibleOf (b .page .irs) .0) line) (ltb room (lineLength b + 1)) e in
+    let k = call-passed b size (leb (visibleOf (b .page) .0) line) (ltb room (lineLength b + 1)) e in
     let p = not-refused (pageCheck (b .page)) _ (passed size Size _ refl e .1) in
     record { long = rw (p .0); page = k .page; roomy = ltb-false room (lineLength b + 1) (k .roomy) }
 

@@ -43,7 +43,7 @@ headCheck p room = firstOf ((not (doneOf (pageCheck p)), pageCheck p) ∷ (ltb r
 
 -- as a line is drawn: 3, 12, 4, 13, 14, 15, 6, 7; then 8, where the line feed needs room too
 unfoldable pub lineCheck : Board → (size : Bool) → (line room : ℕ) → Refusal
-lineCheck b size line room = callCheck b size (leb (visibleOf (b .page .irs) .0) line) (ltb room (lineLength b + 1))
+lineCheck b size line room = callCheck b size (leb (visibleOf (b .page) .0) line) (ltb room (lineLength b + 1))
 
 -- what a call with this check answers, where these are its bytes
 unfoldable pub listedOf : Refusal → List ℕ → Listed

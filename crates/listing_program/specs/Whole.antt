@@ -26,22 +26,22 @@ pub lines-small : (p : Page) (z : PageSize) → z ≡ sizeOf p → z .lines .0 �
 unfolding sizeOf
 lines-small p z e = rw e (go (doneOf (pageCheck p)))
   where
-    go : (t : Bool) → pick t (sized (pageCheck p) (visibleOf (p .irs)) (dotsOf (clocks (hactOf (p .irs))) (p .video .dots))) (sized (pageCheck p) (lines 0) (dots 0)) .lines .0 ≤ 2048
-    go true = visible-bound (p .irs)
+    go : (t : Bool) → pick t (sized (pageCheck p) (visibleOf p) (dotsOf (clocks (hactOf p)) (p .video .dots))) (sized (pageCheck p) (lines 0) (dots 0)) .lines .0 ≤ 2048
+    go true = visible-bound p
     go false = omega arith
 
 pub head-answers : (p : Page) → pageCheck p ≡ Done → headCheck p 3073 ≡ Done
 unfolding listingHead sizeOf
 head-answers p e =
-    let high = rowsOf (p .irs) * linesOf (p .irs) in
-    let broad = hactOf (p .irs) * p .video .dots .0 in
-    let l : length (decimal high) ≤ 4 = length-decimal 3 high (omega (arith, visible-bound (p .irs))) in
+    let high = rowsOf p * linesOf p in
+    let broad = hactOf p * p .video .dots .0 in
+    let l : length (decimal high) ≤ 4 = length-decimal 3 high (omega (arith, visible-bound p)) in
     let d : length (decimal broad) ≤ 4 = length-decimal 3 broad (omega (arith, dots-bound p (accepted p e))) in
     head-fits p 3073 e (rw e (simp length-append (omega arith)))
 
-pub line-answers : (file : List ℕ) → pageCheck (pageAt file 5) ≡ Done → (line : ℕ) → line < visibleOf (pageAt file 5 .irs) .0 → lineCheck (boardAt file 5) false line 3073 ≡ Done
+pub line-answers : (file : List ℕ) → pageCheck (pageAt file 5) ≡ Done → (line : ℕ) → line < visibleOf (pageAt file 5) .0 → lineCheck (boardAt file 5) false line 3073 ≡ Done
 unfolding lineCheck callCheck stateRefused
 line-answers file e line h =
     let p = pageAt file 5 in
     let n = lineLength (boardAt file 5) in
-    rw (e, lt-leb (vtOf (p .irs)) 0 (omega arith), lt-leb (htOf (p .irs)) 0 (omega arith), lt-leb (visibleOf (p .irs) .0) line h, le-ltb 3073 (n + 1) (omega (arith, dots-bound p (accepted p e))))
+    rw (e, lt-leb (vtOf p) 0 (omega arith), lt-leb (htOf p) 0 (omega arith), lt-leb (visibleOf p .0) line h, le-ltb 3073 (n + 1) (omega (arith, dots-bound p (accepted p e))))

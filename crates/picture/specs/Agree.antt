@@ -75,9 +75,9 @@ module _ (b : Board) (chars attrs : List ℕ) (f : Font) (field : ℕ) (out₀ :
 
 pub record Made (b : Board) (f : Font) (field : ℕ) (shown looks : List ℕ) : Type 0 where
   pub beyond : List ℕ
-  pub shown-is : shown ≡ joined 0 (linesOf (b .page .irs)) (wordsAt f (b .page .video .dots .0)) ++ beyond
+  pub shown-is : shown ≡ joined 0 (linesOf (b .page)) (wordsAt f (b .page .video .dots .0)) ++ beyond
   pub rest : List ℕ
-  pub looks-is : looks ≡ joined 0 (linesOf (b .page .irs)) (levelsAt b field) ++ rest
+  pub looks-is : looks ≡ joined 0 (linesOf (b .page)) (levelsAt b field) ++ rest
 
 -- ---- a cell, a line, the picture
 
@@ -87,7 +87,7 @@ module _ (b : Board) (chars attrs : List ℕ) (f : Font) (field : ℕ) (shown lo
   d = b .page .video .dots .0
 
   abbrev n : ℕ
-  n = linesOf (b .page .irs)
+  n = linesOf (b .page)
 
   same-cell : (s : ℕ) (k : Content) → s < n → k .code < 256 → cellDotsOf shown looks d s (numberFor k) ≡ scanDots b f s field k
   unfolding cellDotsOf shownWord
@@ -104,8 +104,8 @@ module _ (b : Board) (chars attrs : List ℕ) (f : Font) (field : ℕ) (shown lo
       let m : (r * n + s) % n ≡ s = digits-mod r h in
       let k = codeOf (codeAt (b .page) chars r) in
       let scan = scanOf k n s in
-      same-joined 0 (hactOf (b .page .irs)) _ _ (λ c l u.
-      same-shown (isWide k) _ (λ (i : ℕ). scanDots b f scan field (contentBy (b .page) chars attrs r i)) (hactOf (b .page .irs))
+      same-joined 0 (hactOf (b .page)) _ _ (λ c l u.
+      same-shown (isWide k) _ (λ (i : ℕ). scanDots b f scan field (contentBy (b .page) chars attrs r i)) (hactOf (b .page))
       (λ i v. same-cell scan (contentBy (b .page) chars attrs r i) (scan-lt k n s h) (shown-lt (readingOf (b .page)) chars attrs (validBy (b .page) chars attrs r i) (fetchAt (b .page) chars r i) bytes)) c (omega arith)
       ∙ (rw (q, m) at (column-content b chars attrs f (r * n + s) field c (omega arith))))
 
@@ -113,20 +113,20 @@ module _ (b : Board) (chars attrs : List ℕ) (f : Font) (field : ℕ) (shown lo
   unfolding rowDrawn rowFrom planOf
   same-row r = same-joined 0 n _ _ (λ s l u. same-line r s (omega arith))
 
-  same-picture : joined 0 (rowsOf (b .page .irs)) (rowDrawn (planOf (b .page)) (b .page) chars attrs shown looks) ≡ pictureDots b chars attrs f field
+  same-picture : joined 0 (rowsOf (b .page)) (rowDrawn (planOf (b .page)) (b .page) chars attrs shown looks) ≡ pictureDots b chars attrs f field
   unfolding pictureDots
   same-picture =
-      same-joined 0 (rowsOf (b .page .irs)) _ _ (λ r l u. same-row r)
-      ∙ join-all (λ (line : ℕ). lineDots b chars attrs f line field) n (rowsOf (b .page .irs))
+      same-joined 0 (rowsOf (b .page)) _ _ (λ r l u. same-row r)
+      ∙ join-all (λ (line : ℕ). lineDots b chars attrs f line field) n (rowsOf (b .page))
 
   -- the drawer's own words
   pub pictured : (p : Plan) (out out₀ : List ℕ) → p ≡ planOf (b .page) → out ≡ joined 0 (p .rows) (rowDrawn p (b .page) chars attrs shown looks) ++ drop (p .rows * p .size) out₀
       → out ≡ pictureDots b chars attrs f field ++ drop (pictureLength (b .page)) out₀
   unfolding planOf
   pictured p out out₀ q e =
-      let k : rowsOf (b .page .irs) * (n * (hactOf (b .page .irs) * d)) ≡ pictureLength (b .page) = sym (mul-assoc (rowsOf (b .page .irs)) n (hactOf (b .page .irs) * d)) in
+      let k : rowsOf (b .page) * (n * (hactOf (b .page) * d)) ≡ pictureLength (b .page) = sym (mul-assoc (rowsOf (b .page)) n (hactOf (b .page) * d)) in
       (rw q at e)
-      ∙ ap (λ (i : ℕ). joined 0 (rowsOf (b .page .irs)) (rowDrawn (planOf (b .page)) (b .page) chars attrs shown looks) ++ drop i out₀) k
+      ∙ ap (λ (i : ℕ). joined 0 (rowsOf (b .page)) (rowDrawn (planOf (b .page)) (b .page) chars attrs shown looks) ++ drop i out₀) k
       ∙ ap (λ (l : List ℕ). l ++ drop (pictureLength (b .page)) out₀) same-picture
 
 -- what the drawer asks of its tables
@@ -141,7 +141,7 @@ sheet-of b f field shown looks inks page made ls lk ink p q = rw q (record {
   short = omega arith;
   width-is = refl;
   size-is = refl;
-  bounded = buffer-bounded (b .page .irs);
+  bounded = buffer-bounded (b .page);
   shown-all = ls;
   looks-all = lk;
   looks-few = λ s i h l. rw (levels-at b field looks (made .rest) _ s i (made .looks-is) h l) (levels-few b field s i);
@@ -165,7 +165,7 @@ module _ (p : Plan) (page : Page) (q : p ≡ planOf page) where
 
   pub plan-size : p .rows * p .size ≡ pictureLength page
   unfolding planOf
-  plan-size = rw q (sym (mul-assoc (rowsOf (page .irs)) (linesOf (page .irs)) (hactOf (page .irs) * page .video .dots .0)))
+  plan-size = rw q (sym (mul-assoc (rowsOf page) (linesOf page) (hactOf page * page .video .dots .0)))
 
   pub plan-visible : p .rows * p .lines .0 * p .width ≡ pictureLength page
   unfolding planOf
@@ -174,10 +174,10 @@ module _ (p : Plan) (page : Page) (q : p ≡ planOf page) where
   pub plan-small : Accepted page → (p .rows * p .size ≤ 6291456) × (p .rows * p .lines .0 ≤ 2048) × (p .rows * p .columns .0 ≤ 32768)
   unfolding planOf
   plan-small a =
-      let h : hactOf (page .irs) ≤ 256 = omega arith in
-      let r : rowsOf (page .irs) ≤ 128 = omega arith in
-      let l : linesOf (page .irs) ≤ 16 = omega arith in
-      rw q (mul-le-mul r (mul-le-mul l (dots-bound page a)), visible-bound (page .irs), mul-le-mul r h)
+      let h : hactOf page ≤ 256 = omega arith in
+      let r : rowsOf page ≤ 128 = omega arith in
+      let l : linesOf page ≤ 16 = omega arith in
+      rw q (mul-le-mul r (mul-le-mul l (dots-bound page a)), visible-bound page, mul-le-mul r h)
 
 pub made-of : (b : Board) (f : Font) (field : ℕ) (shown looks beyond rest : List ℕ) (p : Plan) → p ≡ planOf (b .page)
     → shown ≡ joined 0 (p .lines .0) (wordsAt f (p .dots .0)) ++ beyond → looks ≡ joined 0 (p .lines .0) (levelsAt b field) ++ rest → Made b f field shown looks
@@ -194,7 +194,7 @@ module _ (b : Board) (chars attrs : List ℕ) (f : Font) (field : ℕ) (p : Plan
     chars-all = k .chars-all;
     attrs-all = k .attrs-all;
     font = k .font;
-    row-lt = let some : 0 < linesOf (b .page .irs) = omega arith in div-lt-iff-lt-mul some .1 (rw q at h);
+    row-lt = let some : 0 < linesOf (b .page) = omega arith in div-lt-iff-lt-mul some .1 (rw q at h);
     roomy = rw q at w;
   }
 

@@ -18,11 +18,11 @@ use Rattle.video.specs.At.{lentRefused}
 use Rattle.line.specs.Line.{lineDots}
 
 unfoldable pub pictureDots : Board → (chars attrs : List ℕ) → Font → (field : ℕ) → List ℕ
-pictureDots b chars attrs f field = joined 0 (visibleOf (b .page .irs) .0) (λ (line : ℕ). lineDots b chars attrs f line field)
+pictureDots b chars attrs f field = joined 0 (visibleOf (b .page) .0) (λ (line : ℕ). lineDots b chars attrs f line field)
 
 -- the bytes of all visible lines
 abbrev pub pictureLength : Page → ℕ
-pictureLength p = visibleOf (p .irs) .0 * (hactOf (p .irs) * p .video .dots .0)
+pictureLength p = visibleOf p .0 * (hactOf p * p .video .dots .0)
 
 -- 3, 12, 4, 13, 14, 15, 6, 7, 8 for a buffer of room bytes that is too short
 unfoldable pub pictureCheck : Board → (size : Bool) → (room : ℕ) → Refusal

@@ -158,13 +158,13 @@ length-row p page chars attrs shown looks h w z r = length-joined _ (p .width) e
 
 unfoldable pub planOf : Page → Plan
 planOf p = record {
-  columns = clocks (hactOf (p .irs));
+  columns = clocks (hactOf p);
   dots = p .video .dots;
-  lines = lines (linesOf (p .irs));
-  rows = rowsOf (p .irs);
-  width = hactOf (p .irs) * p .video .dots .0;
-  size = linesOf (p .irs) * (hactOf (p .irs) * p .video .dots .0);
-  buffer = bufferOf (p .irs);
+  lines = lines (linesOf p);
+  rows = rowsOf p;
+  width = hactOf p * p .video .dots .0;
+  size = linesOf p * (hactOf p * p .video .dots .0);
+  buffer = bufferOf p;
   reading = readingOf p;
 }
 
@@ -187,6 +187,6 @@ module _ (p : Plan) (page : Page) (chars attrs : List ℕ) (r : ℕ) {byte held 
   carried-on e x d =
       (rw (e, v, q, ke, be) at d)
       ∙ ap (validBy page chars attrs r) (sym (begun-all page chars r))
-      ∙ valid-along page chars attrs r (hactOf (page .irs)) (omega arith)
+      ∙ valid-along page chars attrs r (hactOf page) (omega arith)
       ∙ held-next page chars attrs r
       ∙ rw (add-one r)

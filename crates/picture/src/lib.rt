@@ -231,8 +231,7 @@ fn plan_of(p: board::Page) -> Plan
     requires { ⌜ Accepted p ⌝ }
     ensures { λ r. ⌜ r ≡ planOf p ⌝ }
 {
-    let irs = p.irs;
-    let t = timing::timing_of(irs);
+    let t = timing::timing_of(p);
     let columns = t.counts.hact;
     let dots = p.video.dots;
     let lines = t.counts.lines;
@@ -245,7 +244,7 @@ fn plan_of(p: board::Page) -> Plan
         rows: t.counts.rows,
         width: width,
         size: size,
-        buffer: timing::buffer_of(irs),
+        buffer: timing::buffer_of(p),
         reading: video::reading_of(p),
     }
 }

@@ -45,9 +45,9 @@ use Rattle.place.specs.Place.{countsIn, carrierIn, rowsIn, rasterOf, car
 use Rattle.place.specs.Spot.{lastSpot, spotIn, spotBefore, originAt}
 use Rattle.place.specs.State.{stateCheck}
 
-row-of : (p : Page) (line : ℕ) → line < visibleOf (p .irs) .0 → line / linesOf (p .irs) < 8192
+row-of : (p : Page) (line : ℕ) → line < visibleOf p .0 → line / linesOf p < 8192
 row-of p line v =
-    let some : 0 < linesOf (p .irs) = omega arith in
+    let some : 0 < linesOf p = omega arith in
     omega (arith, div-lt-iff-lt-mul some .1 v)
 
 pub spot-row : (p : Page) (c line : ℕ) → spotBefore p c line .row < 8192
@@ -55,15 +55,15 @@ unfolding spotBefore spotIn
 spot-row p c line = go (ltb 0 c) (ltb 0 line)
   where
     one : (k l : ℕ) → spotIn p k l .row < 8192
-    one k l = by (decLt l (visibleOf (p .irs) .0))
+    one k l = by (decLt l (visibleOf p .0))
       where
-        by : Dec (l < visibleOf (p .irs) .0) → spotIn p k l .row < 8192
-        by (yes h) = rw (lt-ltb l (visibleOf (p .irs) .0) h) (row-of p l h)
-        by (no f) = rw (le-ltb l (visibleOf (p .irs) .0) (omega arith)) (omega arith)
+        by : Dec (l < visibleOf p .0) → spotIn p k l .row < 8192
+        by (yes h) = rw (lt-ltb l (visibleOf p .0) h) (row-of p l h)
+        by (no f) = rw (le-ltb l (visibleOf p .0) (omega arith)) (omega arith)
 
-    go : (s t : Bool) → pick s (spotIn p c line) (pick t (spotIn p (htOf (p .irs)) (line - 1)) (lastSpot p)) .row < 8192
+    go : (s t : Bool) → pick s (spotIn p c line) (pick t (spotIn p (htOf p) (line - 1)) (lastSpot p)) .row < 8192
     go true t = one c line
-    go false true = one (htOf (p .irs)) (line - 1)
+    go false true = one (htOf p) (line - 1)
     go false false = omega arith
 
 -- ---- what a clock works on
@@ -73,35 +73,35 @@ abbrev pub heldIn : Page → Place → Row
 heldIn p q = settled p (row (q .beam .address) (q .beam .latch) (q .row .code))
 
 module _ (p : Page) (chars : List ℕ) (q : Place) where
-  pub loads-row : loadsAt p q ≡ true → q .line .0 / linesOf (p .irs) < 8192
-  loads-row t = row-of p (q .line .0) (ltb-true _ _ (both (ltb (q .line .0) (visibleOf (p .irs) .0)) (eqb (q .clock .0) 0) t .0))
+  pub loads-row : loadsAt p q ≡ true → q .line .0 / linesOf p < 8192
+  loads-row t = row-of p (q .line .0) (ltb-true _ _ (both (ltb (q .line .0) (visibleOf p .0)) (eqb (q .clock .0) 0) t .0))
 
-  pub loaded-first : loadsAt p q ≡ true → eqb (q .line .0 % linesOf (p .irs)) 0 ≡ true
-      → (x : Row) → x ≡ begunIn p chars (q .line .0 / linesOf (p .irs)) (heldIn p q) → carriedOf (pair x x) ≡ loadedIn p chars q
+  pub loaded-first : loadsAt p q ≡ true → eqb (q .line .0 % linesOf p) 0 ≡ true
+      → (x : Row) → x ≡ begunIn p chars (q .line .0 / linesOf p) (heldIn p q) → carriedOf (pair x x) ≡ loadedIn p chars q
   unfolding loadedIn loaded countsOf
   loaded-first t z x e =
-      let b = both (ltb (q .line .0) (visibleOf (p .irs) .0)) (eqb (q .clock .0) 0) t in
+      let b = both (ltb (q .line .0) (visibleOf p .0)) (eqb (q .clock .0) 0) t in
       rw (b .0, b .1, z, e)
 
-  pub loaded-again : loadsAt p q ≡ true → eqb (q .line .0 % linesOf (p .irs)) 0 ≡ false
+  pub loaded-again : loadsAt p q ≡ true → eqb (q .line .0 % linesOf p) 0 ≡ false
       → (x : Row) → x ≡ settled p (q .row) → carriedOf (pair x x) ≡ loadedIn p chars q
   unfolding loadedIn loaded countsOf
   loaded-again t z x e =
-      let b = both (ltb (q .line .0) (visibleOf (p .irs) .0)) (eqb (q .clock .0) 0) t in
+      let b = both (ltb (q .line .0) (visibleOf p .0)) (eqb (q .clock .0) 0) t in
       rw (b .0, b .1, z, e)
 
   pub loaded-on : loadsAt p q ≡ false → (x y : Row) → x ≡ heldIn p q → y ≡ settled p (q .row) → carriedOf (pair x y) ≡ loadedIn p chars q
   unfolding loadedIn loaded countsOf
-  loaded-on t x y e d = rw (e, d) (go (ltb (q .line .0) (visibleOf (p .irs) .0)) (eqb (q .clock .0) 0) t)
+  loaded-on t x y e d = rw (e, d) (go (ltb (q .line .0) (visibleOf p .0)) (eqb (q .clock .0) 0) t)
     where
       held : Pair Row
       held = rasterOf (settledIn p q) .carried
 
       first : Row
-      first = begunIn p chars (q .line .0 / linesOf (p .irs)) (held .beam)
+      first = begunIn p chars (q .line .0 / linesOf p) (held .beam)
 
       m : Pair Row
-      m = pick (eqb (q .line .0 % linesOf (p .irs)) 0) (pair first first) (pair (held .row) (held .row))
+      m = pick (eqb (q .line .0 % linesOf p) 0) (pair first first) (pair (held .row) (held .row))
 
       go : (u v : Bool) → (u && v) ≡ false → carriedOf held ≡ carriedOf (pick u (pick v m held) held)
       go true true w = absurd (true≢false w)
@@ -121,13 +121,13 @@ module _ (p : Page) (attrs : List ℕ) (q : Place) (c : Carried) where
   moved-held t = rw t
 
 -- k and l are one clock and one line on
-module _ (p : Page) (q : Place) (c : Carried) (t : Timing) (et : t ≡ timingOf (p .irs))
+module _ (p : Page) (q : Place) (c : Carried) (t : Timing) (et : t ≡ timingOf p)
     (k : Clocks) (ek : k ≡ clocks (q .clock .0 + 1)) (l : Lines) (el : l ≡ lines (q .line .0 + 1)) where
-  clock-test : (b : Bool) → ltb (k .0) (t .counts .ht .0) ≡ b → ltb (q .clock .0 + 1) (htOf (p .irs)) ≡ b
+  clock-test : (b : Bool) → ltb (k .0) (t .counts .ht .0) ≡ b → ltb (q .clock .0 + 1) (htOf p) ≡ b
   unfolding timingOf countsOf
   clock-test b e = rw (ek, et) at e
 
-  line-test : (b : Bool) → ltb (l .0) (t .counts .vt .0) ≡ b → ltb (q .line .0 + 1) (vtOf (p .irs)) ≡ b
+  line-test : (b : Bool) → ltb (l .0) (t .counts .vt .0) ≡ b → ltb (q .line .0 + 1) (vtOf p) ≡ b
   unfolding timingOf countsOf
   line-test b e = rw (el, et) at e
 
@@ -149,7 +149,7 @@ module _ (p : Page) (q : Place) (c : Carried) (t : Timing) (et : t ≡ timingOf 
 -- loaded, moved on and turned is one step
 pub one-clock : (p : Page) (chars attrs : List ℕ) (q : Place) → turnedIn p q (movedIn p attrs q (loadedIn p chars q)) ≡ nextPlace p chars attrs q
 unfolding nextPlace step turnedIn movedIn loadedIn loaded onward countsOf
-one-clock p chars attrs q = go (ltb (q .line .0) (visibleOf (p .irs) .0)) (ltb (q .clock .0) (hactOf (p .irs)))
+one-clock p chars attrs q = go (ltb (q .line .0) (visibleOf p .0)) (ltb (q .clock .0) (hactOf p))
   where
     a : Pair Row
     a = loaded (countsIn p) (carrierIn p chars (λ _. 0)) (q .line .0) (q .clock .0) (rasterOf (settledIn p q) .carried)
@@ -164,7 +164,7 @@ one-clock p chars attrs q = go (ltb (q .line .0) (visibleOf (p .irs) .0)) (ltb (
     again = againAt (codeOf (a .beam .code)) (q .clock .0)
 
     at : ℕ
-    at = advance (bufferOf (p .irs)) (a .beam .address)
+    at = advance (bufferOf p) (a .beam .address)
 
     set : ℕ
     set = latched (setsOf (fieldMode p) attrs (a .beam .address)) (a .beam .latch)
@@ -188,21 +188,21 @@ module _ (p : Page) (chars : List ℕ) (a : Accepted p) where
   begins-lt : (r x : ℕ) → x < 16384 → begins (feedIn p chars) r x < 16384
   unfolding begins
   begins-lt r x h =
-      pick-lt 16384 (tableOf (p .irs)) (entryOf p chars r) _ (entry-lt p chars r)
+      pick-lt 16384 (tableOf p) (entryOf p chars r) _ (entry-lt p chars r)
       (pick-lt 16384 (eqb r 0) (p .starts .start1) x (omega (arith, a .start1)) h)
 
   pub loaded-lt : (q : Place) → q .beam .address ≤ 16383 → q .row .address ≤ 16383 → loadedIn p chars q .beam .address < 16384
   unfolding loadedIn loaded countsOf
-  loaded-lt q h k = go (ltb (q .line .0) (visibleOf (p .irs) .0)) (eqb (q .clock .0) 0) (eqb (q .line .0 % linesOf (p .irs)) 0)
+  loaded-lt q h k = go (ltb (q .line .0) (visibleOf p .0)) (eqb (q .clock .0) 0) (eqb (q .line .0 % linesOf p) 0)
     where
       first : Row
-      first = begunIn p chars (q .line .0 / linesOf (p .irs)) (heldIn p q)
+      first = begunIn p chars (q .line .0 / linesOf p) (heldIn p q)
 
       held : Pair Row
       held = pair (heldIn p q) (settled p (q .row))
 
       go : (u v w : Bool) → carriedOf (pick u (pick v (pick w (pair first first) (pair (held .row) (held .row))) held) held) .beam .address < 16384
-      go true true true = begins-lt (q .line .0 / linesOf (p .irs)) (q .beam .address) (omega arith)
+      go true true true = begins-lt (q .line .0 / linesOf p) (q .beam .address) (omega arith)
       go true true false = omega arith
       go true false w = omega arith
       go false v w = omega arith
@@ -221,28 +221,28 @@ module _ (p : Page) (chars attrs : List ℕ) where
   unfolding rowAt cellAt rowStart
   row-walked r c = rw (held-valid p chars attrs r c, held-valid p chars attrs r 0)
 
-  pub line-shown : (c line : ℕ) → line < visibleOf (p .irs) .0 → rowAt p chars attrs (line / linesOf (p .irs)) c ≡ lineAt p chars attrs c line
+  pub line-shown : (c line : ℕ) → line < visibleOf p .0 → rowAt p chars attrs (line / linesOf p) c ≡ lineAt p chars attrs c line
   unfolding lineAt inLine countsOf
-  line-shown c line h = row-walked _ c ∙ rw (lt-ltb line (visibleOf (p .irs) .0) h)
+  line-shown c line h = row-walked _ c ∙ rw (lt-ltb line (visibleOf p .0) h)
 
-  pub line-idle : (c line : ℕ) → visibleOf (p .irs) .0 ≤ line → rowAt p chars attrs (rowsOf (p .irs) - 1) (htOf (p .irs)) ≡ lineAt p chars attrs c line
+  pub line-idle : (c line : ℕ) → visibleOf p .0 ≤ line → rowAt p chars attrs (rowsOf p - 1) (htOf p) ≡ lineAt p chars attrs c line
   unfolding lineAt inLine tail countsOf
-  line-idle c line h = row-walked _ _ ∙ rw (le-ltb line (visibleOf (p .irs) .0) h, sub-one (rowsOf (p .irs)))
+  line-idle c line h = row-walked _ _ ∙ rw (le-ltb line (visibleOf p .0) h, sub-one (rowsOf p))
 
   pub carried-on : (c line frame : ℕ) → 0 < c → lineAt p chars attrs c line ≡ carriedBefore p chars attrs c line frame
   unfolding lineAt carriedBefore carriedAt
   carried-on zero line frame h = absurd (omega arith)
   carried-on (suc c) line frame h = refl
 
-  pub carried-line : (c line frame : ℕ) → c ≡ 0 → 0 < line → lineAt p chars attrs (htOf (p .irs)) (line - 1) ≡ carriedBefore p chars attrs c line frame
+  pub carried-line : (c line frame : ℕ) → c ≡ 0 → 0 < line → lineAt p chars attrs (htOf p) (line - 1) ≡ carriedBefore p chars attrs c line frame
   unfolding lineAt carriedBefore carriedAt countsOf
   carried-line c zero frame e h = absurd (omega arith)
   carried-line c (suc line) frame e h = rw (e, sub-one (suc line))
 
-  pub carried-frame : (c line frame : ℕ) → c ≡ 0 → line ≡ 0 → 0 < frame → rowAt p chars attrs (rowsOf (p .irs) - 1) (htOf (p .irs)) ≡ carriedBefore p chars attrs c line frame
+  pub carried-frame : (c line frame : ℕ) → c ≡ 0 → line ≡ 0 → 0 < frame → rowAt p chars attrs (rowsOf p - 1) (htOf p) ≡ carriedBefore p chars attrs c line frame
   unfolding carriedBefore carriedAt tail countsOf
   carried-frame c line zero e d h = absurd (omega arith)
-  carried-frame c line (suc frame) e d h = row-walked _ _ ∙ rw (e, d, sub-one (rowsOf (p .irs)))
+  carried-frame c line (suc frame) e d h = row-walked _ _ ∙ rw (e, d, sub-one (rowsOf p))
 
   pub carried-zero : (c line frame : ℕ) → c ≡ 0 → line ≡ 0 → frame ≡ 0 → carriedOf (pair (row 0 0 0) (row 0 0 0)) ≡ carriedBefore p chars attrs c line frame
   unfolding carriedBefore carriedAt
@@ -251,16 +251,16 @@ module _ (p : Page) (chars attrs : List ℕ) where
   -- where the beam last moved gives what is carried, but at clock 0
   spot-line : (c line : ℕ) → rowAt p chars attrs (spotIn p c line .row) (spotIn p c line .clocks .0) ≡ lineAt p chars attrs c line
   unfolding spotIn
-  spot-line c line = go (decLt line (visibleOf (p .irs) .0))
+  spot-line c line = go (decLt line (visibleOf p .0))
     where
-      go : Dec (line < visibleOf (p .irs) .0) → rowAt p chars attrs (spotIn p c line .row) (spotIn p c line .clocks .0) ≡ lineAt p chars attrs c line
-      go (yes h) = rw (lt-ltb line (visibleOf (p .irs) .0) h) (line-shown c line h)
-      go (no f) = rw (le-ltb line (visibleOf (p .irs) .0) (omega arith)) (line-idle c line (omega arith))
+      go : Dec (line < visibleOf p .0) → rowAt p chars attrs (spotIn p c line .row) (spotIn p c line .clocks .0) ≡ lineAt p chars attrs c line
+      go (yes h) = rw (lt-ltb line (visibleOf p .0) h) (line-shown c line h)
+      go (no f) = rw (le-ltb line (visibleOf p .0) (omega arith)) (line-idle c line (omega arith))
 
   pub spot-carried : (c line frame : ℕ) → 0 < c + line + frame → rowAt p chars attrs (spotBefore p c line .row) (spotBefore p c line .clocks .0) ≡ carriedBefore p chars attrs c line frame
   unfolding spotBefore
   spot-carried (suc c) line frame h = rw (lt-ltb 0 (suc c) (omega arith)) (spot-line (suc c) line ∙ carried-on (suc c) line frame (omega arith))
-  spot-carried zero (suc line) frame h = rw (lt-ltb 0 (suc line) (omega arith)) (spot-line (htOf (p .irs)) (suc line - 1) ∙ carried-line 0 (suc line) frame refl (omega arith))
+  spot-carried zero (suc line) frame h = rw (lt-ltb 0 (suc line) (omega arith)) (spot-line (htOf p) (suc line - 1) ∙ carried-line 0 (suc line) frame refl (omega arith))
   spot-carried zero zero frame h = carried-frame 0 0 frame refl refl (omega arith)
 
   pub at-zero : (c line frame : ℕ) → originAt c line frame ≡ true → carriedOf (pair (row 0 0 0) (row 0 0 0)) ≡ carriedBefore p chars attrs c line frame
@@ -288,7 +288,7 @@ module _ (p : Page) (chars attrs : List ℕ) where
       go false e = subst P (past-zero c line frame e _ refl _ refl) (rows _ _)
 
   -- the parts of clock n
-  module _ (n : ℕ) (t : Timing) (et : t ≡ timingOf (p .irs)) (whole : Lines) (ew : whole ≡ lines (n / t .counts .ht .0))
+  module _ (n : ℕ) (t : Timing) (et : t ≡ timingOf p) (whole : Lines) (ew : whole ≡ lines (n / t .counts .ht .0))
       (clock : Clocks) (ec : clock ≡ clocks (n % t .counts .ht .0)) (line : Lines) (el : line ≡ lines (whole .0 % t .counts .vt .0))
       (frame : ℕ) (ef : frame ≡ whole .0 / t .counts .vt .0) where
     pub place-at : (x : Carried) → x ≡ carriedBefore p chars attrs (clock .0) (line .0) frame

@@ -37,7 +37,7 @@ abbrev pub carriedOf : Pair Row → Carried
 carriedOf p = record { beam = p .beam; row = p .row }
 
 abbrev pub countsIn : Page → Counts
-countsIn p = countsOf (p .irs)
+countsIn p = countsOf p
 
 -- sets: the attribute byte that the cell at an address sets
 abbrev pub carrierIn : Page → (chars : List ℕ) → (sets : ℕ → ℕ) → Carrier Row
@@ -58,7 +58,7 @@ countedLatch p latch = latched (setBy p latch) 0
 
 -- of a row's code two bits count, and none while IR0[7] is 0
 unfoldable pub countedCode : Page → (code : ℕ) → ℕ
-countedCode p code = pick (codedOf (p .irs)) (code % 4) 0
+countedCode p code = pick (codedOf p) (code % 4) 0
 
 abbrev pub settled : Page → Row → Row
 settled p x = row (x .address) (countedLatch p (x .latch)) (countedCode p (x .code))
@@ -77,11 +77,11 @@ settledIn p q = record {
 
 -- an active clock of a visible line
 abbrev pub activeAt : Page → Place → Bool
-activeAt p q = ltb (q .line .0) (visibleOf (p .irs) .0) && ltb (q .clock .0) (hactOf (p .irs))
+activeAt p q = ltb (q .line .0) (visibleOf p .0) && ltb (q .clock .0) (hactOf p)
 
 -- column 0 of a visible line
 abbrev pub loadsAt : Page → Place → Bool
-loadsAt p q = ltb (q .line .0) (visibleOf (p .irs) .0) && eqb (q .clock .0) 0
+loadsAt p q = ltb (q .line .0) (visibleOf p .0) && eqb (q .clock .0) 0
 
 -- what a row begins with, where x is held; no attribute plays a part in it
 abbrev pub begunIn : Page → (chars : List ℕ) → (row : ℕ) → Row → Row
@@ -99,7 +99,7 @@ loadedIn p chars q =
 abbrev pub pastCell : Page → (attrs : List ℕ) → (clock : ℕ) → Row → Row
 pastCell p attrs clock x =
     row
-    (pick (endsAt (countsIn p) (codeOf (x .code)) clock) (advance (bufferOf (p .irs)) (x .address)) (x .address))
+    (pick (endsAt (countsIn p) (codeOf (x .code)) clock) (advance (bufferOf p) (x .address)) (x .address))
     (pick (againAt (codeOf (x .code)) clock) (x .latch) (latched (setsOf (fieldMode p) attrs (x .address)) (x .latch)))
     (x .code)
 

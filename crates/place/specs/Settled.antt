@@ -63,7 +63,7 @@ module _ (p : Page) where
 
   code-none : countedCode p 0 ≡ 0
   unfolding countedCode
-  code-none = go (codedOf (p .irs))
+  code-none = go (codedOf p)
     where
       go : (t : Bool) → pick t (0 % 4) 0 ≡ 0
       go true = refl
@@ -71,7 +71,7 @@ module _ (p : Page) where
 
   code-twice : (k : ℕ) → countedCode p (countedCode p k) ≡ countedCode p k
   unfolding countedCode
-  code-twice k = go (codedOf (p .irs))
+  code-twice k = go (codedOf p)
     where
       go : (t : Bool) → pick t (pick t (k % 4) 0 % 4) 0 ≡ pick t (k % 4) 0
       go true = omega arith
@@ -79,7 +79,7 @@ module _ (p : Page) where
 
   code-own : (chars : List ℕ) (r : ℕ) → countedCode p (codeAt p chars r) ≡ codeAt p chars r
   unfolding countedCode codeAt
-  code-own chars r = go (codedOf (p .irs)) (byteAt chars (p .starts .start2 + 2 * r + 1))
+  code-own chars r = go (codedOf p) (byteAt chars (p .starts .start2 + 2 * r + 1))
     where
       go : (t : Bool) (byte : ℕ) → pick t (pick t (byte / 64 % 4) 0 % 4) 0 ≡ pick t (byte / 64 % 4) 0
       go true byte = omega arith
@@ -99,19 +99,19 @@ module _ (p : Page) where
 
   pub loaded-settled : (chars : List ℕ) (q : Place) → Settled (loadedIn p chars q)
   unfolding loadedIn loaded countsOf
-  loaded-settled chars q = go (ltb (q .line .0) (visibleOf (p .irs) .0)) (eqb (q .clock .0) 0) (eqb (q .line .0 % linesOf (p .irs)) 0)
+  loaded-settled chars q = go (ltb (q .line .0) (visibleOf p .0)) (eqb (q .clock .0) 0) (eqb (q .line .0 % linesOf p) 0)
     where
       x : Row
       x = row (q .beam .address) (q .beam .latch) (q .row .code)
 
       first : Row
-      first = begunIn p chars (q .line .0 / linesOf (p .irs)) (settled p x)
+      first = begunIn p chars (q .line .0 / linesOf p) (settled p x)
 
       held : Pair Row
       held = pair (settled p x) (settled p (q .row))
 
       go : (u v w : Bool) → Settled (carriedOf (pick u (pick v (pick w (pair first first) (pair (held .row) (held .row))) held) held))
-      go true true true = let e = begun-settled chars (q .line .0 / linesOf (p .irs)) x in (e, e, code-own chars (q .line .0 / linesOf (p .irs)))
+      go true true true = let e = begun-settled chars (q .line .0 / linesOf p) x in (e, e, code-own chars (q .line .0 / linesOf p))
       go true true false = (counted-twice (q .row .latch), counted-twice (q .row .latch), code-twice (q .row .code))
       go true false w = (counted-twice (q .beam .latch), counted-twice (q .row .latch), code-twice (q .row .code))
       go false v w = (counted-twice (q .beam .latch), counted-twice (q .row .latch), code-twice (q .row .code))
@@ -161,6 +161,6 @@ module _ (p : Page) where
   pub at-settled : (chars attrs : List ℕ) (n : ℕ) → settledIn p (placeAt p chars attrs n) ≡ placeAt p chars attrs n
   unfolding placeAt scanAt carriedBefore countsOf
   at-settled chars attrs n =
-      let y = n / htOf (p .irs) in
-      let s = carried-all p chars attrs Settled (row-settled chars attrs) (counted-none, counted-none, code-none) (n % htOf (p .irs)) (y % vtOf (p .irs)) (y / vtOf (p .irs)) in
+      let y = n / htOf p in
+      let s = carried-all p chars attrs Settled (row-settled chars attrs) (counted-none, counted-none, code-none) (n % htOf p) (y % vtOf p) (y / vtOf p) in
       rw (s .0, s .1, s .2)

@@ -10,17 +10,17 @@ use Rattle.place.specs.declared.Spot.{Spot}
 
 -- the end of the last row
 abbrev pub lastSpot : Page → Spot
-lastSpot p = record { row = rowsOf (p .irs) - 1; clocks = clocks (htOf (p .irs)) }
+lastSpot p = record { row = rowsOf p - 1; clocks = clocks (htOf p) }
 
 -- c clocks into a line: the row, and how many clocks of it are over; off the visible lines the end of the last row
 unfoldable pub spotIn : Page → (c line : ℕ) → Spot
 spotIn p c line =
-    pick (ltb line (visibleOf (p .irs) .0)) (record { row = line / linesOf (p .irs); clocks = clocks c }) (lastSpot p)
+    pick (ltb line (visibleOf p .0)) (record { row = line / linesOf p; clocks = clocks c }) (lastSpot p)
 
 -- before clock c of a line
 unfoldable pub spotBefore : Page → (c line : ℕ) → Spot
 spotBefore p c line =
-    pick (ltb 0 c) (spotIn p c line) (pick (ltb 0 line) (spotIn p (htOf (p .irs)) (line - 1)) (lastSpot p))
+    pick (ltb 0 c) (spotIn p c line) (pick (ltb 0 line) (spotIn p (htOf p) (line - 1)) (lastSpot p))
 
 -- clock 0 of the first frame
 abbrev pub originAt : (c line frame : ℕ) → Bool

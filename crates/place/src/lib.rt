@@ -37,8 +37,7 @@ fn set_by(p: board::Page, byte: u8) -> u8
 fn counted_code(p: board::Page, code: u8) -> u8
     ensures { λ r. ⌜ r ≡ countedCode p code ⌝ }
 {
-    let irs = p.irs;
-    if timing::coded_of(irs) { code % 4 } else { 0 }
+    if timing::coded_of(p) { code % 4 } else { 0 }
 }
 
 // What is carried, with latch byte and code as they count.
@@ -57,8 +56,7 @@ fn begun_at(p: board::Page, chars: &[u8], row: u32, held: raster::Cell) -> raste
     requires { ⌜ (length (now chars) ≡ 16384) × (row < 8192) ⌝ }
     ensures { λ r. ⌜ r ≡ cell (begins (feedIn p (now (chars .entry))) row (held .address)) ⌝ }
 {
-    let irs = p.irs;
-    if timing::table_of(irs) {
+    if timing::table_of(p) {
         return fetch::entry(p, chars, row);
     }
     if row == 0 {
@@ -94,8 +92,7 @@ fn begun(p: board::Page, chars: &[u8], row: u32, x: raster::Row) -> raster::Row
 fn loads_at(p: board::Page, q: board::Place) -> bool
     ensures { λ r. ⌜ r ≡ loadsAt p q ⌝ }
 {
-    let irs = p.irs;
-    q.line.below(timing::visible_of(irs)) & q.clock.same(units::Clocks(0))
+    q.line.below(timing::visible_of(p)) & q.clock.same(units::Clocks(0))
 }
 
 // What a clock works on: on column 0 of a visible line it is loaded, elsewhere it is held.
@@ -103,7 +100,6 @@ pub fn loaded_at(p: board::Page, chars: &[u8], q: board::Place) -> Carried
     requires { ⌜ length (now chars) ≡ 16384 ⌝ }
     ensures { λ r. ⌜ r ≡ loadedIn p (now (chars .entry)) q ⌝ }
 {
-    let irs = p.irs;
     let kept = q.row;
     let beam = raster::Row {
         address: q.beam.address,
@@ -114,8 +110,8 @@ pub fn loaded_at(p: board::Page, chars: &[u8], q: board::Place) -> Carried
     let row = settled(p, kept);
     let line = q.line;
     if loads_at(p, q) {
-        if timing::line_of_row(irs, line).same(units::Lines(0)) {
-            let first = begun(p, chars, timing::row_of(irs, line), held);
+        if timing::line_of_row(p, line).same(units::Lines(0)) {
+            let first = begun(p, chars, timing::row_of(p, line), held);
             return Carried {
                 beam: first,
                 row: first,
@@ -136,18 +132,16 @@ pub fn loaded_at(p: board::Page, chars: &[u8], q: board::Place) -> Carried
 pub fn active_at(p: board::Page, q: board::Place) -> bool
     ensures { λ r. ⌜ r ≡ activeAt p q ⌝ }
 {
-    let irs = p.irs;
-    let t = timing::timing_of(irs);
-    q.line.below(timing::visible_of(irs)) & q.clock.below(t.counts.hact)
+    let t = timing::timing_of(p);
+    q.line.below(timing::visible_of(p)) & q.clock.below(t.counts.hact)
 }
 
 // The cell after this one, where the beam moves on.
 fn next_cell(p: board::Page, moves: bool, at: u16) -> u16
-    ensures { λ r. ⌜ r ≡ pick moves (advance (bufferOf (p .irs)) at) at ⌝ }
+    ensures { λ r. ⌜ r ≡ pick moves (advance (bufferOf p) at) at ⌝ }
 {
-    let irs = p.irs;
     if moves {
-        let next = raster::advance_one(timing::buffer_of(irs), raster::Cell { address: at });
+        let next = raster::advance_one(timing::buffer_of(p), raster::Cell { address: at });
         return next.address;
     }
     at
@@ -168,8 +162,7 @@ fn ends_at(p: board::Page, k: raster::Code, clock: units::Clocks) -> bool
     requires { ⌜ clock .0 < 384 ⌝ }
     ensures { λ r. ⌜ r ≡ endsAt (countsIn p) k (clock .0) ⌝ }
 {
-    let irs = p.irs;
-    let t = timing::timing_of(irs);
+    let t = timing::timing_of(p);
     let next = clock.plus(units::Clocks(1));
     !raster::is_wide(k) | (clock.is_odd() | next.same(t.counts.hact))
 }
@@ -215,8 +208,7 @@ fn turned(p: board::Page, q: board::Place, c: Carried) -> board::Place
     requires { ⌜ (q .line .0 < 8192) × (q .clock .0 < 384) ⌝ }
     ensures { λ r. ⌜ r ≡ turnedIn p q c ⌝ }
 {
-    let irs = p.irs;
-    let t = timing::timing_of(irs);
+    let t = timing::timing_of(p);
     let beam = raster::Beam {
         address: c.beam.address,
         latch: c.beam.latch,
@@ -293,8 +285,7 @@ pub struct Spot {
 fn last_spot(p: board::Page) -> Spot
     ensures { λ r. ⌜ r ≡ lastSpot p ⌝ }
 {
-    let irs = p.irs;
-    let t = timing::timing_of(irs);
+    let t = timing::timing_of(p);
     let ht = t.counts.ht;
     Spot {
         row: t.counts.rows - 1,
@@ -306,10 +297,9 @@ fn last_spot(p: board::Page) -> Spot
 fn spot_in(p: board::Page, c: units::Clocks, line: units::Lines) -> Spot
     ensures { λ r. ⌜ r ≡ spotIn p (c .0) (line .0) ⌝ }
 {
-    let irs = p.irs;
-    if line.below(timing::visible_of(irs)) {
+    if line.below(timing::visible_of(p)) {
         return Spot {
-            row: timing::row_of(irs, line),
+            row: timing::row_of(p, line),
             clocks: c,
         };
     }
@@ -323,8 +313,7 @@ fn spot_before(p: board::Page, c: units::Clocks, line: units::Lines) -> Spot
     if units::Clocks(0).below(c) {
         return spot_in(p, c, line);
     }
-    let irs = p.irs;
-    let t = timing::timing_of(irs);
+    let t = timing::timing_of(p);
     if units::Lines(0).below(line) {
         return spot_in(p, t.counts.ht, line.minus(units::Lines(1)));
     }
@@ -371,8 +360,7 @@ fn place_at(p: board::Page, chars: &[u8], attrs: &[u8], n: units::Clocks) -> boa
     requires { ⌜ (length (now chars) ≡ 16384) × (length (now attrs) ≡ 16384) ⌝ }
     ensures { λ r. ⌜ r ≡ placeAt p (now (chars .entry)) (now (attrs .entry)) (n .0) ⌝ }
 {
-    let irs = p.irs;
-    let t = timing::timing_of(irs);
+    let t = timing::timing_of(p);
     let clock = n.remainder(t.counts.ht);
     let lines = units::whole_lines(n, t.counts.ht);
     let line = lines.remainder(t.counts.vt);

@@ -99,7 +99,7 @@ refused-own b chars rs row e = rw e
 
 fetch-lt : (p : Page) (chars : List ℕ) (row i : ℕ) → fetchAt p chars row i < 16384
 unfolding fetchAt
-fetch-lt p chars row i = advanceBy-lt (bufferOf (p .irs)) i (rowStart p chars row)
+fetch-lt p chars row i = advanceBy-lt (bufferOf p) i (rowStart p chars row)
 
 whole-good : (l n : ℕ) → None (at (phraseBy l n 0 16384 ∷ []) badRecord) 1
 unfolding badRecord

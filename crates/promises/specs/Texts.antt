@@ -91,7 +91,7 @@ module _ (numbers chars : List ℕ) (row : ℕ) {a : CellsAnswer} {cells : List 
 
   fetch-lt : (i : ℕ) → fetchAt (b .page) chars row i < 16384
   unfolding fetchAt
-  fetch-lt i = advanceBy-lt (bufferOf (b .page .irs)) i (rowStart (b .page) chars row)
+  fetch-lt i = advanceBy-lt (bufferOf (b .page)) i (rowStart (b .page) chars row)
 
   pub readable : length cells ≡ 256 → (room : ℕ) → a .count ≤ room → Readable chars cells (a .count) room
   readable m room fits = record {

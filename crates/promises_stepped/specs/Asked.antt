@@ -43,10 +43,10 @@ aloneOf n = record { refusal = n; beside = 0 }
 page-not-three : (p : Page) → numberOf (pageCheck p) ≡ 3 → ⊥
 unfolding pageCheck
 page-not-three p =
-    go (addressRefused p) (reservedRefused (p .irs)) (backPorchRefused (p .irs)) (lineShort (p .irs)) (frontPorchRefused (p .irs)) (widthRefused (p .video .dots))
+    go (addressRefused p) (reservedRefused p) (backPorchRefused p) (lineShort p) (frontPorchRefused p) (widthRefused (p .video .dots))
   where
     n : Clocks
-    n = missing (p .irs)
+    n = missing p
 
     go : (a r b l f w : Bool)
         → numberOf (firstOf ((a, Address) ∷ (r, Reserved) ∷ (b, BackPorch) ∷ (l, LineShort n) ∷ (f, FrontPorch n) ∷ (w, Width) ∷ []) Done) ≡ 3 → ⊥
@@ -160,7 +160,7 @@ module _ (numbers chars attrs words flags unshifted shifted : List ℕ) (line ro
         unfolding numbersCheck
         page-done = done-is _ (eq-eqb _ _ (rw (numbers-fine no-three) at (sym made-is ∙ done)))
 
-        lines-are : z .lines ≡ visibleOf (pageAt numbers 1 .irs) .0
+        lines-are : z .lines ≡ visibleOf (pageAt numbers 1) .0
         unfolding sizeFor sizeOf
         lines-are = ap (λ (x : SizeAnswer). x .lines) size ∙ rw (numbers-fine no-three, page-done)
 
@@ -174,15 +174,15 @@ module _ (numbers chars attrs words flags unshifted shifted : List ℕ) (line ro
         -- then 7 for a line that is not visible, 8 for a buffer that is too short
         pub hidden : z .lines ≤ line → aloneOf 7 ≡ answer
         unfolding lineDrawCheck drawCheck callCheck
-        hidden h = rw (numbers-fine no-three, lent-fine, page-done, le-leb (visibleOf (pageAt numbers 1 .irs) .0) line (rw lines-are at h), or-true (stateRefused (numbersBoard numbers)))
+        hidden h = rw (numbers-fine no-three, lent-fine, page-done, le-leb (visibleOf (pageAt numbers 1) .0) line (rw lines-are at h), or-true (stateRefused (numbersBoard numbers)))
 
         pub no-room : line < z .lines → room < z .dots → aloneOf 8 ≡ answer
         unfolding lineDrawCheck drawCheck callCheck
-        no-room h k = rw (numbers-fine no-three, lent-fine, page-done, lt-leb (visibleOf (pageAt numbers 1 .irs) .0) line (rw lines-are at h), at-zero, lt-ltb room (lineLength (numbersBoard numbers)) (rw dots-are at k))
+        no-room h k = rw (numbers-fine no-three, lent-fine, page-done, lt-leb (visibleOf (pageAt numbers 1) .0) line (rw lines-are at h), at-zero, lt-ltb room (lineLength (numbersBoard numbers)) (rw dots-are at k))
 
         pub nothing : line < z .lines → z .dots ≤ room → aloneOf 0 ≡ answer
         unfolding lineDrawCheck drawCheck callCheck
-        nothing h k = rw (numbers-fine no-three, lent-fine, page-done, lt-leb (visibleOf (pageAt numbers 1 .irs) .0) line (rw lines-are at h), at-zero, le-ltb room (lineLength (numbersBoard numbers)) (rw dots-are at k))
+        nothing h k = rw (numbers-fine no-three, lent-fine, page-done, lt-leb (visibleOf (pageAt numbers 1) .0) line (rw lines-are at h), at-zero, le-ltb room (lineLength (numbersBoard numbers)) (rw dots-are at k))
 
 -- ---- a line that nothing refuses can be stepped, and what stepping leaves is the line drawn; on a refusal the buffer stays
 
@@ -218,8 +218,8 @@ module _ (numbers chars attrs : List ℕ) (f : Font) (line : ℕ) (out : List �
         let b = numbersBoard numbers in
         let s = passed (lentRefused chars attrs f) Size _ refl (accepted .1) in
         let p = not-refused (pageCheck (b .page)) _ (s .1) in
-        let v = passed (stateRefused b || leb (visibleOf (b .page .irs) .0) line) Range _ refl (p .1) in
-        let n = neither (stateRefused b) (leb (visibleOf (b .page .irs) .0) line) (v .0) in
+        let v = passed (stateRefused b || leb (visibleOf (b .page) .0) line) Range _ refl (p .1) in
+        let n = neither (stateRefused b) (leb (visibleOf (b .page) .0) line) (v .0) in
         let o = passed (ltb (length out) (lineLength b)) Room _ refl (v .1) in
         record {
           page-ok = p .0;

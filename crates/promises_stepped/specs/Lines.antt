@@ -10,6 +10,7 @@ use Rattle.refusal.specs.declared.Refusal.the-variants.{Done}
 use Rattle.units.specs.declared.Clocks.{Clocks}
 use Rattle.units.specs.declared.Lines.{Lines}
 use Rattle.units.specs.Units.{clocks, lines, clocksOf}
+use Rattle.board.specs.declared.Page.{Page}
 use Rattle.board.specs.declared.Board.{Board}
 use Rattle.timing.specs.declared.Timing.{Timing}
 use Rattle.timing.specs.Fields.{htOf, vtOf, hactOf, visibleOf, timingOf}
@@ -30,31 +31,31 @@ use Rattle.agreement.specs.Lines.{lineCount, clockOf, dots-are}
 -- a line that stepping can draw
 pub record Steppable (b : Board) (chars attrs : List ℕ) (f : Font) (line room : ℕ) : Type 0 where
   pub accepted : stepCheck b chars attrs f ≡ Done
-  pub visible : line < visibleOf (b .page .irs) .0
+  pub visible : line < visibleOf (b .page) .0
   pub roomy : lineLength b ≤ room
 
 -- ---- a line's first clock
 
-module _ (irs : List ℕ) {t : Timing} (e : t ≡ timingOf irs) where
+module _ (page : Page) {t : Timing} (e : t ≡ timingOf page) where
   -- 256 frames of at most 2,153 lines of at most 384 clocks
-  module _ (field line : ℕ) (f : field < 256) (v : line < visibleOf irs .0) where
+  module _ (field line : ℕ) (f : field < 256) (v : line < visibleOf page .0) where
     pub frames-fit : field * t .counts .vt .0 ≤ 549015
-    frames-fit = rw (vt-is _ _ e) (let h : field ≤ 255 = omega arith in mul-le-mul h (vt-bound irs))
+    frames-fit = rw (vt-is _ _ e) (let h : field ≤ 255 = omega arith in mul-le-mul h (vt-bound page))
 
     lines-fit : field * t .counts .vt .0 + line ≤ 551168
-    lines-fit = omega (arith, frames-fit, visible-bound irs)
+    lines-fit = omega (arith, frames-fit, visible-bound page)
 
     pub frames-line : {n : Lines} → n ≡ lines (field * t .counts .vt .0) → n .0 + line ≤ 551168
     frames-line p = rw p lines-fit
 
     pub clocks-fit : {n m : Lines} → n ≡ lines (field * t .counts .vt .0) → m ≡ lines (n .0 + line) → m .0 * t .counts .ht .0 ≤ 211648512
-    clocks-fit p q = rw (q, p, ht-is _ _ e) (mul-le-mul lines-fit (ht-bound irs))
+    clocks-fit p q = rw (q, p, ht-is _ _ e) (mul-le-mul lines-fit (ht-bound page))
 
-pub clock-is : (b : Board) {t : Timing} → t ≡ timingOf (b .page .irs) → (field line : ℕ) {n m : Lines} → n ≡ lines (field * t .counts .vt .0) → m ≡ lines (n .0 + line)
+pub clock-is : (b : Board) {t : Timing} → t ≡ timingOf (b .page) → (field line : ℕ) {n m : Lines} → n ≡ lines (field * t .counts .vt .0) → m ≡ lines (n .0 + line)
     → {k : Clocks} → k ≡ clocksOf m (t .counts .ht) → k ≡ clocks (clockOf b field line 0)
 unfolding clockOf lineCount
 clock-is b e field line p q r =
-    r ∙ rw (q, p, vt-is _ _ e, ht-is _ _ e) (ap clocks (sym (add-zero ((field * vtOf (b .page .irs) + line) * htOf (b .page .irs)))))
+    r ∙ rw (q, p, vt-is _ _ e, ht-is _ _ e) (ap clocks (sym (add-zero ((field * vtOf (b .page) + line) * htOf (b .page)))))
 
 -- ---- the loop: the board stands at column c of the line, and steps
 
@@ -64,7 +65,7 @@ module _ {b : Board} {chars attrs words flags unshifted shifted : List ℕ} {lin
   width = fits b chars attrs (fontOf words flags unshifted shifted) (s .accepted) .page .most
 
   -- n turns have room
-  pub turns-fit : {n : ℕ} → n ≡ hactOf (b .page .irs) → n * b .page .video .dots .0 ≤ room
+  pub turns-fit : {n : ℕ} → n ≡ hactOf (b .page) → n * b .page .video .dots .0 ≤ room
   turns-fit e = rw e (s .roomy)
 
   module _ (field : ℕ) (small : field < 256) where
@@ -90,7 +91,7 @@ module _ {b : Board} {chars attrs words flags unshifted shifted : List ℕ} {lin
       unfolding after
       goes-on = rw (step, here, next-clock c)
 
-      module _ (h : c < hactOf (b .page .irs)) where
+      module _ (h : c < hactOf (b .page)) where
         shows : take (b .page .video .dots .0) (x .answer .dots) ≡ columnOf c
         unfolding numbered
         shows =

@@ -82,27 +82,27 @@ module _ (numbers chars attrs words flags unshifted shifted : List ℕ) (field :
 
   pub dots-long : length (pictureDots b chars attrs f field) ≡ pictureLength (b .page)
   unfolding pictureDots
-  dots-long = length-joined (λ (l : ℕ). lineDots b chars attrs f l field) (lineLength b) (λ l. length-line b chars attrs f l field page) 0 (visibleOf (b .page .irs) .0)
+  dots-long = length-joined (λ (l : ℕ). lineDots b chars attrs f l field) (lineLength b) (λ l. length-line b chars attrs f l field page) 0 (visibleOf (b .page) .0)
 
   pub same-length : (xs : List ℕ) → xs ≡ pictureDots b chars attrs f field ++ drop (pictureLength (b .page)) out₀ → length xs ≡ length out₀
   same-length xs e = ap length e ∙ rw (length-append, dots-long, length-drop) (omega (arith, roomy))
 
   -- where a line stands in the buffer
   module _ (size : SizeAnswer) (sized : size ≡ sizeFor numbers) (line : ℕ) (h : line < size .lines) where
-    size-is : size ≡ sizeAnswer Done (visibleOf (b .page .irs) .0) (lineLength b)
+    size-is : size ≡ sizeAnswer Done (visibleOf (b .page) .0) (lineLength b)
     unfolding sizeFor sizeOf
     size-is = sized ∙ rw (taken .0, page-ok)
 
-    visible : line < visibleOf (b .page .irs) .0
+    visible : line < visibleOf (b .page) .0
     visible = rw size-is at h
 
     pub place-small : line * size .dots < 6291456
     place-small =
-        let l : line ≤ 2047 = omega (arith, visible, visible-bound (b .page .irs)) in
+        let l : line ≤ 2047 = omega (arith, visible, visible-bound (b .page)) in
         rw size-is (omega (arith, mul-le-mul l (dots-bound (b .page) page)))
 
     pub place-in : line * size .dots + lineLength b ≤ length out₀
-    place-in = rw size-is (stretch-inside line (visibleOf (b .page .irs) .0) (lineLength b) (length out₀) visible roomy)
+    place-in = rw size-is (stretch-inside line (visibleOf (b .page) .0) (lineLength b) (length out₀) visible roomy)
 
     inside : line * lineLength b + lineLength b ≤ length out₀
     inside = rw size-is at place-in
@@ -115,7 +115,7 @@ module _ (numbers chars attrs words flags unshifted shifted : List ℕ) (field :
         lent xs ys (lineDots b chars attrs f line field) (line * lineLength b) (lineLength b) (omega (arith, inside, n)) q
         ∙ again xs (lineDots b chars attrs f line field) (line * lineLength b) (lineLength b)
         (rw e
-        (stretch (λ (l : ℕ). lineDots b chars attrs f l field) (lineLength b) (λ l. length-line b chars attrs f l field page) _ (visibleOf (b .page .irs) .0) 0 line visible
+        (stretch (λ (l : ℕ). lineDots b chars attrs f l field) (lineLength b) (λ l. length-line b chars attrs f l field page) _ (visibleOf (b .page) .0) 0 line visible
         ∙ ap (λ (l : ℕ). lineDots b chars attrs f l field) (zero-add line)))
 
     written : (part : List ℕ) → lineLength b ≤ length part → lineDrawn numbers chars attrs f line field part ≡ lineDots b chars attrs f line field ++ drop (lineLength b) part

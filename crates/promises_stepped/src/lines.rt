@@ -16,11 +16,11 @@ ghost use Rattle.promises_stepped.specs.Lines.{Steppable};
 
 // The board's clock at the first dot of a line, in the frame whose number is the field's.
 fn clock_of(b: board::Board, line: units::Lines, field: u8) -> units::Clocks
-    requires { ⌜ line .0 < visibleOf (b .page .irs) .0 ⌝ }
+    requires { ⌜ line .0 < visibleOf (b .page) .0 ⌝ }
     ensures { λ r. ⌜ r ≡ clocks (clockOf b field (line .0) 0) ⌝ }
 {
-    let irs = b.page.irs;
-    let t = timing::timing_of(irs);
+    let page = b.page;
+    let t = timing::timing_of(page);
     let frame = t.counts.vt;
     let before = frame.times(field as u32);
     units::clocks_of(before.plus(line), t.counts.ht)
@@ -42,8 +42,8 @@ fn step_line(
     requires { ⌜ Steppable b (now chars) (now attrs) (fontNow words flags unshifted shifted) line (length (now out)) ⌝ }
     ensures { λ _. ⌜ now (out .exit) ≡ lineOver b (now (chars .entry)) (now (attrs .entry)) (lentFont words flags unshifted shifted) line field (now (out .entry)) ⌝ }
 {
-    let irs = b.page.irs;
-    let t = timing::timing_of(irs);
+    let page = b.page;
+    let t = timing::timing_of(page);
     let n = t.counts.hact.0 as usize;
     let first = clock_of(b, units::Lines(line), field);
     let asked = feldrime::feldrime_state_at(b, chars, attrs, first.0);

@@ -122,7 +122,7 @@ module _ (b : Buffer) (a i : ℕ) {x : ℕ} (xe : x ≡ advanceBy b i a) where
   high-more he e = e ∙ rw (he, xe, add-one i)
 
 module _ (b : Board) (chars : List ℕ) (row : ℕ) where
-  pub asked-row : doneOf (runCheck b (length chars) row) ≡ true → {u : Buffer} {x : Cell} {n : ℕ} {e : Ends} → u ≡ bufferOf (b .page .irs) → x ≡ cell (rowStart (b .page) chars row) → n ≡ fetchedOf (b .page) chars row
+  pub asked-row : doneOf (runCheck b (length chars) row) ≡ true → {u : Buffer} {x : Cell} {n : ℕ} {e : Ends} → u ≡ bufferOf (b .page) → x ≡ cell (rowStart (b .page) chars row) → n ≡ fetchedOf (b .page) chars row
       → e ≡ endsBy u (x .address) n → asked 0 0 (e .low) (e .high) ≡ askedOf b chars row
   unfolding askedOf endsBy fetchAt
   asked-row t ue xe ne e = rw (t, e, ue, xe, ne)

@@ -90,13 +90,12 @@ pub fn row_asked(b: board::Board, chars: &[u8], row: u32) -> Asked
     ensures { λ r. ⌜ r ≡ askedOf b (now (chars .entry)) row ⌝ }
 {
     let page = b.page;
-    let irs = page.irs;
     let span = fetch::span_of(b, chars, row);
     let refused = span.refusal;
     if refusal::is_done(refused) {
         let n = fetch::fetched_of(page, chars, row);
         let start = fetch::row_start(page, chars, row);
-        let e = row_ends(timing::buffer_of(irs), start, n);
+        let e = row_ends(timing::buffer_of(page), start, n);
         return Asked {
             refusal: 0,
             beside: 0,

@@ -157,7 +157,7 @@ range-left b size n s d = rw (s, d) (go (stateRefused b) (rw (s, d) at n))
 -- ---- the step
 
 pub in-frame : (b : Board) → InRange b → (b .place .line .0 < 8192) × (b .place .clock .0 < 384)
-in-frame b i = (omega (arith, i .line-lt, vt-bound (b .page .irs)), omega (arith, i .clock-lt, ht-bound (b .page .irs)))
+in-frame b i = (omega (arith, i .line-lt, vt-bound (b .page)), omega (arith, i .clock-lt, ht-bound (b .page)))
 
 module _ (b : Board) (chars attrs : List ℕ) (f : Font) where
   pub fit : callCheck b (lentRefused chars attrs f) false false ≡ Done → Fit b chars attrs f

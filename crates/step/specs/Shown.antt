@@ -26,7 +26,7 @@ signalsWith b cursor = record {
   vsync = vsyncIn b;
   blank = not (activeAt (b .page) (b .place)) || not (displayed b);
   cursor = cursor;
-  blink = blinkAt (blinkOf (b .page .irs)) (b .place .field);
+  blink = blinkAt (blinkOf (b .page)) (b .place .field);
 }
 
 -- the cell at an address

@@ -8,7 +8,7 @@ use Rattle.lists.specs.Choice.{pick}
 use Rattle.units.specs.Units.{during}
 use Rattle.raster.specs.Wide.{codeOf, isWide, againAt}
 use Rattle.board.specs.declared.Board.{Board}
-use Rattle.timing.specs.Fields.{ir, hactOf, hfpOf, hsyncOf, vfpOf, vsyncOf, visibleOf, blinkOf}
+use Rattle.timing.specs.Fields.{hactOf, hfpOf, hsyncOf, vfpOf, vsyncOf, visibleOf, blinkOf}
 use Rattle.shape.specs.Font.{Font}
 use Rattle.video.specs.Scene.{displayed, blinkAt, sceneOf, cursorAt}
 use Rattle.video.specs.Cell.{columnOf}
@@ -18,14 +18,14 @@ use Rattle.step.specs.declared.Signals.{Signals}
 
 -- the scan line of the place, in a row with this code
 abbrev pub scanIn : Board → (row : ℕ) → ℕ
-scanIn b k = scanAt (b .page .irs) (codeOf k) (b .place .line .0)
+scanIn b k = scanAt (b .page) (codeOf k) (b .place .line .0)
 
 -- a line runs active, front porch, sync, back porch; a frame likewise in lines
 abbrev pub hsyncIn : Board → Bool
-hsyncIn b = during (hactOf (b .page .irs) + hfpOf (b .page .irs)) (hsyncOf (b .page .irs)) (b .place .clock .0)
+hsyncIn b = during (hactOf (b .page) + hfpOf (b .page)) (hsyncOf (b .page)) (b .place .clock .0)
 
 abbrev pub vsyncIn : Board → Bool
-vsyncIn b = during (visibleOf (b .page .irs) .0 + vfpOf (b .page .irs)) (vsyncOf (ir (b .page .irs) 7 / 64 % 4)) (b .place .line .0)
+vsyncIn b = during (visibleOf (b .page) .0 + vfpOf (b .page)) (vsyncOf (b .page)) (b .place .line .0)
 
 unfoldable pub signalsOf : Board → (row address : ℕ) → Signals
 signalsOf b k address = record {
@@ -33,7 +33,7 @@ signalsOf b k address = record {
   vsync = vsyncIn b;
   blank = not (activeAt (b .page) (b .place)) || not (displayed b);
   cursor = activeAt (b .page) (b .place) && cursorAt (sceneOf b (scanIn b k) (b .place .field)) address;
-  blink = blinkAt (blinkOf (b .page .irs)) (b .place .field);
+  blink = blinkAt (blinkOf (b .page)) (b .place .field);
 }
 
 -- of twelve dot places those past the cell's d dots are 0

@@ -51,24 +51,24 @@ struct Shown {
 fn scan_in(b: board::Board, row: u8) -> units::Lines
     ensures { λ r. ⌜ r ≡ lines (scanIn b row) ⌝ }
 {
-    let irs = b.page.irs;
-    video::scan_at(irs, raster::code_of(row), b.place.line)
+    let page = b.page;
+    video::scan_at(page, raster::code_of(row), b.place.line)
 }
 
 fn hsync_in(b: board::Board) -> bool
     ensures { λ r. ⌜ r ≡ hsyncIn b ⌝ }
 {
-    let irs = b.page.irs;
-    let t = timing::timing_of(irs);
+    let page = b.page;
+    let t = timing::timing_of(page);
     b.place.clock.during(t.counts.hact.plus(t.hfp), t.hsync)
 }
 
 fn vsync_in(b: board::Board) -> bool
     ensures { λ r. ⌜ r ≡ vsyncIn b ⌝ }
 {
-    let irs = b.page.irs;
-    let t = timing::timing_of(irs);
-    let first = timing::visible_of(irs).plus(t.vfp);
+    let page = b.page;
+    let t = timing::timing_of(page);
+    let first = timing::visible_of(page).plus(t.vfp);
     b.place.line.during(first, t.vsync)
 }
 

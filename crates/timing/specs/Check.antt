@@ -1,7 +1,7 @@
 -- The page check of 01, and the size of an accepted page's picture.
 use Prim.Native.Nat.{ℕ, _+_, _-_, _/_, _%_}
 use mathlib.Core.Bool.{Bool, _&&_, _||_, not}
-use mathlib.Core.List.{List, [], _∷_}
+use mathlib.Core.List.{[], _∷_}
 use lib.Dec.{eqb, ltb, leb}
 use Rattle.lists.specs.Choice.{pick, firstOf}
 use Rattle.units.specs.declared.Clocks.{Clocks}
@@ -18,24 +18,24 @@ use Rattle.timing.specs.declared.PageSize.{PageSize}
 use Rattle.timing.specs.Fields.{ir, codedOf, tableOf, restOf, hfpOf, hactOf, htOf, vtOf, visibleOf}
 
 -- 4: interlace (IR1[7]), or IR0[7] without the row table
-abbrev pub reservedRefused : List ℕ → Bool
-reservedRefused irs = eqb (ir irs 1 / 128 % 2) 1 || (codedOf irs && not (tableOf irs))
+abbrev pub reservedRefused : Page → Bool
+reservedRefused p = eqb (ir p 1 / 128 % 2) 1 || (codedOf p && not (tableOf p))
 
 -- 13: HBP code 0
-abbrev pub backPorchRefused : List ℕ → Bool
-backPorchRefused irs = eqb (ir irs 2 % 8) 0
+abbrev pub backPorchRefused : Page → Bool
+backPorchRefused p = eqb (ir p 2 % 8) 0
 
 -- 14: the line is too short for its active, sync and back porch clocks
-abbrev pub lineShort : List ℕ → Bool
-lineShort irs = ltb (htOf irs) (restOf irs)
+abbrev pub lineShort : Page → Bool
+lineShort p = ltb (htOf p) (restOf p)
 
 -- 15: HFP 0 or 1
-abbrev pub frontPorchRefused : List ℕ → Bool
-frontPorchRefused irs = ltb (hfpOf irs) 2
+abbrev pub frontPorchRefused : Page → Bool
+frontPorchRefused p = ltb (hfpOf p) 2
 
 -- by how many clocks the front porch misses 2: HACT + HSYNC + HBP + 2 - HT
-abbrev pub missing : List ℕ → Clocks
-missing irs = clocks (restOf irs + 2 - htOf irs)
+abbrev pub missing : Page → Clocks
+missing p = clocks (restOf p + 2 - htOf p)
 
 -- 6: dots not 6 to 12
 abbrev pub widthRefused : Dots → Bool
@@ -46,10 +46,10 @@ unfoldable pub pageCheck : Page → Refusal
 pageCheck p =
     firstOf
     ((addressRefused p, Address)
-    ∷ (reservedRefused (p .irs), Reserved)
-    ∷ (backPorchRefused (p .irs), BackPorch)
-    ∷ (lineShort (p .irs), LineShort (missing (p .irs)))
-    ∷ (frontPorchRefused (p .irs), FrontPorch (missing (p .irs)))
+    ∷ (reservedRefused p, Reserved)
+    ∷ (backPorchRefused p, BackPorch)
+    ∷ (lineShort p, LineShort (missing p))
+    ∷ (frontPorchRefused p, FrontPorch (missing p))
     ∷ (widthRefused (p .video .dots), Width)
     ∷ [])
     Done
@@ -61,14 +61,14 @@ sized r l d = record { refusal = r; lines = l; dots = d }
 unfoldable pub sizeOf : Page → PageSize
 sizeOf p =
     pick (doneOf (pageCheck p))
-    (sized (pageCheck p) (visibleOf (p .irs)) (dotsOf (clocks (hactOf (p .irs))) (p .video .dots)))
+    (sized (pageCheck p) (visibleOf p) (dotsOf (clocks (hactOf p)) (p .video .dots)))
     (sized (pageCheck p) (lines 0) (dots 0))
 
 -- 7: a state's line, clock in the line, address, row start or IR pointer out of range
 unfoldable pub stateRefused : Board → Bool
 stateRefused b =
-    leb (vtOf (b .page .irs)) (b .place .line .0)
-    || leb (htOf (b .page .irs)) (b .place .clock .0)
+    leb (vtOf (b .page)) (b .place .line .0)
+    || leb (htOf (b .page)) (b .place .clock .0)
     || cellsRefused (b .place)
     || pointerRefused (b .pointer)
 

@@ -1,7 +1,6 @@
--- 01, "Register fields" and "Clock and frame", over the list of the fifteen initialization registers (003 Table 2).
+-- 01, "Register fields" and "Clock and frame": a page's initialization registers decoded (003 Table 2).
 use Prim.Native.Nat.{ℕ, _+_, _-_, _*_, _/_, _%_}
 use mathlib.Core.Bool.{Bool}
-use mathlib.Core.List.{List}
 use lib.ListN.{getD}
 use lib.Dec.{eqb}
 use Rattle.lists.specs.Choice.{pick}
@@ -9,111 +8,115 @@ use Rattle.units.specs.declared.Lines.{Lines}
 use Rattle.units.specs.Units.{clocks, lines}
 use Rattle.raster.specs.declared.Counts.{Counts}
 use Rattle.raster.specs.declared.Buffer.{Buffer}
+use Rattle.board.specs.declared.Page.{Page}
 use Rattle.timing.specs.declared.Timing.{Timing}
 use Rattle.timing.specs.declared.CursorLook.{CursorLook}
 
 -- IRn
-abbrev pub ir : List ℕ → ℕ → ℕ
-ir irs n = getD irs n 0
+abbrev pub ir : Page → ℕ → ℕ
+ir p n = getD (p .irs) n 0
 
 -- IR0[7]: the row table's entries have codes (02, R-4)
-abbrev pub codedOf : List ℕ → Bool
-codedOf irs = eqb (ir irs 0 / 128 % 2) 1
+abbrev pub codedOf : Page → Bool
+codedOf p = eqb (ir p 0 / 128 % 2) 1
 
 -- IR0[6:3]: scan lines per row
-abbrev pub linesOf : List ℕ → ℕ
-linesOf irs = ir irs 0 / 8 % 16 + 1
+abbrev pub linesOf : Page → ℕ
+linesOf p = ir p 0 / 8 % 16 + 1
 
 -- IR1[6:0]
-abbrev pub ecOf : List ℕ → ℕ
-ecOf irs = ir irs 1 % 128 + 1
+abbrev pub ecOf : Page → ℕ
+ecOf p = ir p 1 % 128 + 1
 
 -- IR2[7]: row table on
-abbrev pub tableOf : List ℕ → Bool
-tableOf irs = eqb (ir irs 2 / 128 % 2) 1
+abbrev pub tableOf : Page → Bool
+tableOf p = eqb (ir p 2 / 128 % 2) 1
 
 -- IR2[6:3]
-abbrev pub hsyncOf : List ℕ → ℕ
-hsyncOf irs = 2 * (ir irs 2 / 8 % 16) + 2
+abbrev pub hsyncOf : Page → ℕ
+hsyncOf p = 2 * (ir p 2 / 8 % 16) + 2
 
 -- IR2[2:0]: 4n-1; code 0 is refused, and gives 0 here
-abbrev pub hbpOf : List ℕ → ℕ
-hbpOf irs = 4 * (ir irs 2 % 8) - 1
+abbrev pub hbpOf : Page → ℕ
+hbpOf p = 4 * (ir p 2 % 8) - 1
 
 -- IR3[7:5], [4:0]
-abbrev pub vfpOf : List ℕ → ℕ
-vfpOf irs = 4 * (ir irs 3 / 32 % 8) + 4
+abbrev pub vfpOf : Page → ℕ
+vfpOf p = 4 * (ir p 3 / 32 % 8) + 4
 
-abbrev pub vbpOf : List ℕ → ℕ
-vbpOf irs = 2 * (ir irs 3 % 32) + 4
+abbrev pub vbpOf : Page → ℕ
+vbpOf p = 2 * (ir p 3 % 32) + 4
 
 -- IR4[7]: blink over 64 or 128 fields; [6:0]: rows
-abbrev pub blinkOf : List ℕ → ℕ
-blinkOf irs = 64 * (ir irs 4 / 128 % 2 + 1)
+abbrev pub blinkOf : Page → ℕ
+blinkOf p = 64 * (ir p 4 / 128 % 2 + 1)
 
-abbrev pub rowsOf : List ℕ → ℕ
-rowsOf irs = ir irs 4 % 128 + 1
+abbrev pub rowsOf : Page → ℕ
+rowsOf p = ir p 4 % 128 + 1
 
 -- IR5
-abbrev pub hactOf : List ℕ → ℕ
-hactOf irs = ir irs 5 % 256 + 1
+abbrev pub hactOf : Page → ℕ
+hactOf p = ir p 5 % 256 + 1
 
 -- IR6[7:4], [3:0]; IR7[5]: the cursor blinks, [4]: over 32 or 64 fields
-unfoldable pub cursorOf : List ℕ → CursorLook
-cursorOf irs = record {
-  first = lines (ir irs 6 / 16 % 16);
-  last = lines (ir irs 6 % 16);
-  blinks = eqb (ir irs 7 / 32 % 2) 1;
-  period = 32 * (ir irs 7 / 16 % 2 + 1);
+unfoldable pub cursorOf : Page → CursorLook
+cursorOf p = record {
+  first = lines (ir p 6 / 16 % 16);
+  last = lines (ir p 6 % 16);
+  blinks = eqb (ir p 7 / 32 % 2) 1;
+  period = 32 * (ir p 7 / 16 % 2 + 1);
 }
 
 -- IR7[7:6]: VSYNC by its code n
-abbrev pub vsyncOf : ℕ → ℕ
-vsyncOf n = pick (eqb n 0) 3 (pick (eqb n 1) 1 (pick (eqb n 2) 5 7))
+abbrev pub vsyncBy : ℕ → ℕ
+vsyncBy n = pick (eqb n 0) 3 (pick (eqb n 1) 1 (pick (eqb n 2) 5 7))
+
+abbrev pub vsyncOf : Page → ℕ
+vsyncOf p = vsyncBy (ir p 7 / 64 % 4)
 
 -- IR7[3:0]
-abbrev pub underlineOf : List ℕ → Lines
-underlineOf irs = lines (ir irs 7 % 16)
+abbrev pub underlineOf : Page → Lines
+underlineOf p = lines (ir p 7 % 16)
 
 -- IR8, IR9[3:0]: first buffer address; IR9[7:4]: last, 1024(n+1)-1
-unfoldable pub bufferOf : List ℕ → Buffer
-bufferOf irs = record {
-  first = ir irs 9 % 16 * 256 + ir irs 8 % 256;
-  last = 1024 * (ir irs 9 / 16 % 16 + 1) - 1;
+unfoldable pub bufferOf : Page → Buffer
+bufferOf p = record {
+  first = ir p 9 % 16 * 256 + ir p 8 % 256;
+  last = 1024 * (ir p 9 / 16 % 16 + 1) - 1;
 }
 
 -- clocks per line, from 001's equalizing formula
-abbrev pub htOf : List ℕ → ℕ
-htOf irs = 2 * (ecOf irs + 2 * hsyncOf irs)
+abbrev pub htOf : Page → ℕ
+htOf p = 2 * (ecOf p + 2 * hsyncOf p)
 
 -- what a line has besides its front porch, and the front porch; 0 where the rest does not fit the line, which is refused
-abbrev pub restOf : List ℕ → ℕ
-restOf irs = hactOf irs + hsyncOf irs + hbpOf irs
+abbrev pub restOf : Page → ℕ
+restOf p = hactOf p + hsyncOf p + hbpOf p
 
-abbrev pub hfpOf : List ℕ → ℕ
-hfpOf irs = htOf irs - restOf irs
+abbrev pub hfpOf : Page → ℕ
+hfpOf p = htOf p - restOf p
 
 -- the lines that show a picture, and lines per frame
-abbrev pub visibleOf : List ℕ → Lines
-visibleOf irs = lines (rowsOf irs * linesOf irs)
+abbrev pub visibleOf : Page → Lines
+visibleOf p = lines (rowsOf p * linesOf p)
 
-abbrev pub vtOf : List ℕ → ℕ
-vtOf irs = rowsOf irs * linesOf irs + vfpOf irs + vsyncOf (ir irs 7 / 64 % 4) + vbpOf irs
+abbrev pub vtOf : Page → ℕ
+vtOf p = rowsOf p * linesOf p + vfpOf p + vsyncOf p + vbpOf p
 
-unfoldable pub countsOf : List ℕ → Counts
-countsOf irs = record {
-  ht = clocks (htOf irs);
-  hact = clocks (hactOf irs);
-  vt = lines (vtOf irs);
-  lines = lines (linesOf irs);
-  rows = rowsOf irs;
+unfoldable pub countsOf : Page → Counts
+countsOf p = record {
+  ht = clocks (htOf p);
+  hact = clocks (hactOf p);
+  vt = lines (vtOf p);
+  lines = lines (linesOf p);
+  rows = rowsOf p;
 }
 
-unfoldable pub timingOf : List ℕ → Timing
-timingOf irs = record {
-  hsync = clocks (hsyncOf irs);
-  hfp = clocks (hfpOf irs);
-  vfp = lines (vfpOf irs);
-  vsync = lines (vsyncOf (ir irs 7 / 64 % 4));
-  counts = countsOf irs;
+unfoldable pub timingOf : Page → Timing
+timingOf p = record {
+  hsync = clocks (hsyncOf p);
+  hfp = clocks (hfpOf p);
+  vfp = lines (vfpOf p);
+  vsync = lines (vsyncOf p);
+  counts = countsOf p;
 }

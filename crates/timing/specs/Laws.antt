@@ -19,36 +19,39 @@ use Rattle.raster.specs.Raster.{Good}
 use Rattle.board.specs.declared.Page.{Page}
 use Rattle.board.specs.declared.Board.{Board}
 use Rattle.board.specs.Range.{startsRefused, switchesRefused, addressRefused, cellsRefused, pointerRefused}
-use Rattle.timing.specs.Fields.{ir, codedOf, linesOf, tableOf, rowsOf, hactOf, htOf, hfpOf, vsyncOf, vtOf, bufferOf, countsOf}
+use Rattle.timing.specs.Fields.{ir, codedOf, linesOf, tableOf, rowsOf, hactOf, htOf, hfpOf, vsyncBy, vsyncOf, vtOf, bufferOf, countsOf}
 use Rattle.timing.specs.Check.{reservedRefused, backPorchRefused, lineShort, frontPorchRefused, missing, widthRefused, pageCheck, sized, sizeOf, stateRefused, callCheck}
 
 -- ---- any registers
 
-pub visible-bound : (irs : List ℕ) → rowsOf irs * linesOf irs ≤ 2048
-visible-bound irs =
-    let r : rowsOf irs ≤ 128 = omega arith in
-    let l : linesOf irs ≤ 16 = omega arith in
+pub visible-bound : (p : Page) → rowsOf p * linesOf p ≤ 2048
+visible-bound p =
+    let r : rowsOf p ≤ 128 = omega arith in
+    let l : linesOf p ≤ 16 = omega arith in
     mul-le-mul r l
 
-pub vsync-bound : (n : ℕ) → vsyncOf n ≤ 7
-vsync-bound n =
-    pick-le 7 (eqb n 0) 3 _ (omega arith)
-    (pick-le 7 (eqb n 1) 1 _ (omega arith) (pick-le 7 (eqb n 2) 5 7 (omega arith) (omega arith)))
+pub vsync-bound : (p : Page) → vsyncOf p ≤ 7
+vsync-bound p = go (ir p 7 / 64 % 4)
+  where
+    go : (n : ℕ) → vsyncBy n ≤ 7
+    go n =
+        pick-le 7 (eqb n 0) 3 _ (omega arith)
+        (pick-le 7 (eqb n 1) 1 _ (omega arith) (pick-le 7 (eqb n 2) 5 7 (omega arith) (omega arith)))
 
-pub ht-bound : (irs : List ℕ) → htOf irs ≤ 384
-ht-bound irs = omega arith
+pub ht-bound : (p : Page) → htOf p ≤ 384
+ht-bound p = omega arith
 
-pub vt-bound : (irs : List ℕ) → vtOf irs ≤ 2153
-vt-bound irs = omega (arith, visible-bound irs, vsync-bound (ir irs 7 / 64 % 4))
+pub vt-bound : (p : Page) → vtOf p ≤ 2153
+vt-bound p = omega (arith, visible-bound p, vsync-bound p)
 
 -- a frame has at most 826,752 clocks
-pub frame-bound : (irs : List ℕ) → (clocksOf (countsOf irs .vt) (countsOf irs .ht)) .0 ≤ 826752
+pub frame-bound : (p : Page) → (clocksOf (countsOf p .vt) (countsOf p .ht)) .0 ≤ 826752
 unfolding countsOf
-frame-bound irs = mul-le-mul (vt-bound irs) (ht-bound irs)
+frame-bound p = mul-le-mul (vt-bound p) (ht-bound p)
 
-pub buffer-bounded : (irs : List ℕ) → Bounded (bufferOf irs)
+pub buffer-bounded : (p : Page) → Bounded (bufferOf p)
 unfolding bufferOf
-buffer-bounded irs = record { first-lt = omega arith; last-lt = omega arith }
+buffer-bounded p = record { first-lt = omega arith; last-lt = omega arith }
 
 -- ---- an accepted page
 
@@ -58,10 +61,10 @@ pub record Accepted (p : Page) : Type 0 where
   pub start2 : p .starts .start2 ≤ 16383
   pub switches : p .switches ≤ 63
   pub strike : p .video .strike ≤ 15
-  pub straight : ir (p .irs) 1 / 128 % 2 ≡ 1 → ⊥
-  pub coded : tableOf (p .irs) ≡ false → codedOf (p .irs) ≡ false
-  pub hbp : ir (p .irs) 2 % 8 ≡ 0 → ⊥
-  pub hfp : 2 ≤ hfpOf (p .irs)
+  pub straight : ir p 1 / 128 % 2 ≡ 1 → ⊥
+  pub coded : tableOf p ≡ false → codedOf p ≡ false
+  pub hbp : ir p 2 % 8 ≡ 0 → ⊥
+  pub hfp : 2 ≤ hfpOf p
   pub least : 6 ≤ p .video .dots .0
   pub most : p .video .dots .0 ≤ 12
 
@@ -73,21 +76,20 @@ no-code false false e off = refl
 pub accepted : (p : Page) → pageCheck p ≡ Done → Accepted p
 unfolding pageCheck addressRefused
 accepted p e =
-    let irs = p .irs in
     let s = p .starts in
     let d = p .video .dots .0 in
     let a = passed (addressRefused p) Address _ refl e in
-    let b = passed (reservedRefused irs) Reserved _ refl (a .1) in
-    let c = passed (backPorchRefused irs) BackPorch _ refl (b .1) in
-    let l = passed (lineShort irs) (LineShort (missing irs)) _ refl (c .1) in
-    let f = passed (frontPorchRefused irs) (FrontPorch (missing irs)) _ refl (l .1) in
+    let b = passed (reservedRefused p) Reserved _ refl (a .1) in
+    let c = passed (backPorchRefused p) BackPorch _ refl (b .1) in
+    let l = passed (lineShort p) (LineShort (missing p)) _ refl (c .1) in
+    let f = passed (frontPorchRefused p) (FrontPorch (missing p)) _ refl (l .1) in
     let w = passed (widthRefused (p .video .dots)) Width _ refl (f .1) in
     let known = switchesRefused (p .version) (p .switches) in
     let a4 = neither (startsRefused s || known) (ltb 15 (p .video .strike)) (a .0) in
     let a3 = neither (startsRefused s) known (a4 .0) in
     let a2 = neither (ltb 16383 (s .start1) || ltb 16383 (s .cursor)) (ltb 16383 (s .start2)) (a3 .0) in
     let a1 = neither (ltb 16383 (s .start1)) (ltb 16383 (s .cursor)) (a2 .0) in
-    let b1 = neither (eqb (ir irs 1 / 128 % 2) 1) (codedOf irs && not (tableOf irs)) (b .0) in
+    let b1 = neither (eqb (ir p 1 / 128 % 2) 1) (codedOf p && not (tableOf p)) (b .0) in
     let w1 = neither (ltb d 6) (ltb 12 d) (w .0) in
     record {
       start1 = ltb-false _ _ (a1 .0);
@@ -96,7 +98,7 @@ accepted p e =
       switches = ltb-false _ _ (neither (ltb 63 (p .switches)) _ (a3 .1) .0);
       strike = ltb-false _ _ (a4 .1);
       straight = eqb-false _ _ (b1 .0);
-      coded = λ off. no-code (codedOf irs) (tableOf irs) (b1 .1) off;
+      coded = λ off. no-code (codedOf p) (tableOf p) (b1 .1) off;
       hbp = eqb-false _ _ (c .0);
       hfp = ltb-false _ _ (f .0);
       least = ltb-false _ _ (w1 .0);
@@ -104,32 +106,31 @@ accepted p e =
     }
 
 -- the counts of an accepted page are good for the beam
-pub accepted-good : (p : Page) → Accepted p → Good (countsOf (p .irs))
+pub accepted-good : (p : Page) → Accepted p → Good (countsOf p)
 unfolding countsOf
 accepted-good p a =
-    let irs = p .irs in
     record {
-      ht-le = ht-bound irs;
+      ht-le = ht-bound p;
       hact-some = omega arith;
       hact-lt = omega (arith, a .hfp);
       lines-some = omega arith;
       lines-le = omega arith;
       rows-some = omega arith;
       porch = omega arith;
-      vt-le = omega (arith, vt-bound irs);
+      vt-le = omega (arith, vt-bound p);
     }
 
 -- its line has few enough dots
-pub dots-bound : (p : Page) → Accepted p → hactOf (p .irs) * p .video .dots .0 ≤ 3072
+pub dots-bound : (p : Page) → Accepted p → hactOf p * p .video .dots .0 ≤ 3072
 dots-bound p a =
-    let h : hactOf (p .irs) ≤ 256 = omega arith in
+    let h : hactOf p ≤ 256 = omega arith in
     mul-le-mul h (a .most)
 
 -- ---- a call that is not refused
 
 pub record InRange (b : Board) : Type 0 where
-  pub line-lt : b .place .line .0 < vtOf (b .page .irs)
-  pub clock-lt : b .place .clock .0 < htOf (b .page .irs)
+  pub line-lt : b .place .line .0 < vtOf (b .page)
+  pub clock-lt : b .place .clock .0 < htOf (b .page)
   pub beam-le : b .place .beam .address ≤ 16383
   pub row-le : b .place .row .address ≤ 16383
   pub pointer-le : b .pointer ≤ 14
@@ -137,8 +138,8 @@ pub record InRange (b : Board) : Type 0 where
 pub in-range : (b : Board) → stateRefused b ≡ false → InRange b
 unfolding stateRefused
 in-range b e =
-    let l = leb (vtOf (b .page .irs)) (b .place .line .0) in
-    let k = leb (htOf (b .page .irs)) (b .place .clock .0) in
+    let l = leb (vtOf (b .page)) (b .place .line .0) in
+    let k = leb (htOf (b .page)) (b .place .clock .0) in
     let d = neither (l || k || cellsRefused (b .place)) (pointerRefused (b .pointer)) e in
     let c = neither (l || k) (cellsRefused (b .place)) (d .0) in
     let a = neither l k (c .0) in

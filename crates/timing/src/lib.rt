@@ -5,7 +5,7 @@ ghost use Prim.Native.Nat.{_/_, _%_};
 ghost use Rattle.lists.specs.Choice.{firstOf};
 ghost use Rattle.units.specs.Units.{clocks, lines};
 ghost use Rattle.refusal.specs.declared.Refusal.{Refusal};
-ghost use Rattle.timing.specs.Fields.{ir, codedOf, linesOf, ecOf, tableOf, hsyncOf, hbpOf, vfpOf, vbpOf, blinkOf, rowsOf, hactOf, cursorOf, vsyncOf, underlineOf, bufferOf, htOf, restOf, hfpOf, visibleOf, vtOf, countsOf, timingOf};
+ghost use Rattle.timing.specs.Fields.{codedOf, linesOf, ecOf, tableOf, hsyncOf, hbpOf, vfpOf, vbpOf, blinkOf, rowsOf, hactOf, cursorOf, vsyncOf, underlineOf, bufferOf, htOf, restOf, hfpOf, visibleOf, vtOf, countsOf, timingOf};
 ghost use Rattle.timing.specs.Check.{reservedRefused, backPorchRefused, lineShort, frontPorchRefused, missing, widthRefused, pageCheck, sizeOf, stateRefused, callCheck};
 
 // A line's and a frame's front porch and sync, and the counts that the beam goes by.
@@ -34,59 +34,59 @@ pub struct PageSize {
 
 // Each count is decoded by a function of its own: one function for them all is costly to prove.
 
-fn lines_of(irs: [u8; 15]) -> units::Lines
-    ensures { λ r. ⌜ r ≡ lines (linesOf irs) ⌝ }
+fn lines_of(p: board::Page) -> units::Lines
+    ensures { λ r. ⌜ r ≡ lines (linesOf p) ⌝ }
 {
-    units::Lines(irs[0] as u32 / 8 % 16 + 1)
+    units::Lines(p.irs[0] as u32 / 8 % 16 + 1)
 }
 
-fn ec_of(irs: [u8; 15]) -> units::Clocks
-    ensures { λ r. ⌜ r ≡ clocks (ecOf irs) ⌝ }
+fn ec_of(p: board::Page) -> units::Clocks
+    ensures { λ r. ⌜ r ≡ clocks (ecOf p) ⌝ }
 {
-    units::Clocks(irs[1] as u32 % 128 + 1)
+    units::Clocks(p.irs[1] as u32 % 128 + 1)
 }
 
-fn hsync_of(irs: [u8; 15]) -> units::Clocks
-    ensures { λ r. ⌜ r ≡ clocks (hsyncOf irs) ⌝ }
+fn hsync_of(p: board::Page) -> units::Clocks
+    ensures { λ r. ⌜ r ≡ clocks (hsyncOf p) ⌝ }
 {
-    units::Clocks(2 * (irs[2] as u32 / 8 % 16) + 2)
+    units::Clocks(2 * (p.irs[2] as u32 / 8 % 16) + 2)
 }
 
-fn hbp_of(irs: [u8; 15]) -> units::Clocks
-    ensures { λ r. ⌜ r ≡ clocks (hbpOf irs) ⌝ }
+fn hbp_of(p: board::Page) -> units::Clocks
+    ensures { λ r. ⌜ r ≡ clocks (hbpOf p) ⌝ }
 {
-    units::Clocks(4 * (irs[2] as u32 % 8)).minus(units::Clocks(1))
+    units::Clocks(4 * (p.irs[2] as u32 % 8)).minus(units::Clocks(1))
 }
 
-fn vfp_of(irs: [u8; 15]) -> units::Lines
-    ensures { λ r. ⌜ r ≡ lines (vfpOf irs) ⌝ }
+fn vfp_of(p: board::Page) -> units::Lines
+    ensures { λ r. ⌜ r ≡ lines (vfpOf p) ⌝ }
 {
-    units::Lines(4 * (irs[3] as u32 / 32 % 8) + 4)
+    units::Lines(4 * (p.irs[3] as u32 / 32 % 8) + 4)
 }
 
-fn vbp_of(irs: [u8; 15]) -> units::Lines
-    ensures { λ r. ⌜ r ≡ lines (vbpOf irs) ⌝ }
+fn vbp_of(p: board::Page) -> units::Lines
+    ensures { λ r. ⌜ r ≡ lines (vbpOf p) ⌝ }
 {
-    units::Lines(2 * (irs[3] as u32 % 32) + 4)
+    units::Lines(2 * (p.irs[3] as u32 % 32) + 4)
 }
 
-fn rows_of(irs: [u8; 15]) -> u32
-    ensures { λ r. ⌜ r ≡ rowsOf irs ⌝ }
+fn rows_of(p: board::Page) -> u32
+    ensures { λ r. ⌜ r ≡ rowsOf p ⌝ }
 {
-    irs[4] as u32 % 128 + 1
+    p.irs[4] as u32 % 128 + 1
 }
 
-fn hact_of(irs: [u8; 15]) -> units::Clocks
-    ensures { λ r. ⌜ r ≡ clocks (hactOf irs) ⌝ }
+fn hact_of(p: board::Page) -> units::Clocks
+    ensures { λ r. ⌜ r ≡ clocks (hactOf p) ⌝ }
 {
-    units::Clocks(irs[5] as u32 % 256 + 1)
+    units::Clocks(p.irs[5] as u32 % 256 + 1)
 }
 
 // VSYNC by its code.
-fn vsync_of(irs: [u8; 15]) -> units::Lines
-    ensures { λ r. ⌜ r ≡ lines (vsyncOf (ir irs 7 / 64 % 4)) ⌝ }
+fn vsync_of(p: board::Page) -> units::Lines
+    ensures { λ r. ⌜ r ≡ lines (vsyncOf p) ⌝ }
 {
-    let code = irs[7] / 64 % 4;
+    let code = p.irs[7] / 64 % 4;
     match code {
         0 => units::Lines(3),
         1 => units::Lines(1),
@@ -95,155 +95,155 @@ fn vsync_of(irs: [u8; 15]) -> units::Lines
     }
 }
 
-fn ht_of(irs: [u8; 15]) -> units::Clocks
-    ensures { λ r. ⌜ r ≡ clocks (htOf irs) ⌝ }
+fn ht_of(p: board::Page) -> units::Clocks
+    ensures { λ r. ⌜ r ≡ clocks (htOf p) ⌝ }
 {
-    ec_of(irs).plus(hsync_of(irs).times(2)).times(2)
+    ec_of(p).plus(hsync_of(p).times(2)).times(2)
 }
 
 // What a line has besides its front porch.
-fn rest_of(irs: [u8; 15]) -> units::Clocks
-    ensures { λ r. ⌜ r ≡ clocks (restOf irs) ⌝ }
+fn rest_of(p: board::Page) -> units::Clocks
+    ensures { λ r. ⌜ r ≡ clocks (restOf p) ⌝ }
 {
-    hact_of(irs).plus(hsync_of(irs)).plus(hbp_of(irs))
+    hact_of(p).plus(hsync_of(p)).plus(hbp_of(p))
 }
 
-fn hfp_of(irs: [u8; 15]) -> units::Clocks
-    ensures { λ r. ⌜ r ≡ clocks (hfpOf irs) ⌝ }
+fn hfp_of(p: board::Page) -> units::Clocks
+    ensures { λ r. ⌜ r ≡ clocks (hfpOf p) ⌝ }
 {
-    ht_of(irs).minus(rest_of(irs))
+    ht_of(p).minus(rest_of(p))
 }
 
 // The lines that show a picture.
-pub fn visible_of(irs: [u8; 15]) -> units::Lines
-    ensures { λ r. ⌜ r ≡ visibleOf irs ⌝ }
+pub fn visible_of(p: board::Page) -> units::Lines
+    ensures { λ r. ⌜ r ≡ visibleOf p ⌝ }
 {
-    lines_of(irs).times(rows_of(irs))
+    lines_of(p).times(rows_of(p))
 }
 
 // The row that a line of the frame belongs to.
-pub fn row_of(irs: [u8; 15], line: units::Lines) -> u32
-    ensures { λ r. ⌜ r ≡ line .0 / linesOf irs ⌝ }
+pub fn row_of(p: board::Page, line: units::Lines) -> u32
+    ensures { λ r. ⌜ r ≡ line .0 / linesOf p ⌝ }
 {
-    line.quotient(lines_of(irs))
+    line.quotient(lines_of(p))
 }
 
 // Which line of its row a line of the frame is.
-pub fn line_of_row(irs: [u8; 15], line: units::Lines) -> units::Lines
-    ensures { λ r. ⌜ r ≡ lines (line .0 % linesOf irs) ⌝ }
+pub fn line_of_row(p: board::Page, line: units::Lines) -> units::Lines
+    ensures { λ r. ⌜ r ≡ lines (line .0 % linesOf p) ⌝ }
 {
-    line.remainder(lines_of(irs))
+    line.remainder(lines_of(p))
 }
 
-fn vt_of(irs: [u8; 15]) -> units::Lines
-    ensures { λ r. ⌜ r ≡ lines (vtOf irs) ⌝ }
+fn vt_of(p: board::Page) -> units::Lines
+    ensures { λ r. ⌜ r ≡ lines (vtOf p) ⌝ }
 {
-    let to_sync = visible_of(irs).plus(vfp_of(irs));
-    to_sync.plus(vsync_of(irs)).plus(vbp_of(irs))
+    let to_sync = visible_of(p).plus(vfp_of(p));
+    to_sync.plus(vsync_of(p)).plus(vbp_of(p))
 }
 
-fn counts_of(irs: [u8; 15]) -> raster::Counts
-    ensures { λ r. ⌜ r ≡ countsOf irs ⌝ }
+fn counts_of(p: board::Page) -> raster::Counts
+    ensures { λ r. ⌜ r ≡ countsOf p ⌝ }
 {
     raster::Counts {
-        ht: ht_of(irs),
-        hact: hact_of(irs),
-        vt: vt_of(irs),
-        lines: lines_of(irs),
-        rows: rows_of(irs),
+        ht: ht_of(p),
+        hact: hact_of(p),
+        vt: vt_of(p),
+        lines: lines_of(p),
+        rows: rows_of(p),
     }
 }
 
-pub fn timing_of(irs: [u8; 15]) -> Timing
-    ensures { λ r. ⌜ r ≡ timingOf irs ⌝ }
+pub fn timing_of(p: board::Page) -> Timing
+    ensures { λ r. ⌜ r ≡ timingOf p ⌝ }
 {
     Timing {
-        hsync: hsync_of(irs),
-        hfp: hfp_of(irs),
-        vfp: vfp_of(irs),
-        vsync: vsync_of(irs),
-        counts: counts_of(irs),
+        hsync: hsync_of(p),
+        hfp: hfp_of(p),
+        vfp: vfp_of(p),
+        vsync: vsync_of(p),
+        counts: counts_of(p),
     }
 }
 
-pub fn buffer_of(irs: [u8; 15]) -> raster::Buffer
-    ensures { λ r. ⌜ r ≡ bufferOf irs ⌝ }
+pub fn buffer_of(p: board::Page) -> raster::Buffer
+    ensures { λ r. ⌜ r ≡ bufferOf p ⌝ }
 {
     raster::Buffer {
-        first: irs[9] as u16 % 16 * 256 + irs[8] as u16 % 256,
-        last: 1024 * (irs[9] as u16 / 16 % 16 + 1) - 1,
+        first: p.irs[9] as u16 % 16 * 256 + p.irs[8] as u16 % 256,
+        last: 1024 * (p.irs[9] as u16 / 16 % 16 + 1) - 1,
     }
 }
 
 // Whether the row table's entries have codes.
-pub fn coded_of(irs: [u8; 15]) -> bool
-    ensures { λ r. ⌜ r ≡ codedOf irs ⌝ }
+pub fn coded_of(p: board::Page) -> bool
+    ensures { λ r. ⌜ r ≡ codedOf p ⌝ }
 {
-    irs[0] / 128 % 2 == 1
+    p.irs[0] / 128 % 2 == 1
 }
 
-pub fn table_of(irs: [u8; 15]) -> bool
-    ensures { λ r. ⌜ r ≡ tableOf irs ⌝ }
+pub fn table_of(p: board::Page) -> bool
+    ensures { λ r. ⌜ r ≡ tableOf p ⌝ }
 {
-    irs[2] / 128 % 2 == 1
+    p.irs[2] / 128 % 2 == 1
 }
 
-pub fn cursor_of(irs: [u8; 15]) -> CursorLook
-    ensures { λ r. ⌜ r ≡ cursorOf irs ⌝ }
+pub fn cursor_of(p: board::Page) -> CursorLook
+    ensures { λ r. ⌜ r ≡ cursorOf p ⌝ }
 {
     CursorLook {
-        first: units::Lines(irs[6] as u32 / 16 % 16),
-        last: units::Lines(irs[6] as u32 % 16),
-        blinks: irs[7] / 32 % 2 == 1,
-        period: 32 * (irs[7] as u32 / 16 % 2 + 1),
+        first: units::Lines(p.irs[6] as u32 / 16 % 16),
+        last: units::Lines(p.irs[6] as u32 % 16),
+        blinks: p.irs[7] / 32 % 2 == 1,
+        period: 32 * (p.irs[7] as u32 / 16 % 2 + 1),
     }
 }
 
-pub fn underline_of(irs: [u8; 15]) -> units::Lines
-    ensures { λ r. ⌜ r ≡ underlineOf irs ⌝ }
+pub fn underline_of(p: board::Page) -> units::Lines
+    ensures { λ r. ⌜ r ≡ underlineOf p ⌝ }
 {
-    units::Lines(irs[7] as u32 % 16)
+    units::Lines(p.irs[7] as u32 % 16)
 }
 
-pub fn blink_of(irs: [u8; 15]) -> u32
-    ensures { λ r. ⌜ r ≡ blinkOf irs ⌝ }
+pub fn blink_of(p: board::Page) -> u32
+    ensures { λ r. ⌜ r ≡ blinkOf p ⌝ }
 {
-    64 * (irs[4] as u32 / 128 % 2 + 1)
+    64 * (p.irs[4] as u32 / 128 % 2 + 1)
 }
 
 // 4: interlace, or codes without the row table.
-fn reserved_refused(irs: [u8; 15]) -> bool
-    ensures { λ r. ⌜ r ≡ reservedRefused irs ⌝ }
+fn reserved_refused(p: board::Page) -> bool
+    ensures { λ r. ⌜ r ≡ reservedRefused p ⌝ }
 {
-    (irs[1] / 128 % 2 == 1) | (coded_of(irs) & !table_of(irs))
+    (p.irs[1] / 128 % 2 == 1) | (coded_of(p) & !table_of(p))
 }
 
 // 13: HBP code 0.
-fn back_porch_refused(irs: [u8; 15]) -> bool
-    ensures { λ r. ⌜ r ≡ backPorchRefused irs ⌝ }
+fn back_porch_refused(p: board::Page) -> bool
+    ensures { λ r. ⌜ r ≡ backPorchRefused p ⌝ }
 {
-    irs[2] % 8 == 0
+    p.irs[2] % 8 == 0
 }
 
 // 14: the line is too short for its active, sync and back porch clocks.
-fn line_short(irs: [u8; 15]) -> bool
-    ensures { λ r. ⌜ r ≡ lineShort irs ⌝ }
+fn line_short(p: board::Page) -> bool
+    ensures { λ r. ⌜ r ≡ lineShort p ⌝ }
 {
-    ht_of(irs).below(rest_of(irs))
+    ht_of(p).below(rest_of(p))
 }
 
 // 15: a front porch of 0 or 1.
-fn front_porch_refused(irs: [u8; 15]) -> bool
-    ensures { λ r. ⌜ r ≡ frontPorchRefused irs ⌝ }
+fn front_porch_refused(p: board::Page) -> bool
+    ensures { λ r. ⌜ r ≡ frontPorchRefused p ⌝ }
 {
-    hfp_of(irs).below(units::Clocks(2))
+    hfp_of(p).below(units::Clocks(2))
 }
 
 // By how many clocks the front porch misses 2.
-fn missing(irs: [u8; 15]) -> units::Clocks
-    ensures { λ r. ⌜ r ≡ missing irs ⌝ }
+fn missing(p: board::Page) -> units::Clocks
+    ensures { λ r. ⌜ r ≡ missing p ⌝ }
 {
-    rest_of(irs).plus(units::Clocks(2)).minus(ht_of(irs))
+    rest_of(p).plus(units::Clocks(2)).minus(ht_of(p))
 }
 
 // 6: dots not 6 to 12.
@@ -286,16 +286,15 @@ fn first_of(
 pub fn page_check(p: board::Page) -> refusal::Refusal
     ensures { λ r. ⌜ r ≡ pageCheck p ⌝ }
 {
-    let irs = p.irs;
     let dots = p.video.dots;
     first_of(
         board::address_refused(p),
-        reserved_refused(irs),
-        back_porch_refused(irs),
-        line_short(irs),
-        front_porch_refused(irs),
+        reserved_refused(p),
+        back_porch_refused(p),
+        line_short(p),
+        front_porch_refused(p),
         width_refused(dots),
-        missing(irs),
+        missing(p),
     )
 }
 
@@ -304,12 +303,11 @@ pub fn page_size(p: board::Page) -> PageSize
 {
     let refused = page_check(p);
     if refusal::is_done(refused) {
-        let irs = p.irs;
         let dots = p.video.dots;
         return PageSize {
             refusal: refused,
-            lines: visible_of(irs),
-            dots: units::dots_of(hact_of(irs), dots),
+            lines: visible_of(p),
+            dots: units::dots_of(hact_of(p), dots),
         };
     }
     PageSize {
@@ -323,10 +321,10 @@ pub fn page_size(p: board::Page) -> PageSize
 pub fn state_refused(b: board::Board) -> bool
     ensures { λ r. ⌜ r ≡ stateRefused b ⌝ }
 {
-    let irs = b.page.irs;
+    let page = b.page;
     let place = b.place;
-    vt_of(irs).at_most(place.line)
-        | ht_of(irs).at_most(place.clock)
+    vt_of(page).at_most(place.line)
+        | ht_of(page).at_most(place.clock)
         | board::cells_refused(place)
         | board::pointer_refused(b.pointer)
 }

@@ -28,8 +28,8 @@ abbrev pub scanOf : Code → (L l : ℕ) → ℕ
 scanOf k L l = pick (isTop k) (l / 2) (pick (isBottom k) ((L + l) / 2) l)
 
 -- the scan line that a visible line shows, in a row with this code
-abbrev pub scanAt : (irs : List ℕ) → Code → (line : ℕ) → ℕ
-scanAt irs k line = scanOf k (linesOf irs) (line % linesOf irs)
+abbrev pub scanAt : Page → Code → (line : ℕ) → ℕ
+scanAt p k line = scanOf k (linesOf p) (line % linesOf p)
 
 -- what a cell is: its code, its attributes, and whether the cursor's address is its own
 pub record Content : Type 0 where

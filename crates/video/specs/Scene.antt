@@ -27,10 +27,10 @@ sceneOf b scan field = record {
   shown = displayed b;
   blank = blankLevel (hasBit (b .page .switches) 8) (hasBit (b .page .switches) 4);
   bkgnd = hasBit (b .page .switches) 4;
-  blink = blinkAt (blinkOf (b .page .irs)) field;
-  underline = eqb scan (underlineOf (b .page .irs) .0);
+  blink = blinkAt (blinkOf (b .page)) field;
+  underline = eqb scan (underlineOf (b .page) .0);
   strike = eqb scan (b .page .video .strike);
-  gate = cursorGate (cursorOf (b .page .irs)) (hasBit (b .page .switches) 2) scan field;
+  gate = cursorGate (cursorOf (b .page)) (hasBit (b .page .switches) 2) scan field;
   cursor = b .page .starts .cursor;
 }
 

@@ -205,7 +205,7 @@ fn blank_level(rblank: bool, bkgnd: bool) -> u8
 pub fn scene_of(b: board::Board, scan: units::Lines, field: u8) -> Scene
     ensures { λ r. ⌜ r ≡ sceneOf b (scan .0) field ⌝ }
 {
-    let irs = b.page.irs;
+    let page = b.page;
     let s = b.page.switches;
     let bkgnd = has(s, 4);
     let strike = units::Lines(b.page.video.strike as u32);
@@ -213,10 +213,10 @@ pub fn scene_of(b: board::Board, scan: units::Lines, field: u8) -> Scene
         shown: has(s, 1) & (2 <= b.resets),
         blank: blank_level(has(s, 8), bkgnd),
         bkgnd: bkgnd,
-        blink: blink_at(timing::blink_of(irs), field),
-        underline: scan.same(timing::underline_of(irs)),
+        blink: blink_at(timing::blink_of(page), field),
+        underline: scan.same(timing::underline_of(page)),
         strike: scan.same(strike),
-        gate: cursor_gate(timing::cursor_of(irs), has(s, 2), scan, field),
+        gate: cursor_gate(timing::cursor_of(page), has(s, 2), scan, field),
         cursor: b.page.starts.cursor,
     }
 }
@@ -253,11 +253,11 @@ pub fn scan_of(k: raster::Code, of: units::Lines, line: units::Lines) -> units::
 }
 
 // The scan line that a visible line shows.
-pub fn scan_at(irs: [u8; 15], k: raster::Code, line: units::Lines) -> units::Lines
-    ensures { λ r. ⌜ r ≡ lines (scanAt irs k (line .0)) ⌝ }
+pub fn scan_at(p: board::Page, k: raster::Code, line: units::Lines) -> units::Lines
+    ensures { λ r. ⌜ r ≡ lines (scanAt p k (line .0)) ⌝ }
 {
-    let t = timing::timing_of(irs);
-    scan_of(k, t.counts.lines, timing::line_of_row(irs, line))
+    let t = timing::timing_of(p);
+    scan_of(k, t.counts.lines, timing::line_of_row(p, line))
 }
 
 // What a cell's attribute byte sets at a column, which shows its cell again or fetches it.

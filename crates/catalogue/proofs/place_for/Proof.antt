@@ -12,13 +12,13 @@ use Rattle.catalogue.proofs.place_for.Tie as tie
 times-requires : tie.Need-times-requires
 unfolding timingOf countsOf
 times-requires c κs =
-    let p = c .before .before .args .p in
-    let rows : rowsOf (p .irs) ≤ 128 = omega arith in
-    let columns : hactOf (p .irs) ≤ 256 = omega arith in
+    let p = c .before .args .p in
+    let rows : rowsOf p ≤ 128 = omega arith in
+    let columns : hactOf p ≤ 256 = omega arith in
     rw (c .timing-of .ensures) (omega (arith, mul-le-mul rows columns))
 
 mark-requires : tie.Need-mark-requires
-mark-requires c κs = (search needs, rw (c .buffer-of .ensures) (buffer-bounded _), omega (arith, c .before .before .before .before .before .before .pre .start1))
+mark-requires c κs = (search needs, rw (c .buffer-of .ensures) (buffer-bounded _), omega (arith, c .before .before .before .before .before .pre .start1))
 
 -- two bytes a row, of at most 128
 few : (c : tie.After-timing-of) → (1 ≤ 2 * c .timing-of .result .counts .rows) × (2 * c .timing-of .result .counts .rows ≤ 256)

@@ -30,13 +30,13 @@ low : (c : tie.In-loop Inv-loop μ-loop) → c .before .loop .r < 128
 low c = omega (arith, few (c .before .before .before .before .before) .1, c .loop-test .taken)
 
 entry-requires : tie.Need-entry-requires Inv-loop μ-loop
-entry-requires c κs = (c .before .before .before .before .before .before .before .before .pre .1, omega (arith, low c))
+entry-requires c κs = (c .before .before .before .before .before .before .before .pre .1, omega (arith, low c))
 
 add-entry : tie.Need-add-entry Inv-loop μ-loop
 add-entry c = omega (arith, low (c .before .before))
 
 entry-requires-2 : tie.Need-entry-requires-2 Inv-loop μ-loop
-entry-requires-2 c κs = let i = c .before .before in (i .before .before .before .before .before .before .before .before .pre .1, omega (arith, low i))
+entry-requires-2 c κs = let i = c .before .before in (i .before .before .before .before .before .before .before .pre .1, omega (arith, low i))
 
 add-r : tie.Need-add-r Inv-loop μ-loop
 add-r c = omega (arith, low (c .before .before .before .before .before))

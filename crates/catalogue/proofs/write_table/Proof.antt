@@ -12,7 +12,7 @@ put-table-requires : tie.Need-put-table-requires
 unfolding timingOf countsOf
 put-table-requires c κs =
     let timed = c .before .before .before .before in
-    let start = timed .before .before .before in (
+    let start = timed .before .before in (
       rw (timed .timing-of .ensures) (simp (length-take, length-drop) (omega (arith, start .pre .1))),
       rw (timed .timing-of .ensures) (omega arith),
       rw (c .before .before .before .cells .ensures, timed .timing-of .ensures) (omega arith),
@@ -25,7 +25,7 @@ returns c =
     let put = c .before .before in
     let counted = put .before .before .before .before in
     let timed = counted .before in
-    let start = timed .before .before .before in
+    let start = timed .before .before in
     table-written (start .args .p) _ _ (start .pre .1) (timed .timing-of .ensures) (put .before .buffer-of .ensures) (rw (counted .cells .ensures) at (put .put-table .ensures))
 
 pub write-table-spec : {M : Type 1} → statement M

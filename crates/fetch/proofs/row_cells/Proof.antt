@@ -14,7 +14,7 @@ use Rattle.fetch.proofs.row_cells.Tie as tie
 
 -- where the function begins, from the place where nothing was refused, and what was passed there
 abbrev begin : tie.Then1 → tie.Start
-begin c = c .before .before .before .before .before .before .before
+begin c = c .before .before .before .before .before .before
 
 passed : (c : tie.Then1) → Run (begin c .args .b) (length (now (begin c .args .chars))) (begin c .args .row) × (256 ≤ length (now (begin c .args .cells)))
 passed c =

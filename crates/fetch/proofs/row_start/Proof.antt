@@ -14,7 +14,7 @@ returns c = c .entry .ensures ∙ ap cell (start-table _ _ _ (sym (c .before .be
 times-requires : tie.Need-times-requires
 unfolding timingOf countsOf
 times-requires c κs =
-    let start = c .before .before .before .before .before in
+    let start = c .before .before .before .before in
     rw (c .timing-of .ensures) (omega (arith, moves-fit (start .args .p) (start .args .row) (start .pre .1)))
 
 returns-2 : tie.Need-returns-2

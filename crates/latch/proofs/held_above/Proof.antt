@@ -28,13 +28,13 @@ abbrev μ-loop : tie.MeasureT-loop
 -- a turn of the loop looks through the row above
 module _ (c : lts.After-last-in-row (buffer-of-reads.Asked, buffer-of-reads.Learnt, fetched-of-reads.Asked, fetched-of-reads.Learnt, row-start-reads.Asked, row-start-reads.Learnt, last-in-row-reads.Asked, last-in-row-reads.Learnt) reads.Pre reads.Post Inv-loop μ-loop) where
   abbrev p : Page
-  p = c .before .before .before .before .before .before .before .before .before .args .p
+  p = c .before .before .before .before .before .before .before .before .args .p
 
   abbrev chars : List ℕ
-  chars = c .before .before .before .before .before .before .before .before .before .args .chars .now
+  chars = c .before .before .before .before .before .before .before .before .args .chars .now
 
   abbrev attrs : List ℕ
-  attrs = c .before .before .before .before .before .before .before .before .before .args .attrs .now
+  attrs = c .before .before .before .before .before .before .before .before .args .attrs .now
 
   abbrev left : ℕ
   left = c .before .before .before .before .loop .left
@@ -42,16 +42,16 @@ module _ (c : lts.After-last-in-row (buffer-of-reads.Asked, buffer-of-reads.Lear
   abbrev byte : ℕ
   byte = c .last-in-row .result
 
-  looked : byte ≡ lastSet (rowByte attrs (bufferOf (p .irs)) (rowStart p chars (left - 1))) 0 (fetchedOf p chars (left - 1))
+  looked : byte ≡ lastSet (rowByte attrs (bufferOf p) (rowStart p chars (left - 1))) 0 (fetchedOf p chars (left - 1))
   looked =
-      looked-in p chars attrs (c .before .before .before .before .before .before .before .before .before .pre .3) (left - 1) (fetchedOf p chars (left - 1)) (c .before .before .before .before .before .buffer-of .ensures) (c .before .row-start .ensures)
+      looked-in p chars attrs (c .before .before .before .before .before .before .before .before .pre .3) (left - 1) (fetchedOf p chars (left - 1)) (c .before .before .before .before .before .buffer-of .ensures) (c .before .row-start .ensures)
       (c .before .before .fetched-of .ensures) (c .last-in-row .ensures)
 
   found : (byte ≡ 0 → ⊥) → byte ≡ heldAt p chars attrs left 0
-  found = found-above p chars attrs (c .before .before .before .before .before .before .before .before .before .pre .3) left byte (c .before .before .before .loop-test .taken) looked
+  found = found-above p chars attrs (c .before .before .before .before .before .before .before .before .pre .3) left byte (c .before .before .before .loop-test .taken) looked
 
   none : byte ≡ 0 → heldAt p chars attrs (left - 1) 0 ≡ heldAt p chars attrs left 0
-  none = none-above p chars attrs (c .before .before .before .before .before .before .before .before .before .pre .3) left byte (c .before .before .before .loop-test .taken) looked
+  none = none-above p chars attrs (c .before .before .before .before .before .before .before .before .pre .3) left byte (c .before .before .before .loop-test .taken) looked
 
 returns : tie.Need-returns Inv-loop μ-loop
 returns c = found (c .before) (c .if1 .taken) ∙ c .before .before .before .before .before .loop .inv .1

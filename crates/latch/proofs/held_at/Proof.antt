@@ -30,42 +30,42 @@ returns c = sym (held-plain _ _ _ (sym (c .before .field-mode .ensures) ∙ not-
 -- the search of the row itself
 module _ (c : lts.After-last-in-row (field-mode-reads.Asked, field-mode-reads.Learnt, begun-of-reads.Asked, begun-of-reads.Learnt, row-start-reads.Asked, row-start-reads.Learnt, buffer-of-reads.Asked, buffer-of-reads.Learnt, last-in-row-reads.Asked, last-in-row-reads.Learnt) reads.Pre reads.Post) where
   abbrev p : Page
-  p = c .before .before .before .before .before .before .before .before .before .args .p
+  p = c .before .before .before .before .before .before .before .before .args .p
 
   abbrev chars : List ℕ
-  chars = c .before .before .before .before .before .before .before .before .before .args .chars .now
+  chars = c .before .before .before .before .before .before .before .before .args .chars .now
 
   abbrev attrs : List ℕ
-  attrs = c .before .before .before .before .before .before .before .before .before .args .attrs .now
+  attrs = c .before .before .before .before .before .before .before .before .args .attrs .now
 
   abbrev row : ℕ
-  row = c .before .before .before .before .before .before .before .before .before .args .row
+  row = c .before .before .before .before .before .before .before .before .args .row
 
   abbrev column : ℕ
-  column = c .before .before .before .before .before .before .before .before .before .args .column .0
+  column = c .before .before .before .before .before .before .before .before .args .column .0
 
   abbrev byte : ℕ
   byte = c .last-in-row .result
 
   runs : fieldMode p ≡ true
-  runs = sym (c .before .before .before .before .before .before .field-mode .ensures) ∙ not-false _ (c .before .before .before .before .before .if1 .left)
+  runs = sym (c .before .before .before .before .before .field-mode .ensures) ∙ not-false _ (c .before .before .before .before .if1 .left)
 
-  looked : byte ≡ lastSet (rowByte attrs (bufferOf (p .irs)) (rowStart p chars row)) 0 (begunOf p chars row (min column (hactOf (p .irs))))
+  looked : byte ≡ lastSet (rowByte attrs (bufferOf p) (rowStart p chars row)) 0 (begunOf p chars row (min column (hactOf p)))
   looked =
-      looked-in p chars attrs runs row (begunOf p chars row (min column (hactOf (p .irs)))) (c .before .buffer-of .ensures) (c .before .before .row-start .ensures)
+      looked-in p chars attrs runs row (begunOf p chars row (min column (hactOf p))) (c .before .buffer-of .ensures) (c .before .before .row-start .ensures)
       (c .before .before .before .begun-of .ensures ∙ sym (begun-least p chars row column)) (c .last-in-row .ensures)
 
   found : (byte ≡ 0 → ⊥) → byte ≡ heldAt p chars attrs row column
-  found some = found-here p chars attrs runs row (min column (hactOf (p .irs))) byte (omega arith) looked some ∙ held-least p chars attrs row column
+  found some = found-here p chars attrs runs row (min column (hactOf p)) byte (omega arith) looked some ∙ held-least p chars attrs row column
 
   none : byte ≡ 0 → heldAt p chars attrs row 0 ≡ heldAt p chars attrs row column
-  none zero = none-here p chars attrs runs row (min column (hactOf (p .irs))) byte (omega arith) looked zero ∙ held-least p chars attrs row column
+  none zero = none-here p chars attrs runs row (min column (hactOf p)) byte (omega arith) looked zero ∙ held-least p chars attrs row column
 
 returns-2 : tie.Need-returns-2
 returns-2 c = found (c .before) (c .if2 .taken)
 
 returns-3 : tie.Need-returns-3
-returns-3 c = c .before .before .before .before .before .before .before .before .before .before .pre .3 ∙ none (c .before) (c .if2 .left)
+returns-3 c = c .before .before .before .before .before .before .before .before .before .pre .3 ∙ none (c .before) (c .if2 .left)
 
 pub held-at-spec : {M : Type 1} → statement M
 held-at-spec =

@@ -16,7 +16,7 @@ dots-of-requires : tie.Need-dots-of-requires
 unfolding timingOf countsOf
 dots-of-requires c κs =
     rw (c .before .before .before .timing-of .ensures)
-    (omega (arith, dots-bound (c .before .before .before .before .before .args .p) (c .before .before .before .before .before .pre)))
+    (omega (arith, dots-bound (c .before .before .before .before .args .p) (c .before .before .before .before .pre)))
 
 returns-2 : tie.Need-returns-2
 unfolding timingOf countsOf

@@ -15,7 +15,7 @@ use Rattle.line.proofs.whole_line.Tie as tie
 
 -- where the function begins, from the place where the row is known, and what is known there
 abbrev begin : tie.After-row-of → tie.Start
-begin c = c .before .before .before .before .before .before .before .before .before .before .before
+begin c = c .before .before .before .before .before .before .before .before .before .before
 
 abbrev font : tie.After-row-of → Font
 font c = fontOf (begin c .args .words .now) (begin c .args .flags .now) (begin c .args .unshifted .now) (begin c .args .shifted .now)
@@ -76,7 +76,7 @@ prepared c =
     (looked .before .scene-of .ensures) (looked .looks2 .ensures) (c .is-wide .ensures)
 
 bytes : (c : tie.After-row-of) (i : ℕ) → getD (begin c .args .chars .now) i 0 < 256
-bytes c i = omega (arith, c .before .before .before .before .before .before .before .before .before .shared-slice-known .given i)
+bytes c i = omega (arith, c .before .before .before .before .before .before .before .before .shared-slice-known .given i)
 
 columns-requires : tie.Need-columns-requires
 unfolding timingOf countsOf

@@ -9,9 +9,9 @@ use Rattle.picture.specs.Plan.{planOf}
 use Rattle.picture.proofs.plan_of.Statement.{statement}
 use Rattle.picture.proofs.plan_of.Tie as tie
 
-width-le : (c : tie.After-timing-of) → c .timing-of .result .counts .hact .0 * c .before .before .args .p .video .dots .0 ≤ 3072
+width-le : (c : tie.After-timing-of) → c .timing-of .result .counts .hact .0 * c .before .args .p .video .dots .0 ≤ 3072
 unfolding timingOf countsOf
-width-le c = rw (c .timing-of .ensures) (dots-bound (c .before .before .args .p) (c .before .before .pre))
+width-le c = rw (c .timing-of .ensures) (dots-bound (c .before .args .p) (c .before .pre))
 
 lines-le : (c : tie.After-timing-of) → c .timing-of .result .counts .lines .0 ≤ 16
 unfolding timingOf countsOf

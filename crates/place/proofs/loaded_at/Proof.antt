@@ -7,7 +7,7 @@ use Rattle.place.proofs.loaded_at.Tie as tie
 
 -- where the function begins, from the place where it is known whether this clock loads
 abbrev begin : tie.After-loads-at → tie.Start
-begin c = c .before .before .before .before .before .before .before
+begin c = c .before .before .before .before .before .before
 
 begun-requires : tie.Need-begun-requires
 begun-requires c κs =

@@ -15,13 +15,13 @@ returns-2 : tie.Need-returns-2
 unfolding spotBefore timingOf countsOf
 returns-2 c =
     pass _
-    (sym (c .before .before .before .before .before .before .before .below .ensures) ∙ c .before .before .before .before .before .before .if1 .left)
+    (sym (c .before .before .before .before .before .before .below .ensures) ∙ c .before .before .before .before .before .if1 .left)
     (stop _ (sym (c .before .before .before .below2 .ensures) ∙ c .before .before .if2 .taken) (c .spot-in2 .ensures ∙ rw (c .before .minus .ensures, c .before .before .before .before .timing-of .ensures)))
 
 returns-3 : tie.Need-returns-3
 unfolding spotBefore
 returns-3 c =
-    pass _ (sym (c .before .before .before .before .before .before .below .ensures) ∙ c .before .before .before .before .before .if1 .left)
+    pass _ (sym (c .before .before .before .before .before .below .ensures) ∙ c .before .before .before .before .if1 .left)
     (pass _ (sym (c .before .before .below2 .ensures) ∙ c .before .if2 .left) (c .last-spot .ensures))
 
 pub spot-before-spec : {M : Type 1} → statement M

@@ -12,7 +12,7 @@ use Rattle.records.specs.Ends.{asked-row, asked-refused}
 use Rattle.records.proofs.row_asked.Statement.{statement}
 use Rattle.records.proofs.row_asked.Tie as tie
 
-passed : (c : tie.Then1) → Run (c .before .before .before .before .before .before .args .b) (length (now (c .before .before .before .before .before .before .args .chars))) (c .before .before .before .before .before .before .args .row)
+passed : (c : tie.Then1) → Run (c .before .before .before .before .before .args .b) (length (now (c .before .before .before .before .before .args .chars))) (c .before .before .before .before .before .args .row)
 passed c = run-passed _ _ _ (done-is _ (checked (span-number _ _ _ _ (c .before .before .span-of .ensures .0)) (c .before .is-done .ensures) (c .if1 .taken)))
 
 fetched-of-requires : tie.Need-fetched-of-requires

@@ -9,13 +9,13 @@ use Rattle.step.proofs.vsync_in.Tie as tie
 
 plus-requires : tie.Need-plus-requires
 unfolding timingOf countsOf
-plus-requires c κs = rw (c .visible-of .ensures, c .before .timing-of .ensures) (omega (arith, vt-bound (c .before .before .before .args .b .page .irs)))
+plus-requires c κs = rw (c .visible-of .ensures, c .before .timing-of .ensures) (omega (arith, vt-bound (c .before .before .before .args .b .page)))
 
 during-requires : tie.Need-during-requires
 unfolding timingOf countsOf
 during-requires c κs =
     rw (c .plus .ensures, c .before .visible-of .ensures, c .before .before .timing-of .ensures)
-    (omega (arith, vt-bound (c .before .before .before .before .args .b .page .irs)))
+    (omega (arith, vt-bound (c .before .before .before .before .args .b .page)))
 
 returns : tie.Need-returns
 unfolding timingOf countsOf

@@ -12,7 +12,7 @@ use Rattle.timing.proofs.page_size.Tie as tie
 
 dots-of-requires : tie.Need-dots-of-requires
 dots-of-requires c κs =
-    let then = c .before .before .before .before in
+    let then = c .before .before .before in
     let p = then .before .before .before .args .p in
     let ok : pageCheck p ≡ Done
     = done-is _ (checked (then .before .before .page-check .ensures) (then .before .is-done .ensures) (then .if1 .taken)) in
@@ -21,7 +21,7 @@ dots-of-requires c κs =
 returns : tie.Need-returns
 unfolding sizeOf
 returns c =
-    let then = c .before .before .before .before .before in
+    let then = c .before .before .before .before in
     let check = then .before .before .page-check .ensures in
     stop _ (checked check (then .before .is-done .ensures) (then .if1 .taken))
     (rw (check, c .before .before .visible-of .ensures, c .dots-of .ensures, c .before .hact-of .ensures))

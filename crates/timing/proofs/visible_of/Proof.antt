@@ -5,7 +5,7 @@ use Rattle.timing.proofs.visible_of.Statement.{statement}
 use Rattle.timing.proofs.visible_of.Tie as tie
 
 times-requires : tie.Need-times-requires
-times-requires c κs = rw (c .rows-of .ensures, c .before .lines-of .ensures) (omega (arith, visible-bound (c .before .before .args .irs)))
+times-requires c κs = rw (c .rows-of .ensures, c .before .lines-of .ensures) (omega (arith, visible-bound (c .before .before .args .p)))
 
 returns : tie.Need-returns
 returns c = rw (c .times .ensures, c .before .rows-of .ensures, c .before .before .lines-of .ensures)

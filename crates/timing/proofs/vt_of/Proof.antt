@@ -8,12 +8,12 @@ use Rattle.timing.proofs.vt_of.Statement.{statement}
 use Rattle.timing.proofs.vt_of.Tie as tie
 
 plus-requires : tie.Need-plus-requires
-plus-requires c κs = rw (c .vfp-of .ensures, c .before .visible-of .ensures) (omega (arith, visible-bound (c .before .before .args .irs)))
+plus-requires c κs = rw (c .vfp-of .ensures, c .before .visible-of .ensures) (omega (arith, visible-bound (c .before .before .args .p)))
 
 plus-requires-2 : tie.Need-plus-requires-2
 plus-requires-2 c κs =
     rw (c .vsync-of .ensures, c .before .plus .ensures, c .before .before .vfp-of .ensures, c .before .before .before .visible-of .ensures)
-    (omega (arith, visible-bound (c .before .before .before .before .args .irs), vsync-bound (ir (c .before .before .before .before .args .irs) 7 / 64 % 4)))
+    (omega (arith, visible-bound (c .before .before .before .before .args .p), vsync-bound (c .before .before .before .before .args .p)))
 
 plus-requires-3 : tie.Need-plus-requires-3
 plus-requires-3 c κs =
@@ -25,7 +25,7 @@ plus-requires-3 c κs =
       c .before .before .before .before .vfp-of .ensures,
       c .before .before .before .before .before .visible-of .ensures,
     )
-    (omega (arith, visible-bound (c .before .before .before .before .before .before .args .irs), vsync-bound (ir (c .before .before .before .before .before .before .args .irs) 7 / 64 % 4)))
+    (omega (arith, visible-bound (c .before .before .before .before .before .before .args .p), vsync-bound (c .before .before .before .before .before .before .args .p)))
 
 returns : tie.Need-returns
 returns c =

@@ -11,7 +11,7 @@ scan-of-requires : tie.Need-scan-of-requires
 unfolding timingOf countsOf
 scan-of-requires c κs =
     let start = c .before .before in
-    let some : 0 < linesOf (start .args .irs) = omega arith in
+    let some : 0 < linesOf (start .args .p) = omega arith in
     let l = mod-lt (start .args .line .0) some in
     rw (c .before .timing-of .ensures, c .line-of-row .ensures) (omega arith, omega (arith, l))
 

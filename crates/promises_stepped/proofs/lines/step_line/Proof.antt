@@ -33,7 +33,7 @@ start c = c .before .before .before .before .before .before .before .before .bef
 abbrev turns : tie.At-loop Inv-loop μ-loop → ℕ
 turns c = c .before .before .before .before .before .timing-of .result .counts .hact .0
 
-hact : (c : tie.At-loop Inv-loop μ-loop) → turns c ≡ hactOf (start c .args .b .page .irs)
+hact : (c : tie.At-loop Inv-loop μ-loop) → turns c ≡ hactOf (start c .args .b .page)
 hact c = hact-is _ _ (c .before .before .before .before .before .timing-of .ensures)
 
 roomy : (c : tie.At-loop Inv-loop μ-loop) → turns c * start c .args .b .page .video .dots .0 ≤ length (start c .args .out .now)
@@ -45,7 +45,7 @@ most c = width (start c .pre)
 room : (c : tie.In-loop Inv-loop μ-loop) → c .before .loop .c * start (c .before) .args .b .page .video .dots .0 + start (c .before) .args .b .page .video .dots .0 ≤ length (c .before .loop .out)
 room c = omega (arith, c .before .loop .inv .2 .same, stretch-inside (c .before .loop .c) (turns (c .before)) (start (c .before) .args .b .page .video .dots .0) _ (c .loop-test .taken) (roomy (c .before)))
 
-shown : (c : tie.In-loop Inv-loop μ-loop) → c .before .loop .c < hactOf (start (c .before) .args .b .page .irs)
+shown : (c : tie.In-loop Inv-loop μ-loop) → c .before .loop .c < hactOf (start (c .before) .args .b .page)
 shown c = omega (arith, hact (c .before), c .loop-test .taken)
 
 timing-of-requires : tie.Need-timing-of-requires Inv-loop μ-loop
