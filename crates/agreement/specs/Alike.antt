@@ -29,8 +29,9 @@ use Rattle.board.specs.declared.Page.{Page}
 use Rattle.board.specs.declared.Board.{Board}
 use Rattle.board.specs.Modes.{fieldMode}
 use Rattle.board.specs.Range.{startsRefused, switchesRefused, addressRefused}
-use Rattle.timing.specs.Fields.{ir, codedOf, tableOf, linesOf, rowsOf, hactOf, visibleOf, bufferOf, cursorOf, countsOf}
+use Rattle.timing.specs.Fields.{ir, codedOf, tableOf, linesOf, rowsOf, hactOf, visibleOf, bufferOf, cursorOf, countsOf, hbpOf, vsyncOf, blinkOf}
 use Rattle.timing.specs.Check.{reservedRefused, backPorchRefused, lineShort, frontPorchRefused, missing, widthRefused, pageCheck, stateRefused}
+use Rattle.timing.specs.Laws.{lines-some, row-shown}
 use Rattle.fetch.specs.Rows.{codeAt, rowStart, cellAt, movedOf, fetchAt}
 use Rattle.fetch.specs.Laws.{cell-moved}
 use Rattle.latch.specs.Held.{setIn, byteOf, heldAt}
@@ -101,7 +102,7 @@ module _ (p q : Page) (e : Same (p .irs) (q .irs)) where
   at = e .others
 
   pub same-counts : countsOf p ≡ countsOf q
-  unfolding countsOf
+  unfolding countsOf linesOf vsyncOf
   same-counts =
       let h : ir p 2 / 8 % 16 ≡ ir q 2 / 8 % 16 = omega (arith, e .low) in
       rw (h, at 0 (λ z. omega (arith, z)), at 1 (λ z. omega (arith, z)), at 3 (λ z. omega (arith, z)), at 4 (λ z. omega (arith, z)), at 5 (λ z. omega (arith, z)), at 7 (λ z. omega (arith, z)))
@@ -122,10 +123,12 @@ module _ (p q : Page) (e : Same (p .irs) (q .irs)) where
   same-rows = rw (at 4 (λ z. omega (arith, z)))
 
   pub same-lines : linesOf p ≡ linesOf q
+  unfolding linesOf
   same-lines = rw (at 0 (λ z. omega (arith, z)))
 
   -- what a line's clocks are refused for, and interlace
   pub same-porches : (backPorchRefused p ≡ backPorchRefused q) × (lineShort p ≡ lineShort q) × (frontPorchRefused p ≡ frontPorchRefused q)
+  unfolding hbpOf
   same-porches =
       let h : ir p 2 / 8 % 16 ≡ ir q 2 / 8 % 16 = omega (arith, e .low) in
       let k : ir p 2 % 8 ≡ ir q 2 % 8 = omega (arith, e .low) in
@@ -233,7 +236,7 @@ module _ (p : Page) (irs′ : List ℕ) (s t : ℕ) (chars attrs chars′ attrs�
   pub same-place : (n : ℕ) → placeAt p chars attrs n ≡ placeAt q chars′ attrs′ n
   unfolding placeAt countsOf
   same-place n =
-      ap placeOf (same-scan (countsIn p) (omega arith) (omega arith) (rowsIn p chars attrs) (rowsIn q chars′ attrs′) same-begun same-carried (row 0 0 0) n)
+      ap placeOf (same-scan (countsIn p) (omega arith) (lines-some p) (rowsIn p chars attrs) (rowsIn q chars′ attrs′) same-begun same-carried (row 0 0 0) n)
       ∙ ap (λ (g : Counts). placeOf (scanAt g (rowsIn q chars′ attrs′) (row 0 0 0) n)) (same-counts p q (a .registers))
 
 -- ---- lines and pictures
@@ -241,7 +244,7 @@ module _ (p : Page) (irs′ : List ℕ) (s t : ℕ) (chars attrs chars′ attrs�
 module _ (b : Board) (irs′ : List ℕ) (s t : ℕ) (e : Same (b .page .irs) irs′) where
   -- a place is in range for both
   pub same-state : stateRefused b ≡ stateRefused (withPage b (changed (b .page) irs′ s t))
-  unfolding stateRefused
+  unfolding stateRefused linesOf vsyncOf
   same-state =
       let h : ir (b .page) 2 / 8 % 16 ≡ getD irs′ 2 0 / 8 % 16 = omega (arith, e .low) in
       rw (
@@ -254,7 +257,7 @@ module _ (b : Board) (irs′ : List ℕ) (s t : ℕ) (e : Same (b .page .irs) ir
       )
 
   pub same-scene : (scan field : ℕ) → sceneOf b scan field ≡ sceneOf (withPage b (changed (b .page) irs′ s t)) scan field
-  unfolding sceneOf
+  unfolding sceneOf blinkOf
   same-scene scan field = rw (same-cursor (b .page) (changed (b .page) irs′ s t) e, e .others 4 (λ z. omega (arith, z)), e .others 7 (λ z. omega (arith, z)))
 
 module _ (b : Board) (irs′ : List ℕ) (s t : ℕ) (chars attrs chars′ attrs′ : List ℕ) (f : Font) (a : Alike (b .page) irs′ s t chars attrs chars′ attrs′) where
@@ -289,8 +292,7 @@ module _ (b : Board) (irs′ : List ℕ) (s t : ℕ) (chars attrs chars′ attrs
   pub same-line : (line field : ℕ) → line < visibleOf (b .page) .0 → lineDots b chars attrs f line field ≡ lineDots n chars′ attrs′ f line field
   unfolding lineDots
   same-line line field h =
-      let some : 0 < linesOf (b .page) = omega arith in
-      same-joined 0 (hactOf (b .page)) _ _ (λ c _ l. same-column line field c (div-lt-iff-lt-mul some .1 h) (omega (arith, l)))
+      same-joined 0 (hactOf (b .page)) _ _ (λ c _ l. same-column line field c (row-shown (b .page) line h) (omega (arith, l)))
       ∙ ap (λ (w : ℕ). joined 0 w (columnDots n chars′ attrs′ f line field)) (same-hact (b .page) (n .page) (a .registers))
 
   pub same-picture : (field : ℕ) → pictureDots b chars attrs f field ≡ pictureDots n chars′ attrs′ f field

@@ -3,7 +3,6 @@ use Prim.Native.Nat.{ℕ, _*_, _/_, _%_, _≤_, _<_}
 use mathlib.Core.Path.{_≡_, refl, sym, ap, ap₂, _∙_}
 use mathlib.Core.Bool.{Bool, true, false}
 use mathlib.Core.List.{List}
-use native.Mathlib.Nat.{div-lt-iff-lt-mul}
 use native.Mathlib.Decide.{decLt}
 use native.Mathlib.Omega.{arith}
 use borrow.Author.Tests.{le-ltb, ltb-true}
@@ -17,7 +16,8 @@ use Rattle.raster.specs.Beams.{row}
 use Rattle.board.specs.declared.Page.{Page}
 use Rattle.board.specs.declared.Place.{Place}
 use Rattle.board.specs.declared.Board.{Board}
-use Rattle.timing.specs.Fields.{ir, linesOf, rowsOf, visibleOf, countsOf}
+use Rattle.timing.specs.Fields.{ir, linesOf, rowsOf, visibleOf, countsOf, hbpOf, vsyncOf, blinkOf}
+use Rattle.timing.specs.Laws.{row-shown}
 use Rattle.fetch.specs.Rows.{codeAt, cellAt}
 use Rattle.latch.specs.Held.{heldAt}
 use Rattle.shape.specs.Font.{Font}
@@ -95,10 +95,9 @@ module _ (b : Board) (irs′ : List ℕ) (s t : ℕ) (chars attrs chars′ attrs
 
         go : Dec (x .line .0 < visibleOf p .0) → loadedIn p chars x .beam ≡ loadedIn q chars′ x′ .beam
         go (yes l) =
-            let some : 0 < linesOf p = omega arith in
             let r = x .line .0 / linesOf p in
             let c = x .clock .0 in
-            let h : r < rowsOf p = div-lt-iff-lt-mul some .1 l in
+            let h = row-shown p (x .line .0) l in
             let cell = same-cell p irs′ s t chars attrs chars′ attrs′ a r c h in
             let held = same-held p irs′ s t chars attrs chars′ attrs′ a r c h in
             let code = a .code r h in
@@ -114,7 +113,7 @@ module _ (b : Board) (irs′ : List ℕ) (s t : ℕ) (chars attrs chars′ attrs
 
   -- the signals of a place, in a row with a code and at an address
   same-signals : (y : Place) (c x : ℕ) → signalsOf (withPlace b y) c x ≡ signalsOf (withPlace n y) c x
-  unfolding signalsOf sceneOf
+  unfolding signalsOf sceneOf linesOf hbpOf vsyncOf blinkOf
   same-signals y c x =
       let e = a .registers in
       let h : ir p 2 / 8 % 16 ≡ ir (n .page) 2 / 8 % 16 = omega (arith, e .low) in
@@ -132,6 +131,7 @@ module _ (b : Board) (irs′ : List ℕ) (s t : ℕ) (chars attrs chars′ attrs
       )
 
   same-active : (y : Place) → activeAt p y ≡ activeAt (n .page) y
+  unfolding linesOf
   same-active y =
       let e = a .registers in
       rw (e .others 0 (λ z. omega (arith, z)), e .others 4 (λ z. omega (arith, z)), e .others 5 (λ z. omega (arith, z)))
@@ -182,11 +182,10 @@ module _ (b : Board) (irs′ : List ℕ) (s t : ℕ) (chars attrs chars′ attrs
         → (getD chars (loadedIn p chars y .beam .address) 0 ≡ getD chars′ (loadedIn p chars y .beam .address) 0)
         × (getD attrs (loadedIn p chars y .beam .address) 0 ≡ getD attrs′ (loadedIn p chars y .beam .address) 0)
     bytes-are e =
-        let some : 0 < linesOf p = omega arith in
         let on = both _ _ e in
         let l = ltb-true _ _ (on .0) in
         let c = ltb-true _ _ (on .1) in
-        let h = div-lt-iff-lt-mul some .1 l in
+        let h = row-shown p (y .line .0) l in
         let at = ap (λ (z : Row). z .address) (visible b chars attrs f ok k l) in
         (rw at (a .letter _ _ h c), rw at (a .byte _ _ h c))
 

@@ -105,11 +105,13 @@ module _ (b : Board) (chars : List ℕ) (m : Movable b chars) (registers : 2 < l
   }
 
   table-on : tableOf q ≡ true
+  unfolding tableOf
   table-on =
       let e = getD-set-same (p .irs) 2 (ir p 2 % 128 + 128) 0 registers in
       eq-eqb (ir q 2 / 128 % 2) 1 (omega (arith, e))
 
   plain : codedOf q ≡ false
+  unfolding codedOf
   plain = ap (λ (x : ℕ). eqb (x / 128 % 2) 1) (sym (same-registers .others 0 (λ z. omega (arith, z)))) ∙ m .page .coded (m .off)
 
   room : place + tableSize p ≤ length chars
@@ -230,6 +232,7 @@ module _ (b : Board) (chars : List ℕ) (m : Movable b chars) (registers : 2 < l
   -- a register is a byte
   module _ (byte : ir p 2 < 256) where
     low-bits : ir q 2 % 128 ≡ ir p 2
+    unfolding tableOf
     low-bits =
         let e = getD-set-same (p .irs) 2 (ir p 2 % 128 + 128) 0 registers in
         let f : ir p 2 / 128 % 2 ≡ 1 → ⊥ = λ z. true≢false (sym (eq-eqb (ir p 2 / 128 % 2) 1 z) ∙ m .off) in
@@ -269,11 +272,13 @@ module _ (b : Board) (chars : List ℕ) (m : Returnable b chars) (registers : 2 
   }
 
   sheet-off : tableOf sheet ≡ false
+  unfolding tableOf
   sheet-off =
       let e = getD-set-same (b .page .irs) 2 (ir (b .page) 2 % 128) 0 registers in
       ne-eqb (ir sheet 2 / 128 % 2) 1 (λ z. omega (arith, e, z))
 
   sheet-plain : codedOf sheet ≡ false
+  unfolding codedOf
   sheet-plain = ap (λ (x : ℕ). eqb (x / 128 % 2) 1) (sym (sheet-registers .others 0 (λ z. omega (arith, z)))) ∙ m .codeless
 
   -- the rows follow one another

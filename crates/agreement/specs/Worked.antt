@@ -17,7 +17,7 @@ use Rattle.board.specs.State.{boardOf}
 use Rattle.board.specs.Range.{addressRefused}
 use Rattle.fetch.specs.Rows.{codeAt, entryOf, rowStart, cellAt, fetchedOf, fetchAt}
 use Rattle.latch.specs.Held.{heldAt}
-use Rattle.timing.specs.Fields.{bufferOf, countsOf}
+use Rattle.timing.specs.Fields.{bufferOf, countsOf, codedOf, linesOf, tableOf, hbpOf, vsyncOf}
 use Rattle.timing.specs.Check.{pageCheck, stateRefused, callCheck}
 use Rattle.shape.specs.Font.{Font, fontOf, fontRefused}
 use Rattle.catalogue.specs.There.{ownCheck, fetchesCell, tablePlaces, unfetchedAt, tablePlace, thereCheck}
@@ -47,26 +47,26 @@ pub font : Font
 font = fontOf (replicate 1152 0) (replicate 128 0) (replicate 9 0) (replicate 9 0)
 
 pub sheet-taken : stepCheck sheet memory memory font ≡ Done
-unfolding sheet memory font page callCheck pageCheck addressRefused stateRefused
+unfolding sheet memory font page callCheck pageCheck addressRefused codedOf linesOf tableOf hbpOf vsyncOf stateRefused
 sheet-taken = refl
 
 -- its numbers are given, so `board-back` and `numbers-back` speak of something
 pub sheet-saved : numbersOfCheck sheet 32 ≡ Done
-unfolding sheet page numbersOfCheck pageCheck addressRefused
+unfolding sheet page numbersOfCheck pageCheck addressRefused codedOf tableOf hbpOf
 sheet-saved = refl
 
 -- a frame's clocks on, by single steps of the board, frame 1 begins
 pub after-a-frame : (after sheet memory memory font (frameClocks sheet) .place .line .0 ≡ 0)
     × (after sheet memory memory font (frameClocks sheet) .place .clock .0 ≡ 0)
     × (after sheet memory memory font (frameClocks sheet) .place .field ≡ 1)
-unfolding sheet page countsOf
+unfolding sheet page linesOf vsyncOf countsOf
 after-a-frame =
     let framed = every-frame sheet memory memory font sheet-taken (frameClocks sheet) in
     (framed .ends refl .0, framed .ends refl .1, framed .counted)
 
 -- 256 frames on the field counter is back at 0
 pub after-256-frames : after sheet memory memory font (256 * frameClocks sheet) .place .field ≡ 0
-unfolding sheet page countsOf
+unfolding sheet page linesOf vsyncOf countsOf
 after-256-frames = every-frame sheet memory memory font sheet-taken (256 * frameClocks sheet) .counted
 
 -- A7, by a single step of the board: with screen start 1 below the buffer a cell outside it is fetched, so `stays-inside` has to ask
@@ -74,11 +74,11 @@ pub low : Board
 low = boardOf (page 35 80 2048 3071 0 0)
 
 pub low-taken : stepCheck low memory memory font ≡ Done
-unfolding low memory font page callCheck pageCheck addressRefused stateRefused
+unfolding low memory font page callCheck pageCheck addressRefused codedOf linesOf tableOf hbpOf vsyncOf stateRefused
 low-taken = refl
 
 pub outside : Inside (bufferOf (low .page)) (addressAt low memory memory font 0 0 0) → ⊥
-unfolding low page codeAt bufferOf advanceBy toLast
+unfolding low page codedOf linesOf tableOf codeAt bufferOf advanceBy toLast
 outside i =
     let shown = row-from-start low memory memory font low-taken 0 0 (omega arith) (omega arith) refl in
     let a : addressAt low memory memory font 0 0 0 ≡ 0 = shown .stepped 0 0 (omega arith) in
@@ -95,7 +95,7 @@ abbrev pub numbers : List ℕ
 numbers = replicate 32 0
 
 pub page-taken : answerOf (readCheck file (pageReadSize (length numbers) (length memory) (length memory))) .refusal ≡ 0
-unfolding sheet memory page readCheck fileCheck lengthRefused longAt wordAt tailOf headOf fileOf pageAt pageCheck addressRefused
+unfolding sheet memory page readCheck fileCheck lengthRefused longAt wordAt tailOf headOf fileOf pageAt pageCheck addressRefused codedOf tableOf hbpOf
 page-taken = refl
 
 pub font-taken : answerOf (fontCheck fontFile (fontRefused (fontOf (font .words) (font .flags) (font .unshifted) (font .shifted)))) .refusal ≡ 0
@@ -129,18 +129,18 @@ pub reversed : List ℕ
 reversed = replicate 16384 129
 
 pub coded-taken : stepCheck coded entries reversed font ≡ Done
-unfolding coded entries reversed font callCheck pageCheck addressRefused stateRefused
+unfolding coded entries reversed font callCheck pageCheck addressRefused codedOf linesOf tableOf hbpOf vsyncOf stateRefused
 coded-taken = refl
 
 -- so the promise on rows speaks of cell 64 and of double width in row 5, and attributes run on
 pub coded-row : (addressAt coded entries reversed font 0 50 0 ≡ 64) × (codeAt (coded .page) entries 5 ≡ 1)
-unfolding coded entries codeAt entryOf advanceBy toLast bufferOf
+unfolding coded entries codedOf linesOf tableOf codeAt entryOf advanceBy toLast bufferOf
 coded-row =
     let shown = row-from-table coded entries reversed font coded-taken 5 0 (omega arith) (omega arith) refl in
     (shown .stepped 0 0 (omega arith), refl)
 
 pub coded-held : heldAt (coded .page) entries reversed 0 1 ≡ 129
-unfolding coded entries reversed heldAt lastSet cellAt cellOf startOf countsOf codeAt entryOf advanceBy toLast bufferOf
+unfolding coded entries reversed heldAt lastSet cellAt cellOf startOf linesOf vsyncOf countsOf codedOf tableOf codeAt entryOf advanceBy toLast bufferOf
 coded-held = refl
 
 -- ---- R-5's moves take something
@@ -150,15 +150,15 @@ pub small : Board
 small = boardOf (catalogued 1 1 0 0 1 1)
 
 small-own : ownCheck small (length memory) ≡ Done
-unfolding small memory ownCheck callCheck pageCheck addressRefused stateRefused
+unfolding small memory ownCheck callCheck pageCheck addressRefused codedOf linesOf tableOf hbpOf vsyncOf stateRefused
 small-own = refl
 
 room-at-1 : unfetchedAt (small .page) memory 1 ≡ true
-unfolding small memory unfetchedAt fetchesCell anyBelow fetchAt fetchedOf countsOf codeAt rowStart startOf advanceBy toLast bufferOf
+unfolding small memory unfetchedAt fetchesCell anyBelow fetchAt fetchedOf linesOf vsyncOf countsOf codedOf tableOf codeAt rowStart startOf advanceBy toLast bufferOf
 room-at-1 = refl
 
 pub there-taken : thereCheck small memory ≡ Done
-unfolding small thereCheck tablePlace
+unfolding small codedOf tableOf thereCheck tablePlace
 there-taken =
     let n : ℕ = tablePlaces (small .page) in
     let found : tablePlace (small .page) memory < n = first-lt (unfetchedAt (small .page) memory) n (any-some (unfetchedAt (small .page) memory) n 1 (omega arith) room-at-1) in
@@ -171,5 +171,5 @@ pub follow-entries : List ℕ
 follow-entries = 0 ∷ 0 ∷ 1 ∷ replicate 16381 0
 
 pub back-taken : backCheck follows-on follow-entries ≡ Done
-unfolding follows-on follow-entries backCheck ownCheck callCheck pageCheck addressRefused stateRefused rowsApart followsRow anyBelow entryOf advanceBy toLast bufferOf
+unfolding follows-on follow-entries backCheck ownCheck callCheck pageCheck addressRefused codedOf linesOf tableOf hbpOf vsyncOf stateRefused rowsApart followsRow anyBelow entryOf advanceBy toLast bufferOf
 back-taken = refl

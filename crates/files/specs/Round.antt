@@ -20,6 +20,7 @@ use Rattle.units.specs.Units.{dots}
 use Rattle.board.specs.declared.Page.{Page}
 use Rattle.board.specs.Modes.{versionOf}
 use Rattle.board.specs.Range.{addressRefused}
+use Rattle.timing.specs.Fields.{codedOf, tableOf, hbpOf}
 use Rattle.timing.specs.Check.{pageCheck}
 use Rattle.files.specs.Page.{wordAt, pageAt, tailOf, pageBytes, keptPage}
 use Rattle.files.specs.File.{longAt, versionRefused, headOf, fileOf}
@@ -119,7 +120,7 @@ kept-two p = go (eqb (p .version) 2)
     go false = refl
 
 pub kept-check : (p : Page) → pageCheck (keptPage p) ≡ pageCheck p
-unfolding pageCheck addressRefused
+unfolding pageCheck addressRefused codedOf tableOf hbpOf
 kept-check p = rw (kept-two p)
 
 -- ---- the whole file

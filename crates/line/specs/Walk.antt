@@ -3,7 +3,6 @@ use Prim.Native.Nat.{ℕ, zero, suc, min, _+_, _*_, _/_, _%_, _≤_, _<_}
 use mathlib.Core.Path.{_≡_, refl, sym, ap, _∙_}
 use mathlib.Core.Bool.{Bool, true, false, _&&_, _||_, not, true≢false}
 use mathlib.Core.List.{List, [], _∷_, _++_}
-use native.Mathlib.Nat.{div-lt-iff-lt-mul}
 use native.Mathlib.Decide.{ℕ-discrete}
 use native.Mathlib.Omega.{arith}
 use borrow.Author.Tests.{leb-false, ltb-false, le-ltb, eq-eqb, ne-eqb}
@@ -32,7 +31,7 @@ use Rattle.board.specs.Laws.{memories-all}
 use Rattle.timing.specs.declared.Timing.{Timing}
 use Rattle.timing.specs.Fields.{hactOf, rowsOf, linesOf, visibleOf, bufferOf, timingOf, countsOf}
 use Rattle.timing.specs.Check.{pageCheck, stateRefused, callCheck}
-use Rattle.timing.specs.Laws.{Accepted, call-passed}
+use Rattle.timing.specs.Laws.{Accepted, row-shown, call-passed}
 use Rattle.fetch.specs.Rows.{codeAt, rowStart, cellAt, fetchedOf, begunOf, fetchAt}
 use Rattle.fetch.specs.Laws.{cell-shown, row-start-lt}
 use Rattle.latch.specs.Held.{heldAt}
@@ -142,13 +141,12 @@ draw-passed b chars attrs f line room e =
     let k = call-passed b (lentRefused chars attrs f) (leb (visibleOf (b .page) .0) line) (ltb room (lineLength b)) e in
     let s = neither (memoriesRefused (length chars) (length attrs)) (fontRefused f) (k .sized) in
     let m = memories-all (length chars) (length attrs) (s .0) in
-    let some : 0 < linesOf (b .page) = omega arith in
     record {
       page = k .page;
       chars-all = m .0;
       attrs-all = m .1;
       font = font-whole f (s .1);
-      row-lt = div-lt-iff-lt-mul some .1 (leb-false _ _ (k .in-reach));
+      row-lt = row-shown (b .page) line (leb-false _ _ (k .in-reach));
       roomy = ltb-false _ _ (k .roomy);
     }
 

@@ -3,7 +3,7 @@ use Prim.Native.Nat.{ℕ, _+_, _*_, _/_, _%_, _≤_, _<_}
 use mathlib.Core.Path.{_≡_, refl, sym, ap, _∙_}
 use mathlib.Core.Bool.{true, false}
 use mathlib.Core.List.{List, _++_}
-use native.Mathlib.Nat.{mul-assoc, mul-le-mul, div-lt-iff-lt-mul}
+use native.Mathlib.Nat.{mul-assoc, mul-le-mul}
 use native.Mathlib.Omega.{arith}
 use borrow.Author.Tests.{ltb-false}
 use lib.Arith.{digits-div, digits-mod}
@@ -20,7 +20,7 @@ use Rattle.board.specs.declared.Page.{Page}
 use Rattle.board.specs.Range.{memoriesRefused}
 use Rattle.board.specs.Laws.{memories-all}
 use Rattle.timing.specs.Fields.{hactOf, linesOf, rowsOf}
-use Rattle.timing.specs.Laws.{Accepted, call-passed, buffer-bounded, dots-bound, visible-bound}
+use Rattle.timing.specs.Laws.{Accepted, call-passed, buffer-bounded, dots-bound, lines-le, rows-le, hact-le, row-shown, visible-bound}
 use Rattle.fetch.specs.Rows.{codeAt, rowStart, fetchAt}
 use Rattle.latch.specs.Held.{heldAt}
 use Rattle.shape.specs.Font.{Font, Whole, fontRefused}
@@ -138,7 +138,7 @@ sheet-of b f field shown looks inks page made ls lk ink p q = rw q (record {
   most = page .most;
   some = omega arith;
   few = omega arith;
-  short = omega arith;
+  short = lines-le (b .page);
   width-is = refl;
   size-is = refl;
   bounded = buffer-bounded (b .page);
@@ -157,11 +157,11 @@ module _ (p : Plan) (page : Page) (q : p ≡ planOf page) where
 
   pub plan-lines : p .lines .0 ≤ 16
   unfolding planOf
-  plan-lines = rw q (omega arith)
+  plan-lines = rw q (lines-le page)
 
   pub plan-rows : p .rows ≤ 128
   unfolding planOf
-  plan-rows = rw q (omega arith)
+  plan-rows = rw q (rows-le page)
 
   pub plan-size : p .rows * p .size ≡ pictureLength page
   unfolding planOf
@@ -174,10 +174,8 @@ module _ (p : Plan) (page : Page) (q : p ≡ planOf page) where
   pub plan-small : Accepted page → (p .rows * p .size ≤ 6291456) × (p .rows * p .lines .0 ≤ 2048) × (p .rows * p .columns .0 ≤ 32768)
   unfolding planOf
   plan-small a =
-      let h : hactOf page ≤ 256 = omega arith in
-      let r : rowsOf page ≤ 128 = omega arith in
-      let l : linesOf page ≤ 16 = omega arith in
-      rw q (mul-le-mul r (mul-le-mul l (dots-bound page a)), visible-bound page, mul-le-mul r h)
+      rw q
+      (mul-le-mul (rows-le page) (mul-le-mul (lines-le page) (dots-bound page a)), visible-bound page, mul-le-mul (rows-le page) (hact-le page))
 
 pub made-of : (b : Board) (f : Font) (field : ℕ) (shown looks beyond rest : List ℕ) (p : Plan) → p ≡ planOf (b .page)
     → shown ≡ joined 0 (p .lines .0) (wordsAt f (p .dots .0)) ++ beyond → looks ≡ joined 0 (p .lines .0) (levelsAt b field) ++ rest → Made b f field shown looks
@@ -194,7 +192,7 @@ module _ (b : Board) (chars attrs : List ℕ) (f : Font) (field : ℕ) (p : Plan
     chars-all = k .chars-all;
     attrs-all = k .attrs-all;
     font = k .font;
-    row-lt = let some : 0 < linesOf (b .page) = omega arith in div-lt-iff-lt-mul some .1 (rw q at h);
+    row-lt = row-shown (b .page) l (rw q at h);
     roomy = rw q at w;
   }
 

@@ -6,7 +6,6 @@ use Prim.Native.Nat.{ℕ, zero, suc, _+_, _-_, _/_, _%_, _≤_, _<_}
 use mathlib.Core.Path.{_≡_, refl, ap, subst, _∙_}
 use mathlib.Core.Bool.{Bool, true, false, not, _&&_, true≢false}
 use mathlib.Core.List.{List}
-use native.Mathlib.Nat.{div-lt-iff-lt-mul}
 use native.Mathlib.Numerals.{sub-one}
 use native.Mathlib.Decide.{decLt}
 use native.Mathlib.Omega.{arith}
@@ -34,7 +33,7 @@ use Rattle.board.specs.Range.{memoriesRefused}
 use Rattle.board.specs.Laws.{memories-all}
 use Rattle.timing.specs.declared.Timing.{Timing}
 use Rattle.timing.specs.Fields.{linesOf, rowsOf, hactOf, htOf, vtOf, tableOf, visibleOf, bufferOf, timingOf, countsOf}
-use Rattle.timing.specs.Laws.{Accepted, call-passed}
+use Rattle.timing.specs.Laws.{Accepted, row-shown, call-passed}
 use Rattle.fetch.specs.Rows.{entryOf, codeAt, feedIn, rowStart, cellAt}
 use Rattle.fetch.specs.Laws.{entry-lt}
 use Rattle.latch.specs.Held.{heldAt}
@@ -46,9 +45,7 @@ use Rattle.place.specs.Spot.{lastSpot, spotIn, spotBefore, originAt}
 use Rattle.place.specs.State.{stateCheck}
 
 row-of : (p : Page) (line : ℕ) → line < visibleOf p .0 → line / linesOf p < 8192
-row-of p line v =
-    let some : 0 < linesOf p = omega arith in
-    omega (arith, div-lt-iff-lt-mul some .1 v)
+row-of p line v = omega (arith, row-shown p line v)
 
 pub spot-row : (p : Page) (c line : ℕ) → spotBefore p c line .row < 8192
 unfolding spotBefore spotIn

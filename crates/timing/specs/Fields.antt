@@ -17,11 +17,11 @@ abbrev pub ir : Page → ℕ → ℕ
 ir p n = getD (p .irs) n 0
 
 -- IR0[7]: the row table's entries have codes (02, R-4)
-abbrev pub codedOf : Page → Bool
+unfoldable pub codedOf : Page → Bool
 codedOf p = eqb (ir p 0 / 128 % 2) 1
 
 -- IR0[6:3]: scan lines per row
-abbrev pub linesOf : Page → ℕ
+unfoldable pub linesOf : Page → ℕ
 linesOf p = ir p 0 / 8 % 16 + 1
 
 -- IR1[6:0]
@@ -29,7 +29,7 @@ abbrev pub ecOf : Page → ℕ
 ecOf p = ir p 1 % 128 + 1
 
 -- IR2[7]: row table on
-abbrev pub tableOf : Page → Bool
+unfoldable pub tableOf : Page → Bool
 tableOf p = eqb (ir p 2 / 128 % 2) 1
 
 -- IR2[6:3]
@@ -37,7 +37,7 @@ abbrev pub hsyncOf : Page → ℕ
 hsyncOf p = 2 * (ir p 2 / 8 % 16) + 2
 
 -- IR2[2:0]: 4n-1; code 0 is refused, and gives 0 here
-abbrev pub hbpOf : Page → ℕ
+unfoldable pub hbpOf : Page → ℕ
 hbpOf p = 4 * (ir p 2 % 8) - 1
 
 -- IR3[7:5], [4:0]
@@ -48,7 +48,7 @@ abbrev pub vbpOf : Page → ℕ
 vbpOf p = 2 * (ir p 3 % 32) + 4
 
 -- IR4[7]: blink over 64 or 128 fields; [6:0]: rows
-abbrev pub blinkOf : Page → ℕ
+unfoldable pub blinkOf : Page → ℕ
 blinkOf p = 64 * (ir p 4 / 128 % 2 + 1)
 
 abbrev pub rowsOf : Page → ℕ
@@ -71,7 +71,7 @@ cursorOf p = record {
 abbrev pub vsyncBy : ℕ → ℕ
 vsyncBy n = pick (eqb n 0) 3 (pick (eqb n 1) 1 (pick (eqb n 2) 5 7))
 
-abbrev pub vsyncOf : Page → ℕ
+unfoldable pub vsyncOf : Page → ℕ
 vsyncOf p = vsyncBy (ir p 7 / 64 % 4)
 
 -- IR7[3:0]

@@ -3,7 +3,7 @@ use Prim.Native.Nat.{ℕ, _*_, _/_, _%_, _≤_, _<_}
 use mathlib.Core.Path.{_≡_, refl}
 use mathlib.Core.Bool.{Bool, true, false, not, _&&_, _||_, true≢false}
 use mathlib.Core.List.{List}
-use native.Mathlib.Nat.{mul-le-mul}
+use native.Mathlib.Nat.{mul-le-mul, div-lt-iff-lt-mul}
 use native.Mathlib.Omega.{arith}
 use borrow.Author.Tests.{ltb-false, leb-false, eqb-false}
 use lib.Dec.{eqb, ltb, leb}
@@ -19,18 +19,47 @@ use Rattle.raster.specs.Raster.{Good}
 use Rattle.board.specs.declared.Page.{Page}
 use Rattle.board.specs.declared.Board.{Board}
 use Rattle.board.specs.Range.{startsRefused, switchesRefused, addressRefused, cellsRefused, pointerRefused}
-use Rattle.timing.specs.Fields.{ir, codedOf, linesOf, tableOf, rowsOf, hactOf, htOf, hfpOf, vsyncBy, vsyncOf, vtOf, bufferOf, countsOf}
+use Rattle.timing.specs.Fields.{ir, codedOf, linesOf, tableOf, hbpOf, blinkOf, rowsOf, hactOf, cursorOf, htOf, hfpOf, vsyncBy, vsyncOf, visibleOf, vtOf, bufferOf, countsOf}
 use Rattle.timing.specs.Check.{reservedRefused, backPorchRefused, lineShort, frontPorchRefused, missing, widthRefused, pageCheck, sized, sizeOf, stateRefused, callCheck}
 
 -- ---- any registers
 
+pub lines-some : (p : Page) → 0 < linesOf p
+unfolding linesOf
+lines-some p = omega arith
+
+pub lines-le : (p : Page) → linesOf p ≤ 16
+unfolding linesOf
+lines-le p = omega arith
+
+pub rows-le : (p : Page) → rowsOf p ≤ 128
+rows-le p = omega arith
+
+pub hact-le : (p : Page) → hactOf p ≤ 256
+hact-le p = omega arith
+
+pub hbp-le : (p : Page) → hbpOf p ≤ 27
+unfolding hbpOf
+hbp-le p = omega arith
+
+-- a blink's and a blinking cursor's fields
+pub blink-range : (p : Page) → (0 < blinkOf p) × (blinkOf p ≤ 128)
+unfolding blinkOf
+blink-range p = (omega arith, omega arith)
+
+pub period-some : (p : Page) → 0 < cursorOf p .period
+unfolding cursorOf
+period-some p = omega arith
+
 pub visible-bound : (p : Page) → rowsOf p * linesOf p ≤ 2048
-visible-bound p =
-    let r : rowsOf p ≤ 128 = omega arith in
-    let l : linesOf p ≤ 16 = omega arith in
-    mul-le-mul r l
+visible-bound p = mul-le-mul (rows-le p) (lines-le p)
+
+-- a visible line's row
+pub row-shown : (p : Page) (line : ℕ) → line < visibleOf p .0 → line / linesOf p < rowsOf p
+row-shown p line h = div-lt-iff-lt-mul (lines-some p) .1 h
 
 pub vsync-bound : (p : Page) → vsyncOf p ≤ 7
+unfolding vsyncOf
 vsync-bound p = go (ir p 7 / 64 % 4)
   where
     go : (n : ℕ) → vsyncBy n ≤ 7
@@ -113,8 +142,8 @@ accepted-good p a =
       ht-le = ht-bound p;
       hact-some = omega arith;
       hact-lt = omega (arith, a .hfp);
-      lines-some = omega arith;
-      lines-le = omega arith;
+      lines-some = lines-some p;
+      lines-le = omega (arith, lines-le p);
       rows-some = omega arith;
       porch = omega arith;
       vt-le = omega (arith, vt-bound p);
@@ -123,8 +152,7 @@ accepted-good p a =
 -- its line has few enough dots
 pub dots-bound : (p : Page) → Accepted p → hactOf p * p .video .dots .0 ≤ 3072
 dots-bound p a =
-    let h : hactOf p ≤ 256 = omega arith in
-    mul-le-mul h (a .most)
+    mul-le-mul (hact-le p) (a .most)
 
 -- ---- a call that is not refused
 

@@ -4,7 +4,7 @@ use native.Mathlib.Nat.{mul-le-mul}
 use native.Mathlib.Omega.{arith}
 use borrow.Author.Needs.{needs}
 use Rattle.timing.specs.Fields.{timingOf, countsOf}
-use Rattle.timing.specs.Laws.{dots-bound}
+use Rattle.timing.specs.Laws.{lines-le, dots-bound}
 use Rattle.picture.specs.Plan.{planOf}
 use Rattle.picture.proofs.plan_of.Statement.{statement}
 use Rattle.picture.proofs.plan_of.Tie as tie
@@ -13,9 +13,9 @@ width-le : (c : tie.After-timing-of) → c .timing-of .result .counts .hact .0 *
 unfolding timingOf countsOf
 width-le c = rw (c .timing-of .ensures) (dots-bound (c .before .args .p) (c .before .pre))
 
-lines-le : (c : tie.After-timing-of) → c .timing-of .result .counts .lines .0 ≤ 16
+few-lines : (c : tie.After-timing-of) → c .timing-of .result .counts .lines .0 ≤ 16
 unfolding timingOf countsOf
-lines-le c = rw (c .timing-of .ensures) (omega arith)
+few-lines c = rw (c .timing-of .ensures) (lines-le _)
 
 dots-of-requires : tie.Need-dots-of-requires
 dots-of-requires c κs = omega (arith, width-le (c .before .before .before))
@@ -23,7 +23,7 @@ dots-of-requires c κs = omega (arith, width-le (c .before .before .before))
 mul-size : tie.Need-mul-size
 mul-size c =
     let k = c .before .before .before .before .before .before in
-    rw (c .places2 .ensures, c .before .places .ensures, c .before .before .dots-of .ensures) (omega (arith, mul-le-mul (lines-le k) (width-le k)))
+    rw (c .places2 .ensures, c .before .places .ensures, c .before .before .dots-of .ensures) (omega (arith, mul-le-mul (few-lines k) (width-le k)))
 
 returns : tie.Need-returns
 unfolding planOf timingOf countsOf

@@ -1,10 +1,11 @@
 use native.Mathlib.Omega.{arith}
 use borrow.Author.Needs.{needs}
+use Rattle.timing.specs.Laws.{hbp-le}
 use Rattle.timing.proofs.missing.Statement.{statement}
 use Rattle.timing.proofs.missing.Tie as tie
 
 plus-requires : tie.Need-plus-requires
-plus-requires c κs = rw (c .rest-of .ensures) (omega arith)
+plus-requires c κs = rw (c .rest-of .ensures) (omega (arith, hbp-le (c .before .args .p)))
 
 returns : tie.Need-returns
 returns c = rw (c .minus .ensures, c .before .ht-of .ensures, c .before .before .plus .ensures, c .before .before .before .rest-of .ensures)

@@ -1,14 +1,15 @@
 -- Rests on the callees: each field of the scene is one of their answers.
 use Rattle.video.specs.Scene.{sceneOf}
-use Rattle.timing.specs.Fields.{cursorOf}
-use native.Mathlib.Omega.{arith}
+use Rattle.timing.specs.Laws.{blink-range, period-some}
 use borrow.Author.Needs.{needs}
 use Rattle.video.proofs.scene_of.Statement.{statement}
 use Rattle.video.proofs.scene_of.Tie as tie
 
+blink-at-requires : tie.Need-blink-at-requires
+blink-at-requires c κs = rw (c .blink-of .ensures) (blink-range _)
+
 cursor-gate-requires : tie.Need-cursor-gate-requires
-unfolding cursorOf
-cursor-gate-requires c κs = rw (c .before .cursor-of .ensures) (omega arith)
+cursor-gate-requires c κs = rw (c .before .cursor-of .ensures) (period-some _)
 
 returns : tie.Need-returns
 unfolding sceneOf
@@ -38,7 +39,7 @@ scene-of-spec =
     (λ c κs. search needs)
     (λ c κs. search needs)
     (λ c κs. search needs)
-    (λ c κs. search needs)
+    blink-at-requires
     (λ c κs. search needs)
     (λ c κs. search needs)
     (λ c κs. search needs)
