@@ -1,6 +1,6 @@
 /* Draws a page as a picture: draw PAGE FONT FIELD > picture.pgm
-   PAGE and FONT are files; FIELD is the number of the frame to draw, which counts modulo 256.
-   A refused file, or one that cannot be read or written, ends it with 1; wrong arguments end it with 2. */
+   PAGE and FONT are files, - is standard input; FIELD is the number of the frame to draw, which counts modulo 256.
+   Exit status is 1 if a file is refused, or cannot be read or written, and 2 if the arguments are wrong. */
 #include <errno.h>
 #include <stdio.h>
 #include <stdlib.h>
@@ -12,7 +12,7 @@ static feldrime_page page;
 static feldrime_font font;
 static uint8_t picture[FELDRIME_PICTURE];
 
-/* One byte more than the longer kind of file has, so that a file that is too long reaches the library as one. */
+/* One byte more than the longer kind of file has: a file that is too long reaches the library as one. */
 static uint8_t file[FELDRIME_PAGE_FILE + 1];
 
 static void fail(const char *name)
@@ -25,7 +25,8 @@ static void judge(const char *name, feldrime_answer answer, const char *hint)
 {
     if (answer.refusal == FELDRIME_DONE)
         return;
-    fprintf(stderr, "draw: %s: refused %u, %s%s", name, (unsigned)answer.refusal, feldrime_meaning(answer.refusal), hint);
+    fprintf(stderr, "draw: %s: refused %u, %s%s", name, (unsigned)answer.refusal, feldrime_meaning(answer.refusal),
+            hint);
     if (answer.beside > 0)
         fprintf(stderr, "; clocks missing: %u", (unsigned)answer.beside);
     fputc('\n', stderr);
@@ -39,7 +40,7 @@ static uint8_t field_of(const char *text)
     size_t digits = strspn(text, "0123456789");
 
     if (digits == 0 || text[digits] != '\0') {
-        fprintf(stderr, "draw: FIELD is no number: %s\n", text);
+        fprintf(stderr, "draw: FIELD is not a number: %s\n", text);
         exit(2);
     }
     for (size_t i = 0; i < digits; i++)
@@ -49,14 +50,15 @@ static uint8_t field_of(const char *text)
 
 static size_t read_file(const char *name)
 {
-    FILE *stream = fopen(name, "rb");
+    FILE *stream = strcmp(name, "-") == 0 ? stdin : fopen(name, "rb");
 
     if (stream == NULL)
         fail(name);
     size_t count = fread(file, 1, sizeof file, stream);
     if (ferror(stream))
         fail(name);
-    fclose(stream);
+    if (stream != stdin)
+        fclose(stream);
     return count;
 }
 
@@ -80,12 +82,16 @@ int main(int count, char *arguments[])
         fputs("usage: draw PAGE FONT FIELD > picture.pgm\n", stderr);
         return 2;
     }
+    if (feldrime_version() != FELDRIME_VERSION) {
+        fputs("draw: feldrime.h and the library have different versions\n", stderr);
+        return 1;
+    }
     uint8_t field = field_of(arguments[3]);
     size_t bytes = read_file(arguments[1]);
-    judge(arguments[1], feldrime_read_page(&page, file, bytes),
+    judge(arguments[1], feldrime_load_page(&page, file, bytes),
           bytes == FELDRIME_FONT_FILE ? "; it has a font's size: PAGE comes before FONT" : "");
     bytes = read_file(arguments[2]);
-    judge(arguments[2], feldrime_read_font(&font, file, bytes),
+    judge(arguments[2], feldrime_load_font(&font, file, bytes),
           bytes == FELDRIME_PAGE_FILE ? "; it has a page's size: FONT comes after PAGE" : "");
     judge(arguments[1], feldrime_draw(&page, &font, field, picture, sizeof picture), "");
     write_picture();

@@ -3,36 +3,39 @@
 
    To draw a page, three calls:
 
-     feldrime_read_page(&page, bytes, count)                        takes a page file apart
-     feldrime_read_font(&font, bytes, count)                        takes a font file apart
+     feldrime_load_page(&page, bytes, count)                        takes a page file apart
+     feldrime_load_font(&font, bytes, count)                        takes a font file apart
      feldrime_draw(&page, &font, field, picture, sizeof picture)    draws all lines, a byte for each dot
 
-   bytes is the whole file. A program reads it into a buffer with room for one byte more than FELDRIME_PAGE_FILE or
-   FELDRIME_FONT_FILE, and hands over all that it read. If it asks for no more than the right size, a file that is too
-   long is cut to that size and accepted.
+   bytes is the whole file. Read it into a buffer with room for one byte more than FELDRIME_PAGE_FILE or
+   FELDRIME_FONT_FILE, and pass everything that was read. A program that asks for no more than the right size cuts a
+   file that is too long, and the cut file is accepted.
 
-   feldrime_size_of(&page) tells how many lines the picture has and how many dots a line has. What blinks goes by the
-   field count, which is the frame's number modulo 256; a still picture is field 0. examples/draw.c does just this.
-   feldrime_draw_line draws a single line, feldrime_cells_of tells which cells of the memories a row shows, and
-   feldrime_write_page makes a page file. feldrime_page_to_table makes a typed sheet a page with a row table, as those of
-   a catalogue are, and feldrime_page_to_sheet makes it a sheet again. feldrime_phrase_in tells which phrase of a list a
-   row comes from, and feldrime_phrases_differ whether such a list contradicts itself. All but the last are short forms of
-   calls over plain buffers, which stand before them and say what is refused. The calls for an editor, which steps a board
-   clock by clock, come last.
+   feldrime_size_of(&page) gives the number of lines in the picture and of dots in a line. Blinking depends on the field
+   count, which is the frame's number modulo 256; a still picture is field 0. examples/draw.c does just this.
+   feldrime_draw_one_line draws a single line, feldrime_cells_of gives the cells of the memories that a row shows, and
+   feldrime_save_page makes a page file. feldrime_make_table turns a typed sheet into a page with a row table, like
+   those of a catalogue, and feldrime_make_sheet turns it back. feldrime_phrase_in finds the phrase of a list that a row
+   comes from, and feldrime_phrases_differ finds out whether such a list contradicts itself. All but the last are short
+   forms of calls over plain buffers. The calls come first, and say what they refuse. The calls for an editor, which
+   steps a board clock by clock, come last.
+
+   No two names are the same words in another order: a call over buffers reads and writes a page (feldrime_page_read), a
+   short form loads and saves it (feldrime_load_page).
 
    For every call:
-   - A slice is a pointer and a count of elements, not of bytes. The pointer is NULL only where the count is 0; words and
-     cells are aligned as uint16_t is, phrases as uint32_t. Each count is checked: one that is wrong for the call is
-     refused. Of phrases there may be any number.
+   - A slice is a pointer and a count of elements, not of bytes. The pointer is NULL only if the count is 0; words and
+     cells are aligned like uint16_t, phrases like uint32_t. Each count is checked: one that is wrong for the call is
+     refused. A list of phrases may have any count.
    - A pointer without a count (board, page, font) is never NULL and points to one such struct.
    - A buffer that is written overlaps no other buffer of the call.
-   - A refused call leaves every lent buffer as it was. What stands beyond a drawn picture or line, a row's cells or a
-     written file stays.
-   - An answer is a struct by value. It begins with refusal, 0 where all was done, else the first that holds of the
-     numbers that stand at the call, in that order. beside belongs to 14 and 15: by how many clocks the front porch misses
-     2, which is HACT + HSYNC + HBP + 2 - HT; else it is 0. On a refusal the results are 0, unless the call says otherwise.
-     Compare answers field by field, since some have unused bytes between the fields.
-   - The library keeps nothing between calls, and has no state of its own. Threads may call it at the same time, as long
+   - A refused call leaves every buffer as it was. Whatever follows a drawn picture or line, the cells of a row or a
+     written file in its buffer stays as it was.
+   - An answer is a struct by value. It begins with refusal, which is 0 on success. Otherwise it is the first that
+     applies of the numbers listed at the call, in that order. beside belongs to 14 and 15: it is the number of clocks
+     by which the front porch misses 2, HACT + HSYNC + HBP + 2 - HT; otherwise it is 0. On a refusal the results are 0,
+     unless the call says otherwise. Compare answers field by field, since some have unused bytes between the fields.
+   - The library keeps nothing between calls and has no state of its own. Threads may call it at the same time, as long
      as a buffer that is being written is used by one call at a time. FELDRIME_STACK bytes of stack are enough for every
      call, and FELDRIME_STACK_SMALL for all but feldrime_picture_draw and feldrime_to_table. */
 #ifndef FELDRIME_H
@@ -45,10 +48,14 @@
 extern "C" {
 #endif
 
-/* The version of this header and of the archive that it belongs to. While it stays, all that is said here stays, though
-   calls may be added. With another version calls, structs, sizes and refusal numbers may be others, and so may what is
-   accepted and drawn: a program is then read through and compiled again. Files have versions of their own. */
-#define FELDRIME_VERSION 6
+/* The version of this header and of the library that it belongs to. As long as it stays the same, everything said here
+   holds, though calls may be added. Another version may have other calls, structs, sizes and refusal numbers, and may
+   accept and draw other things: read your program through and compile it again. Files have versions of their own. */
+#define FELDRIME_VERSION 7
+
+/* The version of the library. A program that may meet another library than the one it was compiled for, a shared one
+   for example, compares it with FELDRIME_VERSION and calls nothing else if they differ. */
+uint32_t feldrime_version(void);
 
 /* The sizes of buffers, in elements. */
 enum {
@@ -60,11 +67,11 @@ enum {
     FELDRIME_LINE = 3072,       /* room for the longest line: 256 cells of 12 dots */
     FELDRIME_PICTURE = 6291456, /* room for the largest picture: 2048 such lines */
     FELDRIME_CELLS = 256,       /* room for the cells of the longest row */
-    FELDRIME_PAGE_FILE = 32797, /* a page file has exactly so many bytes; a buffer for reading one has one more */
-    FELDRIME_FONT_FILE = 2455   /* and a font file so many; its buffer too has one more */
+    FELDRIME_PAGE_FILE = 32797, /* the exact size of a page file; a buffer for reading one has one byte more */
+    FELDRIME_FONT_FILE = 2455   /* the same for a font file */
 };
 
-/* Bytes of stack, with what a call's arguments take, and with what the dynamic linker takes at the first call. */
+/* Bytes of stack, including a call's arguments and what the dynamic linker uses at the first call. */
 enum { FELDRIME_STACK = 24576, FELDRIME_STACK_SMALL = 8192 };
 
 /* The level of a dot. */
@@ -149,13 +156,13 @@ static inline const char *feldrime_meaning(uint32_t refusal)
      1 - 15   IR0 to IR14
      16, 17   screen start 1, high byte first
      18, 19   cursor address, likewise
-     20, 21   screen start 2, likewise: where the row table stands
+     20, 21   screen start 2, likewise: where the row table is
      22       switches: bit 0 display, 1 cursor, 2 BKGND, 3 RBLANK, and in version 2 bit 4 field mode, 5 ACD; others 0
      23       dots in a cell
      24       strike line
-     25 - 31  0 where the library writes them, ignored where it reads them
+     25 - 31  written as 0, ignored when read
 
-   The fields of the IRs, where n is a field's code:
+   The fields of the IRs, n being a field's code:
 
      IR0[7]; [6:3]               rows have codes, which needs the row table; scan lines in a row, n + 1
      IR1[7]; [6:0]               must be 0; EC, n + 1
@@ -173,36 +180,37 @@ static inline const char *feldrime_meaning(uint32_t refusal)
 
    A page shows rows x scan lines lines, of HACT x dots dots each. Cells follow one another in memory; after the last
    buffer address comes the first, and after 16383 comes 0. Row 0 begins at screen start 1, and each later row where the
-   one before it ended: such a page is a sheet. With the row table on, row r begins at the address that two character
-   bytes hold, at screen start 2 + 2r and at the place after it, each modulo 16384: low byte, then high byte, of which six
+   one before it ended: such a page is a sheet. With the row table on, two character bytes hold the address where row r
+   begins, at screen start 2 + 2r and the address after it, each modulo 16384: low byte, then high byte, of which six
    bits count.
 
    While IR0[7] is set, the two upper bits of that high byte are the row's code: 00 plain, 01 double width, 10 double
-   width and top half, 11 double width and bottom half. A row of double width has half as many cells, rounded up: column c
-   shows cell c / 2, its left half in even columns and its right half in odd ones, each dot twice. With L scan lines in a
-   row, line l of a top half shows scan line l / 2, and of a bottom half (L + l) / 2, rounded down: so do its cursor,
-   underline and strike. Two rows, codes 10 and 11, that begin at the same cell make a headline of double height.
+   width and top half, 11 double width and bottom half. A row of double width has half as many cells, rounded up: column
+   c shows cell c / 2, its left half in even columns and its right half in odd ones, each dot twice. With L scan lines
+   in a row, line l of a top half shows scan line l / 2, and of a bottom half (L + l) / 2, rounded down: so do its
+   cursor, underline and strike. Two rows, codes 10 and 11, that begin at the same cell make a headline of double
+   height.
 
    A character byte is 80 hex + the character; below 80 hex the cell has no character. An attribute byte: bit 0 reverse,
    1 blank, 2 blink, 3 underline, 4 highlight (white for gray), 5 strike, and 7, AFLG, without which the others do not
-   count. Then the cell has none of them; but in field mode it has those of the last cell before it with AFLG, in the
-   order of fetching from row 0, column 0 on, or none. In field mode with ACD off a cell with AFLG shows no character, but
-   has its attributes, and its underline and strike; with ACD on it shows its character. Without field mode ACD says
-   nothing.
+   count. Such a cell has no attributes; but in field mode it has those of the last cell before it with AFLG, in the
+   order of fetching from row 0, column 0 on, if there is one. In field mode with ACD off a cell with AFLG shows no
+   character, but has its attributes, and its underline and strike; with ACD on it shows its character. Without field
+   mode ACD has no effect.
 
-   A cell's symbol is gray, or white if highlighted, on black. BKGND, reverse and the cursor each exchange the two, so
-   that two of them cancel. On the underline line underline makes all dots of the cell symbol, on the strike line strike
-   does. Blank hides the symbol, and so does blink while BLINK is on. The cursor, if its switch is on, stands on every
-   cell whose address is the cursor address, from the first to the last cursor line; where the first is above the last
-   there is none. With the display off every dot is black, or gray where BKGND is on and RBLANK off.
+   A cell's symbol is gray, or white if highlighted, on black. BKGND, reverse and the cursor each exchange the two; two
+   of them cancel. On the underline line underline makes all dots of the cell symbol, on the strike line strike does.
+   Blank hides the symbol, and so does blink while BLINK is on. The cursor, if its switch is on, is on every cell whose
+   address is the cursor address, from the first to the last cursor line; if the first is above the last there is none.
+   With the display off every dot is black, or gray if BKGND is on and RBLANK off.
 
    BLINK is on in the last quarter of its period: in fields 48 to 63 of each 64, or 96 to 127 of each 128. A cursor that
-   blinks is on in the first half of its own: in fields 0 to 15 of each 32, or 0 to 31 of each 64. So a picture can
-   change only at a field that 16 divides, and after 128 fields it is the same again: fields 0, 16, 32 .. 112 show all
-   looks of a page.
+   blinks is on in the first half of its own: in fields 0 to 15 of each 32, or 0 to 31 of each 64. A picture can change
+   only at a field that 16 divides, and after 128 fields it is the same again: fields 0, 16, 32 .. 112 show all looks of
+   a page.
 
    A font word has the leftmost dot in bit 0, and ten bits count. Word i of a character appears on the scan line that
-   position i of a list names: of the shifted list where the character's flag is not 0, else of the unshifted one. */
+   position i of a list names: of the shifted list if the character's flag is not 0, else of the unshifted one. */
 
 typedef struct {
     uint32_t refusal, beside;
@@ -223,9 +231,9 @@ typedef struct {
     uint32_t count; /* cells[0] to cells[count - 1] */
 } feldrime_cells;
 
-/* A record of a list of phrases: the cells first to first + length - 1. Which number stands for which language, and for
-   which phrase in it, is the list's own affair. Any four numbers may be handed over: 20 is for a record whose length is 0
-   or whose last cell is above 16383. */
+/* A record of a list of phrases: the cells first to first + length - 1. The list decides which number stands for which
+   language, and for which phrase in it. Any four numbers may be passed: 20 is for a record whose length is 0 or whose
+   last cell is above 16383. */
 typedef struct {
     uint32_t language, number, first, length;
 } feldrime_phrase;
@@ -242,11 +250,11 @@ typedef struct {
     size_t earlier, later; /* phrases[earlier] and phrases[later] */
 } feldrime_differ_answer;
 
-/* Could such a page be drawn? Refuses 3, 12, 4, 13, 14, 15, 6. */
+/* Can such a page be drawn? Refuses 3, 12, 4, 13, 14, 15, 6. */
 feldrime_answer feldrime_page_check(
     const uint8_t *numbers, size_t numbers_count);
 
-/* How large its picture is. Refuses 3, 12, 4, 13, 14, 15, 6. */
+/* The size of its picture. Refuses 3, 12, 4, 13, 14, 15, 6. */
 feldrime_size feldrime_page_size(
     const uint8_t *numbers, size_t numbers_count);
 
@@ -274,8 +282,8 @@ feldrime_answer feldrime_font_read(
     uint8_t *unshifted, size_t unshifted_count,
     uint8_t *shifted, size_t shifted_count);
 
-/* Draws all visible lines as they look in a field, end to end, to the first lines x dots bytes of out, where lines and
-   dots are as feldrime_page_size gives them. Refuses 3, 12, 4, 13, 14, 15, 6, 8. */
+/* Draws all visible lines as they look in a field, end to end, to the first lines x dots bytes of out. lines and dots
+   are as feldrime_page_size gives them. Refuses 3, 12, 4, 13, 14, 15, 6, 8. */
 feldrime_answer feldrime_picture_draw(
     const uint8_t *numbers, size_t numbers_count,
     const uint8_t *chars, size_t chars_count,
@@ -299,49 +307,49 @@ feldrime_answer feldrime_line_draw(
     uint32_t line, uint8_t field,
     uint8_t *out, size_t out_count);
 
-/* A row's first run of cells: from where the row begins to the row's end, the last buffer address or 16383, whichever is
-   met first. Cells are counted and not columns. Only a refusal has a count of 0. Refuses 3, 12, 4, 13, 14, 15, 6, 7. */
+/* A row's first run of cells: from where the row begins to the row's end, the last buffer address or 16383, whichever
+   comes first. It counts cells, not columns. Only a refusal has a count of 0. Refuses 3, 12, 4, 13, 14, 15, 6, 7. */
 feldrime_run feldrime_row_run(
     const uint8_t *numbers, size_t numbers_count,
     const uint8_t *chars, size_t chars_count,
     uint32_t row);
 
 /* All cells that a row shows: column c shows chars[cells[c]] and attrs[cells[c]], or in a row of double width those of
-   cells[c / 2]. Writes count elements: HACT, or in a row of double width half of it, rounded up; cells has FELDRIME_CELLS
-   or more. Refuses 3, 12, 4, 13, 14, 15, 6, 7. */
+   cells[c / 2]. Writes count elements: HACT, or in a row of double width half of it, rounded up; cells has
+   FELDRIME_CELLS or more. Refuses 3, 12, 4, 13, 14, 15, 6, 7. */
 feldrime_cells feldrime_row_cells(
     const uint8_t *numbers, size_t numbers_count,
     const uint8_t *chars, size_t chars_count,
     uint32_t row,
     uint16_t *cells, size_t cells_count);
 
-/* Makes a sheet a page with the row table, whose picture is the same in every field. Writes a table of two bytes a row,
-   the low byte first and the upper two bits of the high byte 0, into the lowest stretch of consecutive cells, not passing
-   16383, that no row fetches. Screen start 2 becomes the first of these cells, and IR2[7] is set. All else stays: the
-   other numbers, bytes 25 to 31 too, and the other cells. What the characters of the table's cells were is gone. Refuses
-   3, 12, 4, 13, 14, 15, 6, 16, 17. 16 is for a page that has the row table. */
+/* Turns a sheet into a page with the row table, with the same picture in every field. Writes a table of two bytes a
+   row, the low byte first and the upper two bits of the high byte 0, into the lowest stretch of consecutive cells, not
+   passing 16383, that no row fetches. Screen start 2 becomes the first of these cells, and IR2[7] is set. All else
+   stays: the other numbers, bytes 25 to 31 too, and the other cells. The characters of the table's cells are lost.
+   Refuses 3, 12, 4, 13, 14, 15, 6, 16, 17. 16 is for a page that has the row table. */
 feldrime_answer feldrime_to_table(
     uint8_t *numbers, size_t numbers_count,
     uint8_t *chars, size_t chars_count);
 
-/* The way back, for a page with the row table and without IR0[7], of which each row after the first begins where the row
-   before it ended: it becomes a sheet, whose picture is the same in every field. Screen start 1 becomes where row 0
-   begins, and IR2[7] is cleared. All else stays, the table in its cells too. So a sheet moved there and back differs only
-   in screen start 2 and in the table's cells. Refuses 3, 12, 4, 13, 14, 15, 6, 16, 19, 18. 16 is for a page without the
-   row table.
+/* The way back, for a page with the row table and without IR0[7] in which each row after the first begins where the row
+   before it ended: it becomes a sheet, with the same picture in every field. Screen start 1 becomes the address where
+   row 0 begins, and IR2[7] is cleared. All else stays, the table in its cells too. A sheet moved there and back differs
+   only in screen start 2 and in the table's cells. Refuses 3, 12, 4, 13, 14, 15, 6, 16, 19, 18. 16 is for a page
+   without the row table.
 
-   A board is moved by its numbers, either way: feldrime_numbers_of, the move, and then
-   board.page = feldrime_board_of(numbers, FELDRIME_NUMBERS).board.page, which leaves place, pointer and resets. Moved at a
-   clock that its own steps led to, it goes on showing the same. */
+   To move a board either way, call feldrime_numbers_of, move these numbers, and then set
+   board.page = feldrime_board_of(numbers, FELDRIME_NUMBERS).board.page, which leaves place, pointer and resets. A board
+   that reached its clock by steps of its own goes on showing the same picture. */
 feldrime_answer feldrime_to_sheet(
     uint8_t *numbers, size_t numbers_count,
     const uint8_t *chars, size_t chars_count);
 
-/* The phrase that a row comes from: the first record in the list whose cells hold every cell that the row fetches, all
-   that feldrime_row_cells gives. Where none does, found and position are 0. Records may stand in any order, overlap and
-   stand twice, and the list may be empty. The cells of a row that runs past the last buffer address, or past 16383, do
-   not follow one another: only a record that holds all between as well holds them. Refuses 3, 12, 4, 13, 14, 15, 6, 7,
-   20; with 20 position is the first such record. */
+/* The phrase that a row comes from: the first record in the list whose cells include every cell that the row fetches,
+   as feldrime_row_cells gives them. If there is none, found and position are 0. Records may come in any order, overlap
+   and repeat, and the list may be empty. The cells of a row that runs past the last buffer address, or past 16383, are
+   not consecutive: only a record that also holds every cell between holds them. Refuses 3, 12, 4, 13, 14, 15, 6, 7, 20;
+   with 20 position is the first such record. */
 feldrime_phrase_answer feldrime_phrase_of_row(
     const uint8_t *numbers, size_t numbers_count,
     const uint8_t *chars, size_t chars_count,
@@ -349,15 +357,15 @@ feldrime_phrase_answer feldrime_phrase_of_row(
     uint32_t row);
 
 /* Whether two records of the same language and number differ in first or length, and which: of all such pairs the one
-   whose earlier record stands first and, of those, the one whose later record does. Where there is none, found, earlier
-   and later are 0. Refuses 20; then earlier is the first such record. */
+   whose earlier record comes first and, of those, the one whose later record does. If there is none, found, earlier and
+   later are 0. Refuses 20; then earlier is the first such record. */
 feldrime_differ_answer feldrime_phrases_differ(
     const feldrime_phrase *phrases, size_t phrases_count);
 
 /* ---- short forms: a page and a font as structs ---- */
 
-/* Some 32 KB, so better static or allocated than on a small stack. The parts may be read and changed at will: typing is
-   writing into chars and attrs, and the next call shows it. */
+/* About 32 KB, so better static or allocated than on a small stack. The parts may be read and changed at will: to type
+   is to write into chars and attrs, and the next call shows it. */
 typedef struct {
     uint8_t numbers[FELDRIME_NUMBERS];
     uint8_t chars[FELDRIME_MEMORY];
@@ -372,7 +380,7 @@ typedef struct {
 } feldrime_font;
 
 /* feldrime_page_read */
-static inline feldrime_answer feldrime_read_page(
+static inline feldrime_answer feldrime_load_page(
     feldrime_page *page,
     const uint8_t *file, size_t file_count)
 {
@@ -381,7 +389,7 @@ static inline feldrime_answer feldrime_read_page(
 }
 
 /* feldrime_page_write */
-static inline feldrime_answer feldrime_write_page(
+static inline feldrime_answer feldrime_save_page(
     const feldrime_page *page,
     uint8_t *out, size_t out_count)
 {
@@ -390,7 +398,7 @@ static inline feldrime_answer feldrime_write_page(
 }
 
 /* feldrime_font_read */
-static inline feldrime_answer feldrime_read_font(
+static inline feldrime_answer feldrime_load_font(
     feldrime_font *font,
     const uint8_t *file, size_t file_count)
 {
@@ -418,7 +426,7 @@ static inline feldrime_answer feldrime_draw(
 }
 
 /* feldrime_line_draw */
-static inline feldrime_answer feldrime_draw_line(
+static inline feldrime_answer feldrime_draw_one_line(
     const feldrime_page *page, const feldrime_font *font,
     uint32_t line, uint8_t field,
     uint8_t *out, size_t out_count)
@@ -449,14 +457,14 @@ static inline feldrime_phrase_answer feldrime_phrase_in(
 }
 
 /* feldrime_to_table */
-static inline feldrime_answer feldrime_page_to_table(
+static inline feldrime_answer feldrime_make_table(
     feldrime_page *page)
 {
     return feldrime_to_table(page->numbers, FELDRIME_NUMBERS, page->chars, FELDRIME_MEMORY);
 }
 
 /* feldrime_to_sheet */
-static inline feldrime_answer feldrime_page_to_sheet(
+static inline feldrime_answer feldrime_make_sheet(
     feldrime_page *page)
 {
     return feldrime_to_sheet(page->numbers, FELDRIME_NUMBERS, page->chars, FELDRIME_MEMORY);
@@ -464,11 +472,11 @@ static inline feldrime_answer feldrime_page_to_sheet(
 
 /* ---- for an editor ---- */
 
-/* The whole state of a board, for an editor that steps it clock by clock. Any numbers may be handed over: the calls
-   judge them. Compare boards field by field, since there are unused bytes between the fields.
+/* The whole state of a board, for an editor that steps it clock by clock. Any numbers may be passed: the calls judge
+   them. Compare boards field by field, since there are unused bytes between the fields.
 
-   A board holds neither memories nor font. They are lent to each step, which shows what stands there then; so typing is
-   writing into chars and attrs, and takes no call.
+   A board holds neither memories nor font. They are passed to each step, which shows what they hold at that moment; to
+   type is to write into chars and attrs, and takes no call.
 
    A frame has VT = rows x scan lines + VFP + VSYNC + VBP lines, in this order: the visible ones come first, from line 0
    on, with the numbers that they have in a picture. A line has HT clocks: HACT active ones, from clock 0 on, then front
@@ -478,13 +486,13 @@ static inline feldrime_answer feldrime_page_to_sheet(
 
    latch is the attribute byte that is valid before the beam's cell, and the one that the row began with; 0 is none. In
    field mode a fetch of a cell with AFLG sets it, with the display off too. Row 0 of a frame begins with none, a later
-   row with what the beam has then, and each line of a row with the row's own. A latch handed over without AFLG, or without
+   row with what the beam has then, and each line of a row with the row's own. A latch passed without AFLG, or without
    field mode, counts as 0, and a step leaves 0.
 
-   code is that of the beam's row, and is taken over with the row's start. A row of double width fetches on even columns,
-   shows that cell and its cursor again on the odd one after, and moves on then, or after an even column that is the
-   line's last. In field mode a cell with AFLG sets the latch on its even column, and its odd column shows what is latched
-   then. Two bits of code count, and none without IR0[7]; a step leaves what counts. */
+   code is that of the beam's row, and is taken over with the row's start. A row of double width fetches on even
+   columns, shows that cell and its cursor again on the odd one after, and moves on then, or after an even column that
+   is the line's last. In field mode a cell with AFLG sets the latch on its even column, and its odd column shows what
+   is latched then. Two bits of code count, and none without IR0[7]; a step leaves what counts. */
 typedef struct {
     struct {
         uint8_t version; /* 1 or 2; any other counts as 1, and is written as 1 */
@@ -532,34 +540,34 @@ typedef struct {
     uint8_t dots[12];                            /* levels; 0 in the places past the cell's dots */
 } feldrime_step_answer;
 
-/* The board after power: version 1, and zeros throughout, so it is inactive until two master resets in a row. A step
+/* The board after power on: version 1, and zeros throughout, so it is inactive until two master resets in a row. A step
    refuses it until its IRs are written (13) and its dots are set (6). */
 feldrime_board feldrime_power(void);
 
-/* An active board with a page's numbers, at clock 0, its pointer at IR0. Refuses 3, 12, 4, 13, 14, 15, 6; refused, it
-   gives the board after power. */
+/* An active board with a page's numbers, at clock 0, its pointer at IR0. Refuses 3, 12, 4, 13, 14, 15, 6 and then gives
+   the board after power on. */
 feldrime_board_answer feldrime_board_of(
     const uint8_t *numbers, size_t numbers_count);
 
-/* The way back: a board's page as numbers, for feldrime_page_write and the calls that draw. Writes all of numbers. Place,
-   pointer and resets play no part. Refuses 3, 12, 4, 13, 14, 15, 6. */
+/* The way back: a board's page as numbers, for feldrime_page_write and the calls that draw. Writes all of numbers.
+   Place, pointer and resets have no effect. Refuses 3, 12, 4, 13, 14, 15, 6. */
 feldrime_answer feldrime_numbers_of(
     feldrime_board board,
     uint8_t *numbers, size_t numbers_count);
 
-/* The board with these dots in a cell, strike line, BKGND and RBLANK, of which any number but 0 is on. Refuses 12, 6;
-   refused, it gives the old board. 12 is for the board's three addresses and switches and for the strike line handed
-   over, 6 for the dots handed over; nothing else is judged, neither place nor pointer. Switches 4 and 5 are kept. */
+/* The board with these dots in a cell, strike line, BKGND and RBLANK; for the last two any number but 0 is on. Refuses
+   12, 6 and then gives the old board. 12 is for the board's three addresses and switches and for the strike line
+   passed, 6 for the dots passed; nothing else is judged, neither place nor pointer. Switches 4 and 5 are kept. */
 feldrime_board_answer feldrime_set_video(
     feldrime_board board,
     uint8_t dots, uint8_t strike, uint8_t bkgnd, uint8_t rblank);
 
-/* Writes a byte to a register. Refuses 12, 7, 9, 10; refused, it gives the old board. 12 is for the board's three
+/* Writes a byte to a register. Refuses 12, 7, 9, 10 and then gives the old board. 12 is for the board's three
    addresses, switches and strike line, 7 for its pointer alone: the place, the IRs and the dots are not judged here.
 
      0       the IR that the pointer names; the pointer then moves on, and stays at IR14
-     1       a command, in hex: 00 master reset; 10 to 1E load IR pointer; 28, 29 display off, on; 30, 31 cursor off, on;
-             38, 39 both off, on; in the last six bit 2 is ignored
+     1       a command, in hex: 00 master reset; 10 to 1E load IR pointer; 28, 29 display off, on; 30, 31 cursor off,
+             on; 38, 39 both off, on; in the last six bit 2 is ignored
      2, 3    screen start 1, low byte, high byte, of which six bits count
      4, 5    cursor address, likewise
      6, 7    screen start 2, likewise
@@ -567,34 +575,34 @@ feldrime_board_answer feldrime_set_video(
    A master reset sets the place to clock 0, its field too, the pointer to IR0, and display and cursor off. All else is
    kept: version, IRs, addresses, the other switches, dots and strike line. An active board stays active.
 
-   An inactive board takes master resets only. Any other write is answered by 0 and breaks their run. The board can be
-   read, set by feldrime_set_video and stepped all the same, its display off whatever the switch says.
+   An inactive board takes master resets only. Any other write is answered by 0 and only ends a run of resets. The board
+   can still be read, set by feldrime_set_video and stepped; its display is off whatever the switch says.
 
-   A write to an IR can make line or frame so short that the board's place is out of range, or leave a page that cannot
-   be drawn: the next step is then refused 7, or 4, 13, 14 or 15. The ways out of 7: write the IR as it was; write a
-   master reset; set place.line and place.clock to 0; take the board through feldrime_numbers_of and feldrime_board_of,
-   which begins at clock 0 and leaves display and cursor as they were. feldrime_state_at is none: it judges the place
-   too. */
-feldrime_board_answer feldrime_write(
+   A write to an IR can make the line or frame so short that the board's place is out of range, or leave a page that
+   cannot be drawn: the next step is then refused 7, or 4, 13, 14 or 15. The ways out of 7: write the IR as it was;
+   write a master reset; set place.line and place.clock to 0; take the board through feldrime_numbers_of and
+   feldrime_board_of, which begins at clock 0 and leaves display and cursor as they were. feldrime_state_at is not one:
+   it judges the place too. */
+feldrime_board_answer feldrime_register_write(
     feldrime_board board,
     uint8_t address, uint8_t byte);
 
-/* Reads a register: addresses 2 to 7 as above, 0 and 1 give 0. Refuses 12, 7, 9; 12 and 7 as a write does. */
-feldrime_byte feldrime_read(
+/* Reads a register: addresses 2 to 7 as above, 0 and 1 give 0. Refuses 12, 7, 9; 12 and 7 as for a write. */
+feldrime_byte feldrime_register_read(
     feldrime_board board,
     uint8_t address);
 
-/* The board at clock n, counted from clock 0 and not from the board's place, which is judged all the same. Refuses 3, 12,
-   4, 13, 14, 15, 6, 7; refused, it gives the old board. */
+/* The board at clock n, counted from clock 0 and not from the board's place, which is judged all the same. Refuses 3,
+   12, 4, 13, 14, 15, 6, 7 and then gives the old board. */
 feldrime_board_answer feldrime_state_at(
     feldrime_board board,
     const uint8_t *chars, size_t chars_count,
     const uint8_t *attrs, size_t attrs_count,
     uint32_t n);
 
-/* One clock: gives what the board puts out at its place, and moves the board on to the next clock where it stands.
-   Refuses 3, 12, 4, 13, 14, 15, 6, 7; refused, it leaves the board. 7 is for a line of VT or above, a clock of HT or
-   above, an address or row start above 16383, and a pointer above 14. */
+/* One clock: gives what the board puts out at its place, and moves the board itself on to the next clock. Refuses 3,
+   12, 4, 13, 14, 15, 6, 7 and then leaves the board as it was. 7 is for a line of VT or above, a clock of HT or above,
+   an address or row start above 16383, and a pointer above 14. */
 feldrime_step_answer feldrime_step(
     feldrime_board *board,
     const uint8_t *chars, size_t chars_count,
@@ -604,7 +612,7 @@ feldrime_step_answer feldrime_step(
     const uint8_t *unshifted, size_t unshifted_count,
     const uint8_t *shifted, size_t shifted_count);
 
-/* feldrime_step, with the memories of a page; the page's numbers play no part, since the board has its own */
+/* feldrime_step, with the memories of a page; the page's numbers have no effect, since the board has its own */
 static inline feldrime_step_answer feldrime_tick(
     feldrime_board *board,
     const feldrime_page *page, const feldrime_font *font)

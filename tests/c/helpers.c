@@ -1,8 +1,8 @@
 /* The header's short forms beside the calls that they stand for: helpers FONT PAGE..
    Each is asked with the same bytes and counts, good and bad, and both have to answer the same and to leave the same behind. The pages
    have to be of both attribute modes, and sheets and others. Then sentences of the header: in which fields a picture can change, what
-   a move leaves as it was, which record is a row's phrase and which two disagree, and that every refusal has words of its own. C99 and
-   C++11. */
+   a move leaves as it was, which record is a row's phrase and which two disagree, that every refusal has words of its own, and that header
+   and library have one version. C99 and C++11. */
 #include <stdio.h>
 #include <stdlib.h>
 #include <string.h>
@@ -69,15 +69,15 @@ static size_t load(const char *name)
 
 static uint32_t read_font(size_t count)
 {
-    feldrime_answer ours = feldrime_read_font(&font, file, count);
+    feldrime_answer ours = feldrime_load_font(&font, file, count);
     feldrime_answer theirs = feldrime_font_read(file, count, words, FELDRIME_WORDS, flags, FELDRIME_FLAGS,
                                                 unshifted, FELDRIME_LIST, shifted, FELDRIME_LIST);
 
-    answers(&ours, &theirs, sizeof ours, theirs.refusal, "feldrime_read_font answers otherwise");
-    same(font.words, words, sizeof words, "feldrime_read_font: words");
-    same(font.flags, flags, sizeof flags, "feldrime_read_font: flags");
-    same(font.unshifted, unshifted, sizeof unshifted, "feldrime_read_font: unshifted");
-    same(font.shifted, shifted, sizeof shifted, "feldrime_read_font: shifted");
+    answers(&ours, &theirs, sizeof ours, theirs.refusal, "feldrime_load_font answers otherwise");
+    same(font.words, words, sizeof words, "feldrime_load_font: words");
+    same(font.flags, flags, sizeof flags, "feldrime_load_font: flags");
+    same(font.unshifted, unshifted, sizeof unshifted, "feldrime_load_font: unshifted");
+    same(font.shifted, shifted, sizeof shifted, "feldrime_load_font: shifted");
     return theirs.refusal;
 }
 
@@ -95,12 +95,12 @@ static void set_number(int place, uint8_t byte)
 
 static uint32_t read_page(size_t count)
 {
-    feldrime_answer ours = feldrime_read_page(&page, file, count);
+    feldrime_answer ours = feldrime_load_page(&page, file, count);
     feldrime_answer theirs = feldrime_page_read(file, count, numbers, FELDRIME_NUMBERS, chars, FELDRIME_MEMORY,
                                                 attrs, FELDRIME_MEMORY);
 
-    answers(&ours, &theirs, sizeof ours, theirs.refusal, "feldrime_read_page answers otherwise");
-    same_pages("feldrime_read_page: the page");
+    answers(&ours, &theirs, sizeof ours, theirs.refusal, "feldrime_load_page answers otherwise");
+    same_pages("feldrime_load_page: the page");
     return theirs.refusal;
 }
 
@@ -121,14 +121,14 @@ static void read_all(uint32_t (*read_one)(size_t), size_t count)
 static void write_page(size_t room)
 {
     fill_outs();
-    feldrime_answer ours = feldrime_write_page(&page, out[0], room);
+    feldrime_answer ours = feldrime_save_page(&page, out[0], room);
     feldrime_answer theirs = feldrime_page_write(numbers, FELDRIME_NUMBERS, chars, FELDRIME_MEMORY,
                                                  attrs, FELDRIME_MEMORY, out[1], room);
 
-    answers(&ours, &theirs, sizeof ours, theirs.refusal, "feldrime_write_page answers otherwise");
-    same(out[0], out[1], ROOM, "feldrime_write_page: out");
+    answers(&ours, &theirs, sizeof ours, theirs.refusal, "feldrime_save_page answers otherwise");
+    same(out[0], out[1], ROOM, "feldrime_save_page: out");
     if (theirs.refusal == FELDRIME_DONE)
-        same(out[0], file, FELDRIME_PAGE_FILE, "feldrime_write_page: not the file that was read");
+        same(out[0], file, FELDRIME_PAGE_FILE, "feldrime_save_page: not the file that was read");
 }
 
 static feldrime_size size_of_page(void)
@@ -155,14 +155,14 @@ static void draw_line(uint32_t line, uint8_t field, size_t room)
 {
     memset(out[0], 0xA5, FELDRIME_LINE);
     memset(out[1], 0xA5, FELDRIME_LINE);
-    feldrime_answer ours = feldrime_draw_line(&page, &font, line, field, out[0], room);
+    feldrime_answer ours = feldrime_draw_one_line(&page, &font, line, field, out[0], room);
     feldrime_answer theirs = feldrime_line_draw(numbers, FELDRIME_NUMBERS, chars, FELDRIME_MEMORY,
                                                 attrs, FELDRIME_MEMORY, words, FELDRIME_WORDS, flags, FELDRIME_FLAGS,
                                                 unshifted, FELDRIME_LIST, shifted, FELDRIME_LIST, line, field,
                                                 out[1], room);
 
-    answers(&ours, &theirs, sizeof ours, theirs.refusal, "feldrime_draw_line answers otherwise");
-    same(out[0], out[1], FELDRIME_LINE, "feldrime_draw_line: out");
+    answers(&ours, &theirs, sizeof ours, theirs.refusal, "feldrime_draw_one_line answers otherwise");
+    same(out[0], out[1], FELDRIME_LINE, "feldrime_draw_one_line: out");
 }
 
 static void cells_of_row(uint32_t row, size_t room)
@@ -289,21 +289,21 @@ static void short_line(void)
 
 static uint32_t to_table(void)
 {
-    feldrime_answer ours = feldrime_page_to_table(&page);
+    feldrime_answer ours = feldrime_make_table(&page);
     feldrime_answer theirs = feldrime_to_table(numbers, FELDRIME_NUMBERS, chars, FELDRIME_MEMORY);
 
-    answers(&ours, &theirs, sizeof ours, theirs.refusal, "feldrime_page_to_table answers otherwise");
-    same_pages("feldrime_page_to_table: the page");
+    answers(&ours, &theirs, sizeof ours, theirs.refusal, "feldrime_make_table answers otherwise");
+    same_pages("feldrime_make_table: the page");
     return theirs.refusal;
 }
 
 static uint32_t to_sheet(void)
 {
-    feldrime_answer ours = feldrime_page_to_sheet(&page);
+    feldrime_answer ours = feldrime_make_sheet(&page);
     feldrime_answer theirs = feldrime_to_sheet(numbers, FELDRIME_NUMBERS, chars, FELDRIME_MEMORY);
 
-    answers(&ours, &theirs, sizeof ours, theirs.refusal, "feldrime_page_to_sheet answers otherwise");
-    same_pages("feldrime_page_to_sheet: the page");
+    answers(&ours, &theirs, sizeof ours, theirs.refusal, "feldrime_make_sheet answers otherwise");
+    same_pages("feldrime_make_sheet: the page");
     return theirs.refusal;
 }
 
@@ -471,6 +471,7 @@ int main(int count, char *arguments[])
     for (int i = 2; i < count; i++)
         different += compare_page(load(arguments[i]));
     meanings();
+    expect(feldrime_version() == FELDRIME_VERSION, "the header and the library have different versions");
     expect(different > 0, "no page blinks, so that fields were compared in vain");
     expect(latching > 0 && latching < (unsigned)count - 2, "not both attribute modes were met");
     expect(sheets > 0 && sheets < (unsigned)count - 2, "not both sheets and pages with a row table were met");

@@ -46,6 +46,7 @@ static struct lent base, made, now, expected;
 static uint8_t picture[FELDRIME_PICTURE], expected_picture[FELDRIME_PICTURE];
 
 union answer {
+    uint32_t version;
     feldrime_answer answer;
     feldrime_size size;
     feldrime_run run;
@@ -75,6 +76,7 @@ static union answer got, expected_answer;
         got.part = feldrime_##name(__VA_ARGS__); \
     }
 
+CALL(version, version, )
 CALL(page_check, answer, NUMBERS)
 CALL(page_size, size, NUMBERS)
 CALL(page_read, answer, FILE_BYTES, NUMBERS, CHARS, ATTRS)
@@ -92,8 +94,8 @@ CALL(power, power, )
 CALL(board_of, board, NUMBERS)
 CALL(numbers_of, answer, now.board, NUMBERS)
 CALL(set_video, board, now.board, now.byte, now.address, now.field, now.byte)
-CALL(write, board, now.board, now.address, now.byte)
-CALL(read, byte, now.board, now.address)
+CALL(register_write, board, now.board, now.address, now.byte)
+CALL(register_read, byte, now.board, now.address)
 CALL(state_at, board, now.board, CHARS, ATTRS, now.clock)
 CALL(step, step, &now.board, CHARS, ATTRS, FONT)
 
@@ -104,6 +106,7 @@ static const struct call {
     void (*run)(void);
     size_t bytes; /* of stack */
 } calls[] = {
+    TRY(version, SMALL_STACK),
     TRY(page_check, SMALL_STACK),
     TRY(page_size, SMALL_STACK),
     TRY(page_read, SMALL_STACK),
@@ -121,13 +124,19 @@ static const struct call {
     TRY(board_of, SMALL_STACK),
     TRY(numbers_of, SMALL_STACK),
     TRY(set_video, SMALL_STACK),
-    TRY(write, SMALL_STACK),
-    TRY(read, SMALL_STACK),
+    TRY(register_write, SMALL_STACK),
+    TRY(register_read, SMALL_STACK),
     TRY(state_at, SMALL_STACK),
     TRY(step, SMALL_STACK),
 };
 
 enum { CALLS = sizeof calls / sizeof *calls };
+
+/* Whether the answer has no refusal. */
+static bool never_refuses(const struct call *call)
+{
+    return call->run == call_version || call->run == call_power;
+}
 
 /* Makes zeros of the unused bytes between a board's fields. */
 static void clean_board(feldrime_board *board)
@@ -164,7 +173,7 @@ static void clean_answer(void (*run)(void))
     memset(&clean, 0, sizeof clean);
     if (run == call_power) {
         clean_board(&got.power);
-    } else if (run == call_board_of || run == call_set_video || run == call_write || run == call_state_at) {
+    } else if (run == call_board_of || run == call_set_video || run == call_register_write || run == call_state_at) {
         clean_board(&got.board.board);
     } else if (run == call_phrase_of_row) {
         clean.phrase.refusal = got.phrase.refusal;
@@ -482,7 +491,7 @@ static bool try_once(const struct call *call, size_t bytes, int variant)
     used = used_of(bytes);
     if (used > shared->used)
         shared->used = used;
-    *(call->run == call_power || got.answer.refusal == 0 ? &shared->done : &shared->refused) += 1;
+    *(never_refuses(call) || got.answer.refusal == 0 ? &shared->done : &shared->refused) += 1;
     return same(call);
 }
 
@@ -566,7 +575,7 @@ static bool stays_within(const struct call *call)
     }
     printf("%-24s used %5zu of %5zu bytes, in %3u calls done and %3u refused\n", call->name, shared->used,
            call->bytes, shared->done, shared->refused);
-    if (shared->done != 0 && (shared->refused != 0 || call->run == call_power))
+    if (shared->done != 0 && (shared->refused != 0 || never_refuses(call)))
         return true;
     printf("stack: %s was never done, or never refused\n", call->name);
     return false;

@@ -9,7 +9,7 @@ use Rattle.numbers.specs.Numbers.{numbersCheck}
 use Rattle.feldrime.specs.declared.Answer.{Answer}
 use Rattle.feldrime.specs.declared.CellsAnswer.{CellsAnswer}
 use Rattle.feldrime.specs.declared.StepAnswer.{StepAnswer}
-use Rattle.feldrime.specs.Answers.{answerOf}
+use Rattle.feldrime.specs.Answers.{archiveVersion, answerOf}
 use Rattle.feldrime.specs.Pages.{sizeFor, runFor, boardFor, ReadsPageFor, WritesPageFor, ReadsFontFor, GivesNumbersFor}
 use Rattle.feldrime.specs.LineDraw.{DrawsLineFor}
 use Rattle.feldrime.specs.PictureDraw.{DrawsPictureFor}
@@ -20,6 +20,9 @@ use Rattle.records.specs.Records.{phrasesDiffer}
 use Rattle.feldrime.specs.Phrases.{phraseFor}
 use Rattle.feldrime.specs.Step.{stepNumbers, StepsFor}
 use Rattle.feldrime.specs.Boards.{setVideoFor, writeFor, readFor, stateFor}
+
+pub version-for-c-one : OneAnswer (λ r. r ≡ archiveVersion)
+version-for-c-one = only _
 
 pub page-check-for-c-one : (numbers : List ℕ) → OneAnswer (λ r. r ≡ answerOf (numbersCheck numbers))
 page-check-for-c-one numbers = only _

@@ -10,6 +10,10 @@ use Rattle.feldrime.specs.declared.CellsAnswer.{CellsAnswer}
 use Rattle.feldrime.specs.declared.BoardAnswer.{BoardAnswer}
 use Rattle.feldrime.specs.declared.ByteAnswer.{ByteAnswer}
 
+-- FELDRIME_VERSION of the header that this archive belongs to
+abbrev pub archiveVersion : ℕ
+archiveVersion = 7
+
 abbrev pub answerOf : Refusal → Answer
 answerOf r = record { refusal = numberOf r; beside = besideOf r }
 

@@ -5,7 +5,7 @@ ghost use Rattle.board.specs.State.{powerOf};
 ghost use Rattle.shape.specs.Font.{lentFont, leftFont};
 ghost use Rattle.records.specs.Records.{phrasesDiffer};
 ghost use Rattle.numbers.specs.Numbers.{numbersCheck};
-ghost use Rattle.feldrime.specs.Answers.{answerOf, boardAnswer};
+ghost use Rattle.feldrime.specs.Answers.{archiveVersion, answerOf, boardAnswer};
 ghost use Rattle.feldrime.specs.Pages.{sizeFor, runFor, boardFor, ReadsPageFor, WritesPageFor, ReadsFontFor, GivesNumbersFor};
 ghost use Rattle.feldrime.specs.LineDraw.{DrawsLineFor};
 ghost use Rattle.feldrime.specs.PictureDraw.{DrawsPictureFor};
@@ -14,6 +14,13 @@ ghost use Rattle.feldrime.specs.Catalogue.{MovesToTableFor, MovesToSheet
 ghost use Rattle.feldrime.specs.Phrases.{phraseFor, askedFor};
 ghost use Rattle.feldrime.specs.Step.{numbered, stepNumbers, StepsFor};
 ghost use Rattle.feldrime.specs.Boards.{setVideoFor, writeFor, readFor, stateFor};
+
+#[no_mangle]
+pub extern "C" fn feldrime_version() -> u32
+    ensures { λ r. ⌜ r ≡ archiveVersion ⌝ }
+{
+    7
+}
 
 // The refusal's number, and the number beside it.
 #[repr(C)]
@@ -384,7 +391,7 @@ pub extern "C" fn feldrime_set_video(
 }
 
 #[no_mangle]
-pub extern "C" fn feldrime_write(b: board::Board, address: u8, byte: u8) -> BoardAnswer
+pub extern "C" fn feldrime_register_write(b: board::Board, address: u8, byte: u8) -> BoardAnswer
     ensures { λ r. ⌜ r ≡ writeFor b address byte ⌝ }
 {
     let w = registers::write(b, address, byte);
@@ -401,7 +408,7 @@ pub struct ByteAnswer {
 }
 
 #[no_mangle]
-pub extern "C" fn feldrime_read(b: board::Board, address: u8) -> ByteAnswer
+pub extern "C" fn feldrime_register_read(b: board::Board, address: u8) -> ByteAnswer
     ensures { λ r. ⌜ r ≡ readFor b address ⌝ }
 {
     let read = registers::read(b, address);

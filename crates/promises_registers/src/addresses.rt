@@ -12,17 +12,17 @@ ghost use Rattle.promises_registers.specs.Addresses.{keptAt};
 pub fn read_again(b: board::Board, address: u8, byte: u8) -> ByteAnswer
     ensures { λ r. ⌜ (Ready b → 2 ≤ address → address ≤ 7 → r ≡ byteAnswer Refusal.Done (keptAt address byte)) ⌝ }
 {
-    let put = feldrime::feldrime_write(b, address, byte);
+    let put = feldrime::feldrime_register_write(b, address, byte);
     let board = put.board;
-    feldrime::feldrime_read(board, address)
+    feldrime::feldrime_register_read(board, address)
 }
 
 // The byte that was read there before, written back, makes it the old board again.
 pub fn put_back(b: board::Board, address: u8, byte: u8) -> BoardAnswer
     ensures { λ r. ⌜ (Ready b → 2 ≤ address → address ≤ 7 → r ≡ boardAnswer Refusal.Done b) ⌝ }
 {
-    let old = feldrime::feldrime_read(b, address);
-    let put = feldrime::feldrime_write(b, address, byte);
+    let old = feldrime::feldrime_register_read(b, address);
+    let put = feldrime::feldrime_register_write(b, address, byte);
     let board = put.board;
-    feldrime::feldrime_write(board, address, old.byte as u8)
+    feldrime::feldrime_register_write(board, address, old.byte as u8)
 }

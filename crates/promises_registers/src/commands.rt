@@ -14,11 +14,11 @@ pub fn woken(byte: u8) -> BoardAnswer
     ensures { λ r. ⌜ r ≡ boardAnswer Refusal.Done (loadedFirst byte) ⌝ }
 {
     let off = feldrime::feldrime_power();
-    let once = feldrime::feldrime_write(off, 1, 0);
+    let once = feldrime::feldrime_register_write(off, 1, 0);
     let one = once.board;
-    let twice = feldrime::feldrime_write(one, 1, 0);
+    let twice = feldrime::feldrime_register_write(one, 1, 0);
     let two = twice.board;
-    feldrime::feldrime_write(two, 0, byte)
+    feldrime::feldrime_register_write(two, 0, byte)
 }
 
 // After one reset it is not: a write at 0 loads nothing, and the reset no longer counts.
@@ -26,32 +26,32 @@ pub fn half_woken(byte: u8) -> BoardAnswer
     ensures { λ r. ⌜ r ≡ boardAnswer Refusal.Done powerOf ⌝ }
 {
     let off = feldrime::feldrime_power();
-    let once = feldrime::feldrime_write(off, 1, 0);
+    let once = feldrime::feldrime_register_write(off, 1, 0);
     let one = once.board;
-    feldrime::feldrime_write(one, 0, byte)
+    feldrime::feldrime_register_write(one, 0, byte)
 }
 
 // 10 to 1E hex: the next write at 0 loads the register that the command names, and no other.
 pub fn pointed_load(b: board::Board, command: u8, byte: u8) -> BoardAnswer
     ensures { λ r. ⌜ (Ready b → 16 ≤ command → command ≤ 30 → r ≡ boardAnswer Refusal.Done (loadedAt b (command - 16) byte)) ⌝ }
 {
-    let pointed = feldrime::feldrime_write(b, 1, command);
+    let pointed = feldrime::feldrime_register_write(b, 1, command);
     let board = pointed.board;
-    feldrime::feldrime_write(board, 0, byte)
+    feldrime::feldrime_register_write(board, 0, byte)
 }
 
 // Two commands for display and cursor: each is as the last command says that names it, else as it was.
 pub fn switched(b: board::Board, first: u8, second: u8) -> BoardAnswer
     ensures { λ r. ⌜ (Ready b → switching first ≡ true → switching second ≡ true → r ≡ boardAnswer Refusal.Done (switchedBy b first second)) ⌝ }
 {
-    let once = feldrime::feldrime_write(b, 1, first);
+    let once = feldrime::feldrime_register_write(b, 1, first);
     let board = once.board;
-    feldrime::feldrime_write(board, 1, second)
+    feldrime::feldrime_register_write(board, 1, second)
 }
 
 // Every other byte is refused by 10, and the board stays.
 pub fn not_carried(b: board::Board, command: u8) -> BoardAnswer
     ensures { λ r. ⌜ (Ready b → carried command ≡ false → r ≡ boardAnswer Refusal.Command b) ⌝ }
 {
-    feldrime::feldrime_write(b, 1, command)
+    feldrime::feldrime_register_write(b, 1, command)
 }

@@ -6,7 +6,7 @@ ghost use mathlib.Core.Path.{_≡_};
 pub fn written_or_kept(b: board::Board, address: u8, byte: u8) -> BoardAnswer
     ensures { λ r. ⌜ ((r .refusal ≡ 0 → ⊥) → r .board ≡ b) ⌝ }
 {
-    feldrime::feldrime_write(b, address, byte)
+    feldrime::feldrime_register_write(b, address, byte)
 }
 
 // So do video numbers that are refused.

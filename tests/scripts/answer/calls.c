@@ -215,12 +215,12 @@ void call_write(char **word)
 {
     struct handed handed = by_board();
 
-    report_board("write", handed, feldrime_write(*board, small(word[2]), small(word[3])), of_nothing);
+    report_board("write", handed, feldrime_register_write(*board, small(word[2]), small(word[3])), of_nothing);
 }
 
 void call_read(char **word)
 {
-    feldrime_byte answer = feldrime_read(*board, small(word[2]));
+    feldrime_byte answer = feldrime_register_read(*board, small(word[2]));
 
     RESULTS(" byte %" PRIu32, answer.byte);
     report("read", by_board(), 1, answer.refusal, answer.beside, of_nothing);

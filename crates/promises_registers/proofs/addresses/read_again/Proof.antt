@@ -7,7 +7,7 @@ use Rattle.promises_registers.proofs.addresses.read_again.Tie as tie
 returns : tie.Need-returns
 returns c ready lo hi =
     let put = c .before .before in
-    read-again ready _ lo hi _ (put .before .fits .byte .fits) (put .feldrime-write .ensures) (c .feldrime-read .ensures)
+    read-again ready _ lo hi _ (put .before .fits .byte .fits) (put .feldrime-register-write .ensures) (c .feldrime-register-read .ensures)
 
 pub read-again-spec : {M : Type 1} → statement M
 read-again-spec =

@@ -4,7 +4,7 @@ use Rattle.promises_registers.proofs.commands.half_woken.Statement.{sta
 use Rattle.promises_registers.proofs.commands.half_woken.Tie as tie
 
 returns : tie.Need-returns
-returns c = wakes-not (c .before .before .before .feldrime-power .ensures) (c .before .before .feldrime-write .ensures) _ (c .feldrime-write2 .ensures)
+returns c = wakes-not (c .before .before .before .feldrime-power .ensures) (c .before .before .feldrime-register-write .ensures) _ (c .feldrime-register-write2 .ensures)
 
 pub half-woken-spec : {M : Type 1} → statement M
 half-woken-spec =

@@ -5,7 +5,7 @@ use Rattle.promises_registers.proofs.commands.not_carried.Statement.{st
 use Rattle.promises_registers.proofs.commands.not_carried.Tie as tie
 
 returns : tie.Need-returns
-returns c ready e = refused ready _ e (c .feldrime-write .ensures)
+returns c ready e = refused ready _ e (c .feldrime-register-write .ensures)
 
 pub not-carried-spec : {M : Type 1} → statement M
 not-carried-spec =

@@ -5,7 +5,7 @@ use Rattle.promises_registers.proofs.commands.pointed_load.Statement.{s
 use Rattle.promises_registers.proofs.commands.pointed_load.Tie as tie
 
 returns : tie.Need-returns
-returns c ready lo hi = loaded ready _ lo hi _ (c .before .before .feldrime-write .ensures) (c .feldrime-write2 .ensures)
+returns c ready lo hi = loaded ready _ lo hi _ (c .before .before .feldrime-register-write .ensures) (c .feldrime-register-write2 .ensures)
 
 pub pointed-load-spec : {M : Type 1} → statement M
 pointed-load-spec =

@@ -5,7 +5,7 @@ use Rattle.promises_registers.proofs.commands.switched.Statement.{state
 use Rattle.promises_registers.proofs.commands.switched.Tie as tie
 
 returns : tie.Need-returns
-returns c ready e f = switched ready _ _ e f (c .before .before .feldrime-write .ensures) (c .feldrime-write2 .ensures)
+returns c ready e f = switched ready _ _ e f (c .before .before .feldrime-register-write .ensures) (c .feldrime-register-write2 .ensures)
 
 pub switched-spec : {M : Type 1} → statement M
 switched-spec =

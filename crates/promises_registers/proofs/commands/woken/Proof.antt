@@ -4,7 +4,7 @@ use Rattle.promises_registers.proofs.commands.woken.Statement.{statemen
 use Rattle.promises_registers.proofs.commands.woken.Tie as tie
 
 returns : tie.Need-returns
-returns c = wakes (c .before .before .before .before .before .feldrime-power .ensures) (c .before .before .before .before .feldrime-write .ensures) _ (c .before .before .feldrime-write2 .ensures) (c .feldrime-write3 .ensures)
+returns c = wakes (c .before .before .before .before .before .feldrime-power .ensures) (c .before .before .before .before .feldrime-register-write .ensures) _ (c .before .before .feldrime-register-write2 .ensures) (c .feldrime-register-write3 .ensures)
 
 pub woken-spec : {M : Type 1} → statement M
 woken-spec =

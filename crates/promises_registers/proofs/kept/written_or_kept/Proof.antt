@@ -4,7 +4,7 @@ use Rattle.promises_registers.proofs.kept.written_or_kept.Statement.{st
 use Rattle.promises_registers.proofs.kept.written_or_kept.Tie as tie
 
 returns : tie.Need-returns
-returns c = write-kept _ _ _ (c .feldrime-write .ensures)
+returns c = write-kept _ _ _ (c .feldrime-register-write .ensures)
 
 pub written-or-kept-spec : {M : Type 1} → statement M
 written-or-kept-spec =

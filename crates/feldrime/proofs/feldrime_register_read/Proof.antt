@@ -2,8 +2,8 @@ use mathlib.Core.Path.{ap, _∙_}
 use borrow.Author.Needs.{needs}
 use Rattle.refusal.specs.Number.{numberOf, besideOf}
 use Rattle.registers.specs.declared.ByteRead.{ByteRead}
-use Rattle.feldrime.proofs.feldrime_read.Statement.{statement}
-use Rattle.feldrime.proofs.feldrime_read.Tie as tie
+use Rattle.feldrime.proofs.feldrime_register_read.Statement.{statement}
+use Rattle.feldrime.proofs.feldrime_register_read.Tie as tie
 
 returns : tie.Need-returns
 returns c =
@@ -14,5 +14,5 @@ returns c =
       byte = read i .byte;
     }
 
-pub feldrime-read-spec : {M : Type 1} → statement M
-feldrime-read-spec = tie.close (tie.spec (λ c κs. search needs) (λ c κs. search needs) (λ c κs. search needs) (λ c. search needs) returns)
+pub feldrime-register-read-spec : {M : Type 1} → statement M
+feldrime-register-read-spec = tie.close (tie.spec (λ c κs. search needs) (λ c κs. search needs) (λ c κs. search needs) (λ c. search needs) returns)
