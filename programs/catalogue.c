@@ -4,18 +4,18 @@
 #include "move.h"
 #include "words.h"
 
-const char catalogue_usage[] = "feldrime catalogue PAGE OUT";
 const char catalogue_help[] =
-    "Makes a typed sheet a page of the catalogue, which has a row table that names where each row begins. The picture\n"
-    "is the same in every field.\n"
+    "Usage: feldrime catalogue [OPTION]... PAGE OUT\n"
+    "Turns a typed sheet into a page of the catalogue, which has a row table that names where each row begins. The\n"
+    "picture stays the same in every field.\n"
     "\n"
     "  PAGE  a page file without a row table\n"
-    "  OUT   the page file to make. A file of this name is replaced when the new one is whole; PAGE itself stays, and\n"
-    "        cannot be OUT\n"
+    "  OUT   the page file to write. A file of this name is replaced once the new one is complete. PAGE itself is never\n"
+    "        replaced\n"
     "\n"
-    "The table takes two cells a row: the lowest stretch of cells, not passing cell 16383, that no row shows. What\n"
-    "their characters were is not kept. Beside them only screen start 2 and IR2[7] are changed. A page that has no\n"
-    "such stretch is refused, and so is one that has a row table.\n";
+    "The table takes two cells for each row: the lowest stretch of cells, not passing cell 16383, that no row shows. The\n"
+    "characters in these cells are lost. Apart from them only screen start 2 and IR2[7] change. A page is refused if it\n"
+    "has no such stretch, or already has a row table.\n";
 
 static void hint(const struct page *page, uint32_t refusal, char text[WHY])
 {
@@ -25,15 +25,16 @@ static void hint(const struct page *page, uint32_t refusal, char text[WHY])
         snprintf(text, WHY, ": %u rows need %u cells", (unsigned)page->rows, 2 * (unsigned)page->rows);
 }
 
-static void tell(const char *name, const struct page *page)
+static void report(const char *name, const struct page *page)
 {
     printf("%s: a page of the catalogue, its row table in cells %u to %u\n", name, (unsigned)entry_cell(page, 0, 0),
            (unsigned)entry_cell(page, page->rows - 1, 1));
 }
 
-int catalogue_word(int count, char **arguments)
+int catalogue_word(int count, char **operands)
 {
-    static const struct move move = { catalogue_usage, feldrime_page_to_table, hint, tell };
+    static const struct move move = { feldrime_make_table, hint, report };
 
-    return move_word(&move, count, arguments);
+    (void)count;
+    return move_page(&move, operands[0], operands[1]);
 }

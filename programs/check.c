@@ -1,14 +1,16 @@
-/* feldrime check: could the page be drawn? */
+/* feldrime check: can the page be drawn? */
 #include <stdio.h>
 
+#include "files.h"
 #include "page.h"
 #include "say.h"
 #include "words.h"
 
-const char check_usage[] = "feldrime check PAGE [FONT]";
 const char check_help[] =
-    "Says whether a page file, and a font file beside it, could be drawn, and if not, why.\n"
-    "A line for each that is good goes to standard output, for each that is not to standard error.\n";
+    "Usage: feldrime check [OPTION]... PAGE [FONT]\n"
+    "Checks whether a page file can be drawn and, if a font file is given, whether that can be used.\n"
+    "\n"
+    "Prints a line for each good file to standard output. For each bad one it prints the reason to standard error.\n";
 
 enum { FIELD_MODE = 1 << 4 }; /* of the switches, and only version 2 is accepted with it */
 
@@ -21,23 +23,21 @@ static void print_page(const char *name)
            (unsigned)page.dots, (unsigned)page.lines, page.parts.numbers[22] & FIELD_MODE ? ", field mode" : "");
 }
 
-int check_word(int count, char **arguments)
+int check_word(int count, char **operands)
 {
     int status = DONE;
     char why[WHY];
 
-    if (count != 1 && count != 2)
-        return wrong_use(check_usage);
-    if (read_page(arguments[0], &page, why)) {
-        print_page(arguments[0]);
+    if (read_page(operands[0], &page, why)) {
+        print_page(input_name(operands[0]));
     } else {
-        say(arguments[0], "%s", why);
+        say(input_name(operands[0]), "%s", why);
         status = COULD_NOT;
     }
-    if (count == 2 && read_font(arguments[1], &font, why)) {
-        printf("%s: a font\n", arguments[1]);
+    if (count == 2 && read_font(operands[1], &font, why)) {
+        printf("%s: a font\n", input_name(operands[1]));
     } else if (count == 2) {
-        say(arguments[1], "%s", why);
+        say(input_name(operands[1]), "%s", why);
         status = COULD_NOT;
     }
     return status;

@@ -9,45 +9,42 @@
 #include "say.h"
 #include "words.h"
 
-const char draw_usage[] = "feldrime draw PAGE FONT OUT.png [FIELD]";
 const char draw_help[] =
-    "Draws a page as a PNG picture, a pixel for each dot.\n"
+    "Usage: feldrime draw [OPTION]... PAGE FONT OUT.png [FIELD]\n"
+    "Draws a page as a PNG picture, one pixel for each dot.\n"
     "\n"
     "  PAGE     a page file\n"
     "  FONT     a font file\n"
-    "  OUT.png  the picture. A file of this name is replaced when the new one is whole\n"
-    "  FIELD    0 to 255: the frame to draw, by which what blinks is shown or hidden; 0 if left out\n";
+    "  OUT.png  the picture. A file of this name is replaced once the new one is complete\n"
+    "  FIELD    the frame to draw, 0 to 255, which decides whether blinking cells are visible; 0 if left out\n";
 
 static struct page page;
 static feldrime_font font;
 
-int draw_word(int count, char **arguments)
+int draw_word(int count, char **operands)
 {
+    const char *out = operands[2];
     char why[WHY];
     uint32_t field = 0;
 
-    if (count != 3 && count != 4)
-        return wrong_use(draw_usage);
-    if (count == 4 && !decimal_of(arguments[3], 255, &field)) {
-        say(arguments[3], "is no field: a field is a number from 0 to 255");
-        return WRONG_USE;
-    }
-    if (!read_page(arguments[0], &page, why)) {
-        say(arguments[0], "%s", why);
+    if (count == 4 && !decimal_of(operands[3], 255, &field))
+        return wrong_use("draw", "'%s' is not a field: a field is a number from 0 to 255", operands[3]);
+    if (!read_page(operands[0], &page, why)) {
+        say(input_name(operands[0]), "%s", why);
         return COULD_NOT;
     }
-    if (!read_font(arguments[1], &font, why)) {
-        say(arguments[1], "%s", why);
+    if (!read_font(operands[1], &font, why)) {
+        say(input_name(operands[1]), "%s", why);
         return COULD_NOT;
     }
-    if (same_file(arguments[2], arguments[0]) || same_file(arguments[2], arguments[1])) {
-        say(arguments[2], "is what the picture is drawn from, and stays");
+    if (same_file(out, operands[0]) || same_file(out, operands[1])) {
+        say(out, "the picture cannot replace a file it is drawn from");
         return COULD_NOT;
     }
     uint8_t *picture = picture_of(&page, &font, (uint8_t)field);
-    bool good = picture != NULL && write_png(arguments[2], &page, picture);
+    bool good = picture != NULL && write_png(out, &page, picture);
     free(picture);
-    if (good)
-        printf("%s: %u x %u dots\n", arguments[2], (unsigned)page.dots, (unsigned)page.lines);
+    if (good && !is_standard(out))
+        printf("%s: %u x %u dots\n", out, (unsigned)page.dots, (unsigned)page.lines);
     return good ? DONE : COULD_NOT;
 }

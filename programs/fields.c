@@ -1,10 +1,10 @@
-/* What blinks, and when, is found by drawing. The field count has eight bits, so that 256 fields are all there are. */
+/* What blinks, and when, is found by drawing. */
 #include "fields.h"
 
 #include <stdlib.h>
 #include <string.h>
 
-/* The place of a picture among those kept, to which it is added where it is new. */
+/* The place of a picture among those kept, to which it is added if it is new. */
 static int keep(struct fields *fields, uint8_t *picture, size_t size, int field)
 {
     for (int i = 0; i < fields->count; i++) {
@@ -18,10 +18,10 @@ static int keep(struct fields *fields, uint8_t *picture, size_t size, int field)
     return fields->count++;
 }
 
-static bool repeats(const struct fields *fields, int period)
+static bool repeats(const struct fields *fields, int looks)
 {
-    for (int field = period; field < FIELDS; field++)
-        if (fields->shown[field] != fields->shown[field - period])
+    for (int look = looks; look < LOOKS; look++)
+        if (fields->shown[look] != fields->shown[look - looks])
             return false;
     return true;
 }
@@ -29,19 +29,20 @@ static bool repeats(const struct fields *fields, int period)
 bool fields_of(const struct page *page, const feldrime_font *font, struct fields *fields)
 {
     size_t size = (size_t)page->lines * page->dots;
+    int looks = 1;
 
     fields->count = 0;
-    for (int field = 0; field < FIELDS; field++) {
-        uint8_t *picture = picture_of(page, font, (uint8_t)field);
+    for (int look = 0; look < LOOKS; look++) {
+        uint8_t *picture = picture_of(page, font, (uint8_t)(STEP * look));
         if (picture == NULL) {
             drop_fields(fields);
             return false;
         }
-        fields->shown[field] = keep(fields, picture, size, field);
+        fields->shown[look] = keep(fields, picture, size, STEP * look);
     }
-    fields->period = 1;
-    while (!repeats(fields, fields->period))
-        fields->period *= 2;
+    while (!repeats(fields, looks))
+        looks *= 2;
+    fields->period = STEP * looks;
     return true;
 }
 

@@ -4,17 +4,18 @@
 
 #include "page.h"
 
-enum { FIELDS = 256 };
+/* The header's rule: a picture can change only at a field that 16 divides, and after 128 fields it is the same again. */
+enum { STEP = 16, PERIOD = 128, LOOKS = PERIOD / STEP };
 
 struct fields {
-    int count;                 /* of pictures, picture 0 being that of field 0 */
-    uint8_t *pictures[FIELDS];
-    int first[FIELDS];         /* the first field with that picture */
-    int shown[FIELDS];         /* the picture of each field */
-    int period;                /* the pictures come again after so many fields */
+    int count;                /* of pictures, picture 0 being that of field 0 */
+    uint8_t *pictures[LOOKS];
+    int first[LOOKS];         /* the first field with that picture */
+    int shown[LOOKS];         /* the picture of the fields from STEP x the place on */
+    int period;               /* the pictures come again after this many fields */
 };
 
-/* Draws all fields and keeps each picture once. Says why it could not. */
+/* Draws the fields that can differ and keeps each picture once. Says why it could not. */
 bool fields_of(const struct page *page, const feldrime_font *font, struct fields *fields);
 
 void drop_fields(struct fields *fields);

@@ -1,4 +1,4 @@
-/* A file is written beside its place, under a name of its own, and then takes the place at once. */
+/* A file is written next to its place, under a name of its own, and then takes the place in one step. */
 #define _GNU_SOURCE
 #include "files.h"
 
@@ -12,24 +12,68 @@
 
 #include "say.h"
 
-bool read_file(const char *name, uint8_t *bytes, size_t room, size_t *count)
+bool is_standard(const char *name)
 {
-    FILE *file = fopen(name, "rb");
+    return strcmp(name, "-") == 0;
+}
+
+const char *input_name(const char *name)
+{
+    return is_standard(name) ? "standard input" : name;
+}
+
+/* Why a file cannot be read, from errno. */
+static void unread(char why[WHY])
+{
+    snprintf(why, WHY, "cannot be read: %s", strerror(errno));
+}
+
+FILE *open_file(const char *name, char why[WHY])
+{
+    static bool standard_read;
+
+    if (!is_standard(name)) {
+        FILE *file = fopen(name, "rb");
+        if (file == NULL)
+            unread(why);
+        return file;
+    }
+    if (standard_read) {
+        snprintf(why, WHY, "cannot be read twice");
+        return NULL;
+    }
+    standard_read = true;
+    return stdin;
+}
+
+bool close_file(FILE *file, char why[WHY])
+{
+    bool good = !ferror(file);
+
+    if (!good)
+        unread(why);
+    /* Standard input stays open: no other file then gets its number. */
+    if (file != stdin)
+        fclose(file);
+    return good;
+}
+
+bool read_file(const char *name, uint8_t *bytes, size_t room, size_t *count, char why[WHY])
+{
+    FILE *file = open_file(name, why);
 
     if (file == NULL)
         return false;
     *count = fread(bytes, 1, room, file);
-    bool good = !ferror(file);
-    int error = errno;
-    fclose(file);
-    errno = error;
-    return good;
+    return close_file(file, why);
 }
 
 bool same_file(const char *one, const char *other)
 {
     struct stat a, b;
 
+    if (is_standard(one) || is_standard(other))
+        return false;
     return stat(one, &a) == 0 && stat(other, &b) == 0 && a.st_dev == b.st_dev && a.st_ino == b.st_ino;
 }
 
@@ -53,13 +97,13 @@ static const char *reason(int error)
 {
     switch (error) {
     case ENOENT:
-        return "its folder is missing";
+        return "its folder does not exist";
     case ENOTDIR:
-        return "what stands for its folder is no folder";
+        return "part of its path is not a folder";
     case EACCES:
     case EPERM:
     case EROFS:
-        return "no right to write there";
+        return "no permission to write there";
     case ENOSPC:
     case EDQUOT:
         return "the disk is full";
@@ -68,8 +112,8 @@ static const char *reason(int error)
     }
 }
 
-/* Where the bytes belong: what a symbolic link leads to, else the name itself. NULL, and said why, where no file may
-   stand or none may be replaced. mode becomes that of the file. */
+/* Where the bytes belong: what a symbolic link leads to, else the name itself. NULL, and says why, if no file can be
+   there or it cannot be replaced. mode becomes that of the file. */
 static char *place_of(const char *name, mode_t *mode)
 {
     struct stat found;
@@ -83,29 +127,29 @@ static char *place_of(const char *name, mode_t *mode)
         if (S_ISDIR(found.st_mode))
             say(name, "is a folder");
         else if (!S_ISREG(found.st_mode))
-            say(name, "is no regular file, and stays");
+            say(name, "is not a regular file, and is left as it is");
         else if (access(name, W_OK) != 0)
             say(name, "%s", reason(errno));
         else if ((place = realpath(name, NULL)) == NULL)
             say(name, "%s", strerror(errno));
     } else if (lstat(name, &found) == 0) {
-        say(name, "is a symbolic link that leads to no file");
+        say(name, "is a symbolic link to a missing file");
     } else if (name[0] == '\0') {
-        say("''", "is no name for a file");
+        say("''", "is not a file name");
     } else if ((place = strdup(name)) == NULL) {
         say(name, "%s", strerror(errno));
     }
     return place;
 }
 
-/* Writes the file beside its place, as `beside`, and puts it there. errno tells why it could not. */
+/* Writes the file next to its place, under the name beside, and moves it there. errno is the reason if it could not. */
 static bool put(char *beside, const char *place, mode_t mode, const void *bytes, size_t count)
 {
     int file = mkstemp(beside);
 
     if (file < 0)
         return false;
-    /* The bytes reach the disk before the name does, so that a crash leaves the old file or the new one. */
+    /* The bytes reach the disk before the name does: a crash leaves the old file or the new one. */
     bool good = fchmod(file, mode) == 0 && write_all(file, bytes, count) && fsync(file) == 0;
     int error = errno;
     if (close(file) != 0 && good) {
@@ -121,7 +165,7 @@ static bool put(char *beside, const char *place, mode_t mode, const void *bytes,
     return false;
 }
 
-/* The same, with signals kept waiting: one that stops the program is heeded when the file is in its place or gone. */
+/* The same, with signals held back: one that stops the program takes effect when the file is in its place or gone. */
 static bool put_unstopped(char *beside, const char *place, mode_t mode, const void *bytes, size_t count)
 {
     sigset_t all, before;
@@ -135,11 +179,21 @@ static bool put_unstopped(char *beside, const char *place, mode_t mode, const vo
     return good;
 }
 
+static bool write_standard(const void *bytes, size_t count)
+{
+    if (write_all(STDOUT_FILENO, bytes, count))
+        return true;
+    say("standard output", "%s", strerror(errno));
+    return false;
+}
+
 bool write_file(const char *name, const void *bytes, size_t count)
 {
     mode_t mode;
-    char *beside, *place = place_of(name, &mode);
 
+    if (is_standard(name))
+        return write_standard(bytes, count);
+    char *beside, *place = place_of(name, &mode);
     if (place == NULL)
         return false;
     const char *slash = strrchr(place, '/');

@@ -77,10 +77,10 @@ static void put_head(FILE *out, const char *language, const char *title)
 static void put_keyframes(FILE *out, const struct fields *fields, int picture)
 {
     fprintf(out, "@keyframes field%d {", fields->first[picture]);
-    for (int field = 0; field < fields->period; field++) {
-        bool seen = fields->shown[field] == picture;
-        if (field == 0 || seen != (fields->shown[field - 1] == picture))
-            fprintf(out, " %.10g%% { opacity: %d }", 100.0 * field / fields->period, seen);
+    for (int look = 0; STEP * look < fields->period; look++) {
+        bool seen = fields->shown[look] == picture;
+        if (look == 0 || seen != (fields->shown[look - 1] == picture))
+            fprintf(out, " %.10g%% { opacity: %d }", 100.0 * STEP * look / fields->period, seen);
     }
     fprintf(out, " }\n.board img + .field%d { animation-name: field%d }\n", fields->first[picture],
             fields->first[picture]);

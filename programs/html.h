@@ -11,10 +11,10 @@
 struct entry {
     const char *file;
     char stem[256];
-    const struct language *language; /* NULL where the file's name tells none */
+    const struct language *language; /* NULL if the file's name gives none */
     bool checked;                    /* whether it is shown only if its rows are in phrases */
     char title[FELDRIME_CELLS + 1];
-    char why[WHY]; /* why it is not shown; "" where it is */
+    char why[WHY]; /* why it is not shown; "" if it is */
 };
 
 void html_page(FILE *out, const struct entry *entry, const struct page *page, const struct fields *fields,

@@ -12,15 +12,15 @@ struct language {
 enum { LANGUAGES = 5 };
 extern const struct language languages[LANGUAGES];
 
-/* The language of a code, of so many letters, small or capital. NULL where it is none's. */
+/* The language of a code, of so many letters, small or capital. NULL if there is none. */
 const struct language *language_named(const char *code, size_t length);
 
-/* The language of a page file, from its name: the first or the last part of the name before its ending, where parts are
-   separated by - _ or a dot. "de.page", "de-61.page" and "bulletin_de.page" are German. NULL where neither is a
-   language's code. */
+/* The language of a page file, from its name: the first or the last part of the name before its ending. Parts are
+   separated by - _ or a dot. "de.page", "de-61.page" and "bulletin_de.page" are German. NULL if neither is a language's
+   code. */
 const struct language *language_of(const char *file);
 
-/* For a page whose name tells no language, and for the index. */
+/* For a page whose name gives no language, and for the index. */
 extern const struct language *const english;
 
 #endif

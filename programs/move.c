@@ -5,7 +5,7 @@
 
 static struct page page;
 
-/* A refused move leaves the page, so that the hint can still be had from it. */
+/* A refused move leaves the page as it was, so the hint can still look at it. */
 static bool moved(const struct move *move, char why[WHY])
 {
     char hint[WHY] = "";
@@ -19,27 +19,26 @@ static bool write_page(const char *name)
 {
     static uint8_t file[FELDRIME_PAGE_FILE];
 
-    /* A page that was moved is accepted and the room is a file's size, so that nothing is left to refuse. */
-    feldrime_write_page(&page.parts, file, sizeof file);
+    /* A page that was moved is accepted, and the room is the size of a file: there is nothing left to refuse. */
+    feldrime_save_page(&page.parts, file, sizeof file);
     return write_file(name, file, sizeof file);
 }
 
-int move_word(const struct move *move, int count, char **arguments)
+int move_page(const struct move *move, const char *from, const char *to)
 {
     char why[WHY];
 
-    if (count != 2)
-        return wrong_use(move->usage);
-    if (!read_page(arguments[0], &page, why) || !moved(move, why)) {
-        say(arguments[0], "%s", why);
+    if (!read_page(from, &page, why) || !moved(move, why)) {
+        say(input_name(from), "%s", why);
         return COULD_NOT;
     }
-    if (same_file(arguments[1], arguments[0])) {
-        say(arguments[1], "is the page that is moved, and stays");
+    if (same_file(to, from)) {
+        say(to, "the new page cannot replace the page it is made from");
         return COULD_NOT;
     }
-    if (!write_page(arguments[1]))
+    if (!write_page(to))
         return COULD_NOT;
-    move->tell(arguments[1], &page);
+    if (!is_standard(to))
+        move->report(to, &page);
     return DONE;
 }

@@ -5,15 +5,14 @@
 #include "page.h"
 
 struct move {
-    const char *usage;
     feldrime_answer (*run)(feldrime_page *page);
-    /* What a refusal's own words leave open, as text to stand behind them. */
+    /* What the words of a refusal leave open, as text to follow them. */
     void (*hint)(const struct page *page, uint32_t refusal, char text[WHY]);
     /* What was made, on standard output. */
-    void (*tell)(const char *name, const struct page *page);
+    void (*report)(const char *name, const struct page *page);
 };
 
-/* Moves the page file that the first argument names into the one that the second names. Gives the status to end with. */
-int move_word(const struct move *move, int count, char **arguments);
+/* Moves one page file to another. Gives the exit status. */
+int move_page(const struct move *move, const char *from, const char *to);
 
 #endif

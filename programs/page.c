@@ -8,18 +8,13 @@
 #include "files.h"
 #include "say.h"
 
-bool unread(char why[WHY])
-{
-    snprintf(why, WHY, "cannot be read: %s", strerror(errno));
-    return false;
-}
-
 bool judge(feldrime_answer answer, const char *hint, char why[WHY])
 {
     int end = snprintf(why, WHY, "refused %u, %s%s", (unsigned)answer.refusal, feldrime_meaning(answer.refusal), hint);
 
     if (answer.beside > 0 && end < WHY)
-        snprintf(why + end, (size_t)(WHY - end), ": %u clock%s missing", (unsigned)answer.beside, answer.beside == 1 ? " is" : "s are");
+        snprintf(why + end, (size_t)(WHY - end), ": %u clock%s missing", (unsigned)answer.beside,
+                 answer.beside == 1 ? " is" : "s are");
     return answer.refusal == FELDRIME_DONE;
 }
 
@@ -39,13 +34,13 @@ static void measure(struct page *page)
 
 bool read_page(const char *name, struct page *page, char why[WHY])
 {
-    /* One byte more than a file has, so that a file that is too long reaches the library as one. */
+    /* One byte more than a file has: a file that is too long reaches the library as one. */
     static uint8_t file[FELDRIME_PAGE_FILE + 1];
     size_t count;
 
-    if (!read_file(name, file, sizeof file, &count))
-        return unread(why);
-    feldrime_answer answer = feldrime_read_page(&page->parts, file, count);
+    if (!read_file(name, file, sizeof file, &count, why))
+        return false;
+    feldrime_answer answer = feldrime_load_page(&page->parts, file, count);
     if (!judge(answer, count == FELDRIME_FONT_FILE ? " (it is as long as a font)" : "", why))
         return false;
     measure(page);
@@ -54,13 +49,13 @@ bool read_page(const char *name, struct page *page, char why[WHY])
 
 bool read_font(const char *name, feldrime_font *font, char why[WHY])
 {
-    /* Long enough for a page, so that one in the font's place is told as such. */
+    /* Long enough for a page, to recognize one in the place of the font. */
     static uint8_t file[FELDRIME_PAGE_FILE + 1];
     size_t count;
 
-    if (!read_file(name, file, sizeof file, &count))
-        return unread(why);
-    feldrime_answer answer = feldrime_read_font(font, file, count);
+    if (!read_file(name, file, sizeof file, &count, why))
+        return false;
+    feldrime_answer answer = feldrime_load_font(font, file, count);
     return judge(answer, count == FELDRIME_PAGE_FILE ? " (it is as long as a page)" : "", why);
 }
 
@@ -101,7 +96,7 @@ uint8_t *picture_of(const struct page *page, const feldrime_font *font, uint8_t 
         say("the picture", "%s", strerror(errno));
         return NULL;
     }
-    /* Both were accepted and the room is the picture's size, so that nothing is left to refuse. */
+    /* Both were accepted, and the room is the picture's size: there is nothing left to refuse. */
     feldrime_draw(&page->parts, font, field, picture, count);
     return picture;
 }

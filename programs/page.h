@@ -1,10 +1,11 @@
-/* A page in memory, and its pictures. What the rules are is the library's to know. */
+/* A page in memory, and its pictures. The rules are left to the library. */
 #ifndef PAGE_H
 #define PAGE_H
 
 #include <stdbool.h>
 
 #include "feldrime.h"
+#include "say.h"
 
 struct page {
     feldrime_page parts;
@@ -15,13 +16,7 @@ struct page {
 /* A row's code: all but the plain ones are of double width, and the last two are the halves of double height. */
 enum code { PLAIN, WIDE, TOP, BOTTOM };
 
-/* Why a file was not taken, as one line of text. */
-enum { WHY = 256 };
-
-/* Why a file cannot be read becomes what errno tells. Gives false. */
-bool unread(char why[WHY]);
-
-/* Each reads a file. Where it is refused or cannot be read, why becomes the reason. */
+/* Each reads a file. If it is refused or cannot be read, why becomes the reason. */
 bool read_page(const char *name, struct page *page, char why[WHY]);
 bool read_font(const char *name, feldrime_font *font, char why[WHY]);
 
@@ -39,10 +34,10 @@ bool has_codes(const struct page *page);
 /* The cell that holds a row's entry of the row table: its low byte, 0, or its high byte, 1. */
 uint32_t entry_cell(const struct page *page, uint32_t row, uint32_t byte);
 
-/* PLAIN where the page has no codes. */
+/* PLAIN if the page has no codes. */
 enum code code_of(const struct page *page, uint32_t row);
 
-/* A new picture of lines x dots levels, as in a field. NULL, and said why, where there is no memory for it. */
+/* A new picture of lines x dots levels, as in a field. NULL, and says why, if there is no memory for it. */
 uint8_t *picture_of(const struct page *page, const feldrime_font *font, uint8_t field);
 
 #endif

@@ -6,12 +6,13 @@
 #include <string.h>
 
 #include "decimal.h"
+#include "files.h"
 #include "say.h"
 
-enum { LINE = 500 }; /* no line is longer, so that a file that is no text does not fill memory */
+enum { LINE = 500 }; /* no line is longer: a file that is not text does not fill memory */
 enum { WORDS = 4 };  /* of a record */
 
-/* Reads a line, without its end. Gives its length, which is LINE where it is too long, or -1 at the end of the file. */
+/* Reads a line, without its end. Gives its length, which is LINE if it is too long, or -1 at the end of the file. */
 static int read_line(FILE *file, char line[LINE + 1])
 {
     int length = 0, letter = getc(file);
@@ -68,13 +69,13 @@ static void add(struct phrases *list, feldrime_phrase record, uint32_t line)
     list->lines[list->count++] = line;
 }
 
-/* Adds the record of a line, if the line has one. False where it is neither a record nor empty. */
+/* Adds the record of a line, if the line has one. False if it is neither a record nor empty. */
 static bool take_line(struct phrases *list, char *line, int length, uint32_t number)
 {
     char *words[WORDS + 1];
     feldrime_phrase record;
 
-    /* A byte 0 would hide what stands behind it. */
+    /* A byte 0 would hide what follows it. */
     if (length == LINE || strlen(line) != (size_t)length)
         return false;
     int count = split(line, words);
@@ -93,15 +94,15 @@ static bool take_lines(struct phrases *list, FILE *file, char why[WHY])
 
     for (uint32_t number = 1; (length = read_line(file, line)) >= 0; number++) {
         if (!take_line(list, line, length, number)) {
-            snprintf(why, WHY, "line %u is no phrase: a phrase is a language (de, en, fr, it or sl), its number, its "
+            snprintf(why, WHY, "line %u is not a phrase: a phrase is a language (de, en, fr, it or sl), its number, its "
                                "first cell and its length in cells", (unsigned)number);
             return false;
         }
     }
-    return !ferror(file) || unread(why);
+    return true;
 }
 
-/* The library knows which records are bad, and tells the first. */
+/* The library knows which records are bad, and names the first. */
 static bool records_good(const struct phrases *list, char why[WHY])
 {
     feldrime_differ_answer answer = feldrime_phrases_differ(list->records, list->count);
@@ -114,13 +115,13 @@ static bool records_good(const struct phrases *list, char why[WHY])
 
 bool read_phrases(const char *name, struct phrases *list, char why[WHY])
 {
-    FILE *file = fopen(name, "rb");
+    FILE *file = open_file(name, why);
 
     *list = (struct phrases){ 0 };
     if (file == NULL)
-        return unread(why);
-    bool good = take_lines(list, file, why) && records_good(list, why);
-    fclose(file);
+        return false;
+    bool good = take_lines(list, file, why);
+    good = close_file(file, why) && good && records_good(list, why);
     if (!good)
         drop_phrases(list);
     return good;
@@ -140,7 +141,7 @@ bool phrases_agree(const struct phrases *list, char why[WHY])
     return false;
 }
 
-/* The library gives the first phrase of any language: behind one of another language the search goes on. */
+/* The library gives the first phrase of any language: after one of another language the search goes on. */
 bool is_held(const struct phrases *list, const struct language *language, const struct page *page, uint32_t row)
 {
     for (size_t i = 0; i < list->count; i++) {

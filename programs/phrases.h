@@ -1,5 +1,5 @@
 /* A list of phrases, from a text file: a line for each record, with its language, its number, its first cell and its
-   length in cells. What stands behind a # is a comment. */
+   length in cells. Text after a # is a comment. */
 #ifndef PHRASES_H
 #define PHRASES_H
 
@@ -7,15 +7,15 @@
 #include "page.h"
 
 struct phrases {
-    feldrime_phrase *records; /* a language is told by its place in languages */
-    uint32_t *lines;          /* of the file, where each record stands */
+    feldrime_phrase *records; /* a language is its place in languages */
+    uint32_t *lines;          /* of the file, for each record */
     size_t count, room;
 };
 
-/* Reads a list. Where it cannot be read, a line is no phrase or a record is refused, why becomes the reason. */
+/* Reads a list. If it cannot be read, a line is not a phrase or a record is refused, why becomes the reason. */
 bool read_phrases(const char *name, struct phrases *list, char why[WHY]);
 
-/* Whether no two records of one language and number differ. Where two do, why becomes the first two. */
+/* Whether no two records of one language and number differ. If some do, why becomes the first two. */
 bool phrases_agree(const struct phrases *list, char why[WHY]);
 
 /* Whether some phrase of a language holds all cells that a row shows. */

@@ -1,5 +1,5 @@
 /* The program pnmtopng makes the file's bytes, in memory. As a program of the machine it needs no library for x86-64
-   where this one is emulated. */
+   when this one is emulated. */
 #define _GNU_SOURCE
 #include "png.h"
 
@@ -48,13 +48,13 @@ static bool convert(int from, int to)
         return false;
     }
     if (WIFEXITED(status) && WEXITSTATUS(status) == 127)
-        say("pnmtopng", "cannot be run; Debian has it in the package netpbm");
+        say("pnmtopng", "cannot be run; to install it: apt-get install --no-install-recommends netpbm");
     else if (status != 0)
-        say("pnmtopng", "did not make the picture");
+        say("pnmtopng", "failed to make the picture");
     return status == 0;
 }
 
-/* All bytes of a file, newly allotted. NULL where they cannot be had. */
+/* All bytes of a file, newly allotted. NULL if they cannot be had. */
 static uint8_t *bytes_of(int file, size_t *count)
 {
     off_t end = lseek(file, 0, SEEK_END);
@@ -70,7 +70,7 @@ static uint8_t *bytes_of(int file, size_t *count)
 
 bool write_png(const char *name, const struct page *page, const uint8_t *picture)
 {
-    int from = memfd_create("picture", MFD_CLOEXEC), to = memfd_create("png", MFD_CLOEXEC);
+    int from = memfd_create("picture", 0), to = memfd_create("png", 0);
     size_t count;
     uint8_t *bytes = NULL;
 
@@ -78,9 +78,10 @@ bool write_png(const char *name, const struct page *page, const uint8_t *picture
         say("the picture", "%s", strerror(errno));
     else if (convert(from, to) && (bytes = bytes_of(to, &count)) == NULL)
         say("the picture", "there is no memory for it");
-    bool good = bytes != NULL && write_file(name, bytes, count);
-    free(bytes);
+    /* Before anything is written: if standard output is closed, one of them has its number. */
     close(from);
     close(to);
+    bool good = bytes != NULL && write_file(name, bytes, count);
+    free(bytes);
     return good;
 }

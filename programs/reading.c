@@ -1,6 +1,6 @@
-/* Letters come from memory, but only where the picture shows them: a hidden cell, one whose character makes way for the
-   attributes that it sets, or a display that is off, is not for the public. So the pictures decide, and not a rule that
-   is told a second time here. */
+/* Letters come from memory, but only if the picture shows them: a hidden cell, one whose character makes way for the
+   attributes that it sets, or a display that is off, is not for the public. The pictures decide, and not a second copy
+   of the rules. */
 #include "reading.h"
 
 #include <stdlib.h>
@@ -10,7 +10,7 @@
 
 enum { UNDERLINE = 1 << 3, STRIKE = 1 << 5 }; /* of an attribute byte */
 
-static const feldrime_font no_shapes; /* its words are zeros, so that no character has a dot */
+static const feldrime_font no_shapes; /* its words are zeros: no character has a dot */
 
 /* Whether something is so in the cells of each row. */
 typedef bool marks[ROWS][FELDRIME_CELLS];
@@ -92,7 +92,7 @@ static bool find_struck(const struct page *page, const feldrime_font *font, cons
     return true;
 }
 
-/* A row and the one below it are a headline of double height where they are the two halves of the same cells. */
+/* A row and the one below it are a headline of double height if they are the two halves of the same cells. */
 static bool is_headline(const struct page *page, uint32_t row)
 {
     uint16_t upper[FELDRIME_CELLS], lower[FELDRIME_CELLS];

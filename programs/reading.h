@@ -18,7 +18,7 @@ struct reading {
 bool read_picture(const struct page *page, const feldrime_font *font, const struct fields *fields,
                   struct reading *reading);
 
-/* The first line that has something to read, without what is struck, and with single blanks; "" where there is none. */
+/* The first line that has something to read, without what is struck, and with single blanks; "" if there is none. */
 void title_of(const struct reading *reading, char title[FELDRIME_CELLS + 1]);
 
 bool is_empty(const struct reading *reading);

@@ -2,32 +2,33 @@
 #include <stdio.h>
 #include <string.h>
 
+#include "files.h"
 #include "phrases.h"
 #include "say.h"
 #include "text.h"
 #include "words.h"
 
-const char rows_usage[] = "feldrime rows PAGE [PHRASES]";
 const char rows_help[] =
-    "Tells where each row of a page comes from, a line for each row:\n"
+    "Usage: feldrime rows [OPTION]... PAGE [PHRASES]\n"
+    "Lists where each row of a page comes from, a line for each row:\n"
     "\n"
-    "  from    where the row's first cell is named: an entry of the row table, by the two cells that hold it, or\n"
-    "          screen start 1; or that the row goes on where the one before it ended\n"
-    "  size    only where rows have codes (IR0[7]): wide is double width, top and bottom are double width and the upper\n"
-    "          or lower half of double height. The code is the two upper bits of the row's entry. Such a row shows half\n"
-    "          as many cells, rounded up. A plain row has nothing here\n"
+    "  from    what names the row's first cell: an entry of the row table, given by the two cells that hold it, or\n"
+    "          screen start 1. 'goes on' is a row that begins where the row before it ended\n"
+    "  size    only if rows have codes (IR0[7]): wide is double width, top and bottom are the upper and lower half of\n"
+    "          double height, also in double width. The code is the two upper bits of the row's entry. Such a row shows\n"
+    "          half as many cells, rounded up. The column is empty for a plain row\n"
     "  cells   the addresses of the cells that the row shows, in order. * marks cells that another row shows too\n"
-    "  phrase  only with PHRASES: language and number of the first phrase there that holds all these cells, or that no\n"
-    "          phrase does\n"
-    "  text    what stands in these cells, also where the picture does not show it. A cell without a character is a\n"
-    "          blank, and a character that is no letter, digit or sign of ASCII is a dot\n"
+    "  phrase  only with PHRASES: language and number of the first phrase in the list that holds all these cells, or\n"
+    "          'no phrase'\n"
+    "  text    what these cells hold, even if the picture does not show it. A cell without a character is a blank, and\n"
+    "          a character that is not a letter, digit or sign of ASCII is a dot\n"
     "\n"
-    "PHRASES is a text, a line for each phrase: its language (de, en, fr, it or sl), its number, its first cell and its\n"
-    "length in cells, as in 'de 11 4032 48'. What stands behind a # is a comment. The cells follow one another and do\n"
-    "not pass cell 16383. So a row that runs past the last buffer address, or past 16383, is in a phrase only if that\n"
-    "holds all between as well.\n"
-    "Where phrases of the same language and number differ in first cell or length, the first two lines that disagree\n"
-    "are told after the rows, and the program ends with 1.\n";
+    "PHRASES is a text file with a line for each phrase: its language (de, en, fr, it or sl), its number, its first cell\n"
+    "and its length in cells, as in 'de 11 4032 48'. Text after a # is a comment. The cells of a phrase are consecutive\n"
+    "and do not pass cell 16383, so a row that runs past the last buffer address, or past 16383, is in a phrase only if\n"
+    "the phrase also holds every cell between.\n"
+    "If two phrases of the same language and number differ in first cell or length, the first two such lines are\n"
+    "reported after the rows, and the exit status is 1.\n";
 
 static struct page page;
 static struct phrases list;
@@ -86,7 +87,7 @@ static void print_size(const char *size)
         printf("%-6s  ", size);
 }
 
-/* Likewise, where there is a list of phrases. */
+/* Likewise, if there is a list of phrases. */
 static void print_phrase(const char *phrase)
 {
     if (has_list)
@@ -132,26 +133,24 @@ static void print_rows(void)
         print_row(row);
 }
 
-int rows_word(int count, char **arguments)
+int rows_word(int count, char **operands)
 {
     char why[WHY];
 
-    if (count != 1 && count != 2)
-        return wrong_use(rows_usage);
-    if (!read_page(arguments[0], &page, why)) {
-        say(arguments[0], "%s", why);
+    if (!read_page(operands[0], &page, why)) {
+        say(input_name(operands[0]), "%s", why);
         return COULD_NOT;
     }
     has_list = count == 2;
-    if (has_list && !read_phrases(arguments[1], &list, why)) {
-        say(arguments[1], "%s", why);
+    if (has_list && !read_phrases(operands[1], &list, why)) {
+        say(input_name(operands[1]), "%s", why);
         return COULD_NOT;
     }
     print_rows();
     bool agreed = phrases_agree(&list, why);
     if (!agreed) {
         fflush(stdout);
-        say(arguments[1], "%s", why);
+        say(input_name(operands[1]), "%s", why);
     }
     drop_phrases(&list);
     return agreed ? DONE : COULD_NOT;

@@ -14,8 +14,20 @@ void say(const char *name, const char *format, ...)
     fputc('\n', stderr);
 }
 
-int wrong_use(const char *usage)
+int hint_at_help(const char *word)
 {
-    fprintf(stderr, "usage: %s\n", usage);
+    fprintf(stderr, "Try 'feldrime %s%s--help'.\n", word == NULL ? "" : word, word == NULL ? "" : " ");
     return WRONG_USE;
+}
+
+int wrong_use(const char *word, const char *format, ...)
+{
+    va_list rest;
+
+    fputs("feldrime: ", stderr);
+    va_start(rest, format);
+    vfprintf(stderr, format, rest);
+    va_end(rest);
+    fputc('\n', stderr);
+    return hint_at_help(word);
 }

@@ -4,18 +4,18 @@
 #include "move.h"
 #include "words.h"
 
-const char sheet_usage[] = "feldrime sheet PAGE OUT";
 const char sheet_help[] =
-    "Makes a page of the catalogue a typed sheet, which has no row table: each row after the first begins where the\n"
-    "row before it ended. The picture is the same in every field.\n"
+    "Usage: feldrime sheet [OPTION]... PAGE OUT\n"
+    "Turns a page of the catalogue into a typed sheet, which has no row table: each row after the first begins where the\n"
+    "row before it ended. The picture stays the same in every field.\n"
     "\n"
-    "  PAGE  a page file with a row table, whose rows begin just so already\n"
-    "  OUT   the page file to make. A file of this name is replaced when the new one is whole; PAGE itself stays, and\n"
-    "        cannot be OUT\n"
+    "  PAGE  a page file with a row table, whose rows already follow one another like that\n"
+    "  OUT   the page file to write. A file of this name is replaced once the new one is complete. PAGE itself is never\n"
+    "        replaced\n"
     "\n"
-    "Screen start 1 becomes where row 0 begins, and IR2[7] is cleared. Nothing else is changed, and the table stays in\n"
-    "its cells: a sheet that was moved to the catalogue comes back but for screen start 2 and these cells.\n"
-    "A page whose rows have codes (IR0[7]) or do not follow one another is refused, and so is one without a row table.\n";
+    "Screen start 1 becomes the first cell of row 0, and IR2[7] is cleared. Nothing else changes, and the table stays in\n"
+    "its cells: a sheet that was moved to the catalogue and back differs only in screen start 2 and in these cells.\n"
+    "A page is refused if it has no row table, if its rows have codes (IR0[7]) or if they do not follow one another.\n";
 
 /* A row's first cell. */
 static uint16_t begin_of(const struct page *page, uint32_t row)
@@ -26,8 +26,8 @@ static uint16_t begin_of(const struct page *page, uint32_t row)
     return cells[0];
 }
 
-/* Tells the first row that does not follow. Where it should begin is the library's to know: a sheet that begins where the
-   page does has the same rows up to there, and goes on where the last of them ended. */
+/* Names the first row that does not follow. Where it should begin is for the library to say: a sheet that begins where
+   the page does has the same rows up to there, and goes on where the last of them ended. */
 static void hint_apart(const struct page *page, char text[WHY])
 {
     static struct page sheet;
@@ -52,14 +52,15 @@ static void hint(const struct page *page, uint32_t refusal, char text[WHY])
         hint_apart(page, text);
 }
 
-static void tell(const char *name, const struct page *page)
+static void report(const char *name, const struct page *page)
 {
     printf("%s: a typed sheet, which begins at cell %u\n", name, (unsigned)begin_of(page, 0));
 }
 
-int sheet_word(int count, char **arguments)
+int sheet_word(int count, char **operands)
 {
-    static const struct move move = { sheet_usage, feldrime_page_to_sheet, hint, tell };
+    static const struct move move = { feldrime_make_sheet, hint, report };
 
-    return move_word(&move, count, arguments);
+    (void)count;
+    return move_page(&move, operands[0], operands[1]);
 }

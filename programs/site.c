@@ -15,38 +15,44 @@
 #include "text.h"
 #include "words.h"
 
-const char site_usage[] = "feldrime site FONT OUT_FOLDER [--phrases FILE] PAGE..";
 const char site_help[] =
-    "Makes a web site of pages: for each its picture, a web page with the text as the picture's alternative, and an\n"
+    "Usage: feldrime site [OPTION]... FONT OUT_FOLDER PAGE...\n"
+    "Makes a web site: for each page its picture and a web page, with the text as the picture's alternative, and an\n"
     "index. The site needs no network and no scripts.\n"
     "\n"
-    "  FONT            a font file, for all pages\n"
-    "  OUT_FOLDER      where the site goes. It is made where it is missing; files of the same names are replaced, each\n"
-    "                  when the new one is whole, the index last, and other files stay\n"
-    "  --phrases FILE  a list of phrases; 'feldrime rows --help' says how it is written. A page behind it is shown only\n"
-    "                  if each of its rows is in a phrase of its own language. Those before it are not checked. Write\n"
-    "                  ./--phrases for a page of that name\n"
-    "  PAGE..          page files. A page NAME.page becomes NAME.html and NAME.png; what is no letter, digit, - or _ in\n"
-    "                  NAME becomes _\n"
+    "  FONT        a font file, for all pages\n"
+    "  OUT_FOLDER  the folder for the site, made if it is missing. Files of the same names are replaced, each once the\n"
+    "              new one is complete, the index last. Other files stay\n"
+    "  PAGE...     page files. NAME.page becomes NAME.html and NAME.png; in NAME, everything but letters, digits, - and _\n"
+    "              becomes _. Standard input becomes stdin.html\n"
     "\n"
-    "A page that blinks has a picture NAME.FIELD.png for each look it takes, and they are shown in turn.\n"
-    "A page that is refused, or has a row in no phrase, is an entry of the index, and a web page, that says why; the\n"
-    "others are still made. Each such row is told with its cells and its text. Nothing is made where the list has a bad\n"
-    "line, or phrases of the same language and number that differ.\n"
-    "The text is what the picture shows: what is hidden is left out, and what is struck is told as struck.\n"
-    "A headline of double height, which is two rows of the page, is one line of the text.\n"
+    "      --phrases FILE    a list of phrases, written as 'feldrime rows --help' describes. A page is shown only if each\n"
+    "                        of its rows is in a phrase of the page's language\n"
+    "      --unchecked PAGE  one more page, for example a typed sheet, that is shown whatever --phrases says. These pages\n"
+    "                        come last in the index. The option can be given several times\n"
     "\n"
-    "The language of a page is known from its file's name: de, en, fr, it or sl as NAME, or as the first or last\n"
-    "part of a NAME with - _ or dots between its parts. A page of another name has labels in English, and its text\n"
-    "has no language.\n"
-    "The papers of the board give no aspect: a dot is a pixel, and the web page's style scales the picture. Nor do\n"
-    "they give a rate: 50 fields a second are taken.\n";
+    "A page that blinks has a picture NAME.FIELD.png for each of its looks, and the web page shows them in turn.\n"
+    "If a page is refused, or has a row in no phrase, its entry in the index and its web page say why, and each such row\n"
+    "is reported with its cells and its text. The other pages are still made. Nothing is made if the list has a bad line,\n"
+    "or two phrases of the same language and number that differ.\n"
+    "The text is what the picture shows: hidden text is left out, and struck text is marked as struck. A headline of\n"
+    "double height, which is two rows of the page, is one line of the text.\n"
+    "\n"
+    "The name of a page file gives its language: de, en, fr, it or sl as NAME, or as the first or last part of a NAME\n"
+    "whose parts are separated by -, _ or dots. A page of any other name has labels in English, and a text without a\n"
+    "language.\n"
+    "The board's papers give no aspect ratio: a dot is a pixel, and the web page's style scales the picture. They give no\n"
+    "frame rate either: the site shows 50 fields a second.\n";
 
 static feldrime_font font;
 static struct phrases list;
 static struct page page;
 static struct fields fields;
 static struct reading reading;
+
+/* From the options. */
+static const char *list_name, **unchecked;
+static int unchecked_count;
 
 static char *path(const char *folder, const char *stem, const char *ending)
 {
@@ -104,30 +110,30 @@ static const char *taken(const struct entry *entries, int i)
     return NULL;
 }
 
-static void tell_row(const struct entry *entry, uint32_t row)
+static void report_row(const struct entry *entry, uint32_t row)
 {
     uint16_t cells[FELDRIME_CELLS];
     char text[FELDRIME_CELLS + 1];
     uint32_t count = cells_of(&page, row, cells);
 
     text_of(&page, row, text);
-    say(entry->file, "row %u, cells %u to %u, is in no phrase of %s: |%s", (unsigned)row, (unsigned)cells[0],
+    say(input_name(entry->file), "row %u, cells %u to %u, is in no phrase of %s: |%s", (unsigned)row, (unsigned)cells[0],
         (unsigned)cells[count - 1], entry->language->code, text);
 }
 
-/* Whether every row is in a phrase of the page's language. Each that is not is told, and entry->why becomes how many
+/* Whether every row is in a phrase of the page's language. Each that is not is reported, and entry->why becomes how many
    there are. */
 static bool in_phrases(struct entry *entry)
 {
     unsigned outside = 0;
 
     if (entry->language == NULL) {
-        strcpy(entry->why, "its name tells no language, so that no phrase is its own");
+        strcpy(entry->why, "its name gives no language, so none of the phrases is its own");
         return false;
     }
     for (uint32_t row = 0; row < page.rows; row++) {
         if (!is_held(&list, entry->language, &page, row)) {
-            tell_row(entry, row);
+            report_row(entry, row);
             outside++;
         }
     }
@@ -136,7 +142,7 @@ static bool in_phrases(struct entry *entry)
     return outside == 0;
 }
 
-/* Reads, draws and writes a page. Where something is wrong, entry->why says what. */
+/* Reads, draws and writes a page. If something is wrong, entry->why says what. */
 static void make_page(struct entry *entry, const char *folder)
 {
     char *text;
@@ -177,7 +183,7 @@ static int make_pages(struct entry *entries, int count, const char *folder)
         else
             make_page(entry, folder);
         if (entry->why[0] != '\0') {
-            say(entry->file, "%s", entry->why);
+            say(input_name(entry->file), "%s", entry->why);
             status = COULD_NOT;
         } else {
             printf("%s/%s.html\n", folder, entry->stem);
@@ -192,40 +198,21 @@ static bool make_folder(const char *name)
 
     if (mkdir(name, 0777) == 0 || (errno == EEXIST && stat(name, &found) == 0 && S_ISDIR(found.st_mode)))
         return true;
-    say(name, "%s", errno == EEXIST ? "is no folder" : strerror(errno));
+    say(name, "%s", errno == EEXIST ? "is not a folder" : strerror(errno));
     return false;
 }
 
-/* The pages among the arguments, each with whether it is checked, and the name of the list. Gives how many pages there
-   are, or 0 where --phrases stands twice or has no file or no page behind it. */
-static int take_pages(struct entry *entries, int count, char **arguments, const char **list_name)
-{
-    int pages = 0;
-
-    for (int i = 0; i < count; i++) {
-        if (strcmp(arguments[i], "--phrases") != 0) {
-            entries[pages].file = arguments[i];
-            entries[pages++].checked = *list_name != NULL;
-        } else if (*list_name != NULL || i + 2 >= count) {
-            return 0;
-        } else {
-            *list_name = arguments[++i];
-        }
-    }
-    return pages;
-}
-
 /* Reads what all pages need. Says why it could not. A list that contradicts itself vouches for no row. */
-static bool read_common(const char *font_name, const char *list_name)
+static bool read_common(const char *font_name)
 {
     char why[WHY];
 
     if (!read_font(font_name, &font, why)) {
-        say(font_name, "%s", why);
+        say(input_name(font_name), "%s", why);
         return false;
     }
     if (list_name != NULL && !(read_phrases(list_name, &list, why) && phrases_agree(&list, why))) {
-        say(list_name, "%s", why);
+        say(input_name(list_name), "%s", why);
         return false;
     }
     return true;
@@ -245,21 +232,49 @@ static int make_site(struct entry *entries, int count, const char *folder)
     return status;
 }
 
-int site_word(int count, char **arguments)
+int site_option(int option, char *value)
 {
-    const char *list_name = NULL;
+    if (option == PHRASES && list_name != NULL)
+        return wrong_use("site", "option '--phrases' is given twice");
+    if (option == PHRASES) {
+        list_name = value;
+        return DONE;
+    }
+    unchecked = realloc(unchecked, ((size_t)unchecked_count + 1) * sizeof *unchecked);
+    if (unchecked == NULL) {
+        say(value, "%s", strerror(ENOMEM));
+        exit(COULD_NOT);
+    }
+    unchecked[unchecked_count++] = value;
+    return DONE;
+}
 
-    if (count < 3)
-        return wrong_use(site_usage);
-    struct entry *entries = calloc((size_t)count - 2, sizeof *entries);
-    if (entries == NULL)
-        return COULD_NOT;
-    int status = COULD_NOT, pages = take_pages(entries, count - 2, arguments + 2, &list_name);
-    if (pages == 0)
-        status = wrong_use(site_usage);
-    else if (read_common(arguments[0], list_name) && make_folder(arguments[1]))
-        status = make_site(entries, pages, arguments[1]);
+/* The pages of the site, those to check first. NULL if there is no memory for them. */
+static struct entry *entries_of(int count, char **checked)
+{
+    struct entry *entries = calloc((size_t)(count + unchecked_count), sizeof *entries);
+
+    for (int i = 0; entries != NULL && i < count + unchecked_count; i++) {
+        entries[i].checked = list_name != NULL && i < count;
+        entries[i].file = i < count ? checked[i] : unchecked[i - count];
+    }
+    return entries;
+}
+
+int site_word(int count, char **operands)
+{
+    const char *folder = operands[1];
+    int pages = count - 2, status = COULD_NOT;
+
+    if (pages + unchecked_count == 0)
+        return wrong_use("site", "missing operand");
+    if (is_standard(folder))
+        return wrong_use("site", "a site is a folder and cannot go to standard output");
+    struct entry *entries = entries_of(pages, operands + 2);
+    if (entries != NULL && read_common(operands[0]) && make_folder(folder))
+        status = make_site(entries, pages + unchecked_count, folder);
     drop_phrases(&list);
     free(entries);
+    free(unchecked);
     return status;
 }

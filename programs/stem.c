@@ -6,6 +6,8 @@ static const char plain[] = "abcdefghijklmnopqrstuvwxyzABCDEFGHIJKLMNOPQRSTUVWXY
 
 void stem_of(const char *file, char stem[STEM])
 {
+    if (strcmp(file, "-") == 0)
+        file = "stdin";
     const char *slash = strrchr(file, '/'), *name = slash == NULL ? file : slash + 1;
     size_t length = strlen(name);
 

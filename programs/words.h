@@ -1,19 +1,20 @@
-/* The program's words. Each has its own file, takes the arguments behind the word and gives the status to end with. */
+/* The program's words. Each has its own file, is handed its operands, as many as main.c says, and gives the exit status.
+   ./feldrime prints the help texts from these files without building anything, so each is a literal with one line of
+   help in a line. */
 #ifndef WORDS_H
 #define WORDS_H
 
-int draw_word(int count, char **arguments);
-int rows_word(int count, char **arguments);
-int site_word(int count, char **arguments);
-int check_word(int count, char **arguments);
-int catalogue_word(int count, char **arguments);
-int sheet_word(int count, char **arguments);
+int draw_word(int count, char **operands);
+int rows_word(int count, char **operands);
+int site_word(int count, char **operands);
+int check_word(int count, char **operands);
+int catalogue_word(int count, char **operands);
+int sheet_word(int count, char **operands);
 
-extern const char draw_usage[], draw_help[];
-extern const char rows_usage[], rows_help[];
-extern const char site_usage[], site_help[];
-extern const char check_usage[], check_help[];
-extern const char catalogue_usage[], catalogue_help[];
-extern const char sheet_usage[], sheet_help[];
+extern const char draw_help[], rows_help[], site_help[], check_help[], catalogue_help[], sheet_help[];
+
+/* The options of site: each is handed over as soon as it is met. Gives DONE or WRONG_USE. */
+enum { PHRASES = 'p', UNCHECKED = 'u' };
+int site_option(int option, char *value);
 
 #endif

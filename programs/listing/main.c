@@ -1,25 +1,35 @@
 /* feldrime-listing: C's main. All else of the program is proved, in crates/listing. */
 #define _POSIX_C_SOURCE 200809L
 #include <errno.h>
+#include <getopt.h>
 #include <signal.h>
 #include <stdint.h>
 #include <stdio.h>
 #include <string.h>
 #include <unistd.h>
 
-/* Of crates/listing: reads and writes, and tells how it ended. */
+#include "feldrime.h"
+
+/* Of crates/listing: reads and writes, and says how it ended. */
 uint32_t feldrime_listing(void);
 enum { WRITTEN, UNREAD };
 
-static const char usage[] =
-    "usage: cat PAGE FONT | feldrime-listing\n"
+static const char help[] =
+    "Usage: cat PAGE FONT | feldrime-listing [OPTION]\n"
+    "Reads a page file followed by a font file from standard input, and prints the page's picture in letters: the number\n"
+    "of lines and of dots in a line, then the lines, with '.' for black, 'o' for gray and '#' for white. If the page or\n"
+    "the font is refused it prints 'refused N' instead, and feldrime.h explains the number N.\n"
     "\n"
-    "Reads a page file and behind it a font file, and writes the page's picture in letters: the lines and the dots in a\n"
-    "line as two numbers, then the lines, '.' for black, 'o' for gray and '#' for white; or 'refused N', where N is the\n"
-    "number that feldrime.h explains.\n"
+    "  -h, --help     print this help and exit\n"
+    "      --version  print the version and exit\n"
     "\n"
-    "It ends with 0 where either was written whole, 1 where the input could not be read or the output not be written, 2\n"
-    "where it was used wrongly: it takes no arguments but --help.\n";
+    "Exit status is 0 if either was printed completely, 1 if the input cannot be read or the output cannot be written, and\n"
+    "2 if the command is wrong.\n";
+
+enum { VERSION = 'V' };
+static const struct option options[] = {
+    { "help", no_argument, NULL, 'h' }, { "version", no_argument, NULL, VERSION }, { NULL, 0, NULL, 0 },
+};
 
 static int failed(const char *what)
 {
@@ -27,21 +37,48 @@ static int failed(const char *what)
     return 1;
 }
 
-int main(int count, char **arguments)
+static int finish(void)
 {
-    if (count == 2 && strcmp(arguments[1], "--help") == 0)
-        return fputs(usage, stdout) < 0 || fflush(stdout) != 0 ? failed("standard output") : 0;
-    if (count > 1) {
-        fputs(usage, stderr);
-        return 2;
-    }
-    /* A file that would pass the limit on its size is told as one that cannot be written. */
+    return fflush(stdout) != 0 || ferror(stdout) ? failed("standard output") : 0;
+}
+
+static int hint_at_help(void)
+{
+    fputs("Try 'feldrime-listing --help'.\n", stderr);
+    return 2;
+}
+
+static int list(void)
+{
+    /* A file that would exceed the limit on its size is then reported like any other that cannot be written. */
     signal(SIGXFSZ, SIG_IGN);
     uint32_t ending = feldrime_listing();
     if (ending == UNREAD)
         return failed("standard input");
-    /* Some file systems tell only now that a write has failed. */
+    /* Some file systems report only now that a write has failed. */
     if (ending != WRITTEN || close(STDOUT_FILENO) != 0)
         return failed("standard output");
     return 0;
+}
+
+int main(int count, char **arguments)
+{
+    static char name[] = "feldrime-listing"; /* how getopt_long begins its messages */
+
+    arguments[0] = name;
+    switch (getopt_long(count, arguments, "h", options, NULL)) {
+    case 'h':
+        fputs(help, stdout);
+        return finish();
+    case VERSION:
+        printf("feldrime-listing %u\n", (unsigned)FELDRIME_VERSION);
+        return finish();
+    case '?':
+        return hint_at_help();
+    }
+    if (optind < count) {
+        fprintf(stderr, "feldrime-listing: extra operand '%s'\n", arguments[optind]);
+        return hint_at_help();
+    }
+    return list();
 }

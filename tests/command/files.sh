@@ -11,27 +11,27 @@ if [ "$(id -u)" -eq 0 ] && mknod "$work/null" c 1 3 2> /dev/null; then
     device=$work/null
 fi
 if [ "$device" = "$work/null" ] || [ ! -w /dev ]; then
-    draw 1 "null: is no regular file" "$device"
+    draw 1 "null: is not a regular file" "$device"
     [ -c "$device" ] || say "a device was replaced"
 fi
 mkfifo "$work/out/fifo"
-draw 1 "is no regular file" "$work/out/fifo"
+draw 1 "is not a regular file" "$work/out/fifo"
 [ -p "$work/out/fifo" ] || say "a pipe was replaced"
 mkdir "$work/out/folder"
 draw 1 "is a folder" "$work/out/folder"
 draw 1 "is a folder" "$work/out/folder/"
-draw 1 "its folder is missing" "$work/out/missing/a.png"
+draw 1 "its folder does not exist" "$work/out/missing/a.png"
 echo old > "$work/out/file"
-draw 1 "is no folder" "$work/out/file/a.png"
-draw 1 "is no name for a file" ""
+draw 1 "part of its path is not a folder" "$work/out/file/a.png"
+draw 1 "is not a file name" ""
 ln -s nowhere "$work/out/link"
-draw 1 "is a symbolic link that leads to no file" "$work/out/link"
+draw 1 "is a symbolic link to a missing file" "$work/out/link"
 for source in "$page" "$font"; do
     cp "$source" "$work/out/source"
     ln -s source "$work/out/other"
     inputs=("${page/#$source/$work/out/source}" "${font/#$source/$work/out/source}")
     for name in source other; do
-        ends 1 "$name: is what the picture is drawn from" "${feldrime[@]}" draw "${inputs[@]}" "$work/out/$name"
+        ends 1 "$name: the picture cannot replace a file it is drawn from" "${feldrime[@]}" draw "${inputs[@]}" "$work/out/$name"
     done
     cmp -s "$source" "$work/out/source" || say "a picture took the place of what it is drawn from"
     rm "$work/out/source" "$work/out/other"
@@ -54,10 +54,10 @@ only far link new.png
 anew
 cp "$page" "$work/out/-page"
 cp "$font" "$work/out/--help"
-ends 0 "-out: 384 x 266" env -C "$work/out" "${feldrime[@]}" draw -page --help -out
-ends 0 "BULLETIN D'AVALANCHES" env -C "$work/out" "${feldrime[@]}" rows -page
-ends 0 "--help: a font" env -C "$work/out" "${feldrime[@]}" check -page --help
-ends 0 "-site/-page.html" env -C "$work/out" "${feldrime[@]}" site ./--help -site -page
+ends 0 "-out: 384 x 266" env -C "$work/out" "${feldrime[@]}" draw -- -page --help -out
+ends 0 "BULLETIN D'AVALANCHES" env -C "$work/out" "${feldrime[@]}" rows ./-page
+ends 0 "--help: a font" env -C "$work/out" "${feldrime[@]}" check ./-page -- --help
+ends 0 "-site/-page.html" env -C "$work/out" "${feldrime[@]}" site ./--help -- -site -page
 only --help -out -page -site
 
 # no right, no room
@@ -69,11 +69,11 @@ as_other() {  # as_other TEXT OUT: draws as a user who may not write there
     ends 1 "$1" "${other[@]}" "${runner[@]}" "$work/feldrime" draw "$work/fr.page" "$work/deck.font" "$2"
 }
 chmod 555 "$work/out"
-as_other "no right to write there" "$work/out/a.png"
+as_other "no permission to write there" "$work/out/a.png"
 chmod 777 "$work/out"
 echo old > "$work/out/a.png"
 chmod 444 "$work/out/a.png"
-as_other "no right to write there" "$work/out/a.png"
+as_other "no permission to write there" "$work/out/a.png"
 [ "$(< "$work/out/a.png")" = old ] || say "a file that may not be written was replaced"
 only a.png
 chmod 644 "$work/out/a.png"
@@ -92,10 +92,10 @@ fi
 # the picture's maker is missing, or fails
 anew
 mkdir -p "$work/bin"
-draw 1 "Debian has it in the package netpbm" "$work/out/a.png" env PATH="$work/bin"
+draw 1 "pnmtopng: cannot be run; to install it: apt-get install --no-install-recommends netpbm" "$work/out/a.png" env PATH="$work/bin"
 printf '#!/bin/sh\nexit 3\n' > "$work/bin/pnmtopng"
 chmod +x "$work/bin/pnmtopng"
-draw 1 "pnmtopng: did not make the picture" "$work/out/a.png" env PATH="$work/bin:$PATH"
+draw 1 "pnmtopng: failed to make the picture" "$work/out/a.png" env PATH="$work/bin:$PATH"
 printf '#!/bin/sh\nexit 0\n' > "$work/bin/pnmtopng"
 draw 1 "" "$work/out/a.png" env PATH="$work/bin:$PATH"
 only

@@ -56,12 +56,12 @@ for word in catalogue sheet; do
 6 27 05'
 
     anew
-    ends 2 "usage: feldrime $word PAGE OUT" "${feldrime[@]}" "$word" "$from"
-    ends 2 "usage: feldrime $word PAGE OUT" "${feldrime[@]}" "$word" "$from" "$work/out/a.page" "$work/out/b.page"
+    misused "missing operand" "$word" "${feldrime[@]}" "$word" "$from"
+    misused "extra operand '$work/out/b.page'" "$word" "${feldrime[@]}" "$word" "$from" "$work/out/a.page" "$work/out/b.page"
     ends 1 "missing.page: cannot be read: No such file" "${feldrime[@]}" "$word" "$work/missing.page" "$work/out/a.page"
     ends 1 "refused 1, " "${feldrime[@]}" "$word" /dev/null "$work/out/a.page"
     ends 1 "refused 2, the length" "${feldrime[@]}" "$word" "$font" "$work/out/a.page"
-    [[ $said == *"(it is as long as a font)" ]] || say "$word does not tell a font: $said"
+    [[ $said == *"(it is as long as a font)" ]] || say "$word does not recognize a font: $said"
     only
 
     # OUT is PAGE, by three names
@@ -69,7 +69,7 @@ for word in catalogue sheet; do
     ln -s source "$work/out/link"
     ln "$work/out/source" "$work/out/twin"
     for name in source link twin; do
-        ends 1 "$name: is the page that is moved, and stays" "${feldrime[@]}" "$word" "$work/out/source" "$work/out/$name"
+        ends 1 "$name: the new page cannot replace the page it is made from" "${feldrime[@]}" "$word" "$work/out/source" "$work/out/$name"
     done
     cmp -s "$from" "$work/out/source" || say "$word replaced the page itself"
     only link source twin
@@ -78,11 +78,11 @@ for word in catalogue sheet; do
     anew
     mkfifo "$work/out/fifo"
     mkdir "$work/out/folder"
-    ends 1 "is no regular file" timeout 5 "${feldrime[@]}" "$word" "$from" "$work/out/fifo"
+    ends 1 "is not a regular file" timeout 5 "${feldrime[@]}" "$word" "$from" "$work/out/fifo"
     ends 1 "is a folder" "${feldrime[@]}" "$word" "$from" "$work/out/folder"
-    [[ $said != *": a "* ]] || say "$word tells of a page that it did not make: $said"
-    ends 1 "its folder is missing" "${feldrime[@]}" "$word" "$from" "$work/out/missing/a.page"
-    ends 1 "is no name for a file" "${feldrime[@]}" "$word" "$from" ""
+    [[ $said != *": a "* ]] || say "$word reports a page that it did not make: $said"
+    ends 1 "its folder does not exist" "${feldrime[@]}" "$word" "$from" "$work/out/missing/a.page"
+    ends 1 "is not a file name" "${feldrime[@]}" "$word" "$from" ""
     only fifo folder
 
     # no room, no right, and nowhere to tell what was done
@@ -91,7 +91,7 @@ for word in catalogue sheet; do
     ends 1 "File too large" bash -c 'ulimit -f 1; exec "$@"' - "${feldrime[@]}" "$word" "$from" "$work/out/a.page"
     [ "$(< "$work/out/a.page")" = old ] || say "$word replaced a file by half of one"
     chmod 444 "$work/out/a.page"
-    ends 1 "no right to write there" "${other[@]}" "${runner[@]}" "$work/feldrime" "$word" "$from" "$work/out/a.page"
+    ends 1 "no permission to write there" "${other[@]}" "${runner[@]}" "$work/feldrime" "$word" "$from" "$work/out/a.page"
     [ "$(< "$work/out/a.page")" = old ] || say "$word replaced a file that may not be written"
     status=0
     "${feldrime[@]}" "$word" "$from" "$work/out/b.page" > /dev/full 2> "$work/said" || status=$?
@@ -103,9 +103,16 @@ for word in catalogue sheet; do
     cp "$from" "$work/out/-page"
     echo old > "$work/out/--help"
     chmod 640 "$work/out/--help"
-    ends 0 "--help: a " env -C "$work/out" "${feldrime[@]}" "$word" -page --help
+    ends 0 "--help: a " env -C "$work/out" "${feldrime[@]}" "$word" -- -page --help
     [ "$(stat -c %a "$work/out/--help")" = 640 ] || say "$word made a file of another mode"
     only --help -page
+
+    # from standard input to standard output
+    anew
+    ends 0 "$work/out/a.page: a " "${feldrime[@]}" "$word" "$from" "$work/out/a.page"
+    env -C "$work/out" "${feldrime[@]}" "$word" - - < "$from" > "$work/piped.page" || say "$word from and to standard files ended with $?"
+    cmp -s "$work/out/a.page" "$work/piped.page" || say "$word makes another page on standard output"
+    only a.page
 done
 # IR0[7]
 refuses catalogue 4 5 e8

@@ -113,7 +113,7 @@ def wrong_site(command, folder, list_name, records, files):
         if language and lines:
             lines.append(f"{len(lines)} of its {(page[9] & 127) + 1} rows {'is' if len(lines) == 1 else 'are'} in no phrase of its language")
         elif not language:
-            lines.append("its name tells no language, so that no phrase is its own")
+            lines.append("its name gives no language, so none of the phrases is its own")
         shown += [file.stem] * (not lines)
         met.add("not shown" if lines else "shown")
         told += "".join(f"feldrime: {file}: {line}\n" for line in lines)

@@ -76,24 +76,49 @@ ends 1 "refused 2, " "${feldrime[@]}" site "$page" "$work/out/site" "$page"
 only
 ends 1 "No such file" "${feldrime[@]}" site "$font" "$work/out/none/site" "$page"
 echo old > "$work/out/file"
-ends 1 "is no folder" "${feldrime[@]}" site "$font" "$work/out/file" "$page"
+ends 1 "is not a folder" "${feldrime[@]}" site "$font" "$work/out/file" "$page"
 only file
 mkdir -p "$work/out/site/fr.html" "$work/out/site/index.html"
 ends 1 "fr.html: is a folder" "${feldrime[@]}" site "$font" "$work/out/site" "$page"
-[[ $said == *"index.html: is a folder"* ]] || say "an index that could not be written is not told"
+[[ $said == *"index.html: is a folder"* ]] || say "an index that could not be written is not reported"
 
-# what is missing, and what the first build says
-mkdir -p "$work/bin"
-cp tools/x86.sh "$work"
-ends 1 "no_such_command is missing; as root: apt-get install --no-install-recommends one two" \
-    "${other[@]}" bash -c 'set -e; . "$0"; need no_such_command one two' "$work/x86.sh"
-mkdir -p "$work/tree/crates"
-cp -r tools "$work/tree"
+# a page from standard input, and a site that cannot go to standard output
+anew
+ends 0 "site/stdin.html" env -C "$work/out" "${feldrime[@]}" site "$font" site - < "$page"
+ends 0 "site/fr.html" env -C "$work/out" "${feldrime[@]}" site - site "$page" < "$font"
+ends 1 "standard input: cannot be read twice" env -C "$work/out" "${feldrime[@]}" site - site - < "$font"
+misused "a site is a folder and cannot go to standard output" site env -C "$work/out" "${feldrime[@]}" site "$font" - "$page"
+only site
+
+# what is missing, and what the first build says: nothing is installed but by ./draw and ./check, which say so first
+mkdir -p "$work/bin" "$work/tree/crates" "$work/tree/samples"
+cp -r feldrime draw Makefile include programs tools "$work/tree"
+printf '#!/bin/sh\necho "ran apt-get $*"\n' > "$work/bin/apt-get"
+chmod +x "$work/bin/apt-get"
+for name in awk basename cat find id make mkdir tail tee uname; do
+    ln -s "$(command -v "$name")" "$work/few"
+done
+lacking=(env -C "$work/tree" PATH="$work/bin:$work/few")
+packages=$(. tools/need.sh; for name in "${compiler[@]}"; do packages_of "$name"; done | xargs)
+for command in "./feldrime check en.page" "./feldrime --none" "make"; do
+    status=1
+    [ "$command" != make ] || status=2
+    ends "$status" "missing: ${compiler[*]}. To install, as root: apt-get install --no-install-recommends $packages" "${lacking[@]}" $command
+    [[ $said != *"ran apt-get"* ]] || say "$command installed something"
+done
+ends 1 "missing: ${compiler[*]} pnmtopng. To install, as root: apt-get install --no-install-recommends $packages netpbm" \
+    "${other[@]}" "${lacking[@]}" bash -c 'export FELDRIME_INSTALL=1; set -e; . "$0/need.sh"; need "$@"' "$here/tools" "${compiler[@]}" pnmtopng
+if [ "$(id -u)" -eq 0 ]; then
+    ends 1 "the library must be built first, and Rattle's command rt is missing" "${lacking[@]}" ./draw
+    [[ $said == "missing: ${compiler[*]} pnmtopng. Installing: $packages netpbm"$'\n'"ran apt-get update "*"ran apt-get install --no-install-recommends $packages netpbm "* ]] || say "./draw says: $said"
+fi
+grep -q '^export FELDRIME_INSTALL=1$' check || say "./check does not install what is missing"
 printf 'one:\ntwo: one\nfeldrime: two kit\nother: one\n' > "$work/tree/crates.txt"
+ends 1 "the library must be built first, and Rattle's command rt is missing" "${lacking[@]}" bash -c '. "$0/tools/build.sh"; build_archive' "$work/tree"
 printf '#!/bin/sh\necho "rt: one proved (1 s)"\necho "rt: two $verdict"\n[ "$verdict" = proved ] && echo "rt: target/staticlib/libfeldrime.a has them"\n' > "$work/bin/rt"
 chmod +x "$work/bin/rt"
 build=(env PATH="$work/bin:$PATH" bash -c '. "$0/tree/tools/build.sh"; build_archive' "$work")
 ends 0 "proved 3 of 3: feldrime" env verdict=proved "${build[@]}"
 [[ $said == *"the log is $work/tree/target/build.log"*"proved 1 of 3: one"$'\n'"proved 2 of 3: two"$'\n'* ]] || say "the first build says: $said"
 ends 1 "rt: two NOT PROVED" env verdict="NOT PROVED" "${build[@]}"
-[[ $said != *"of 3: two"* ]] || say "a crate that is not proved is told as proved"
+[[ $said != *"of 3: two"* ]] || say "a crate that is not proved is reported as proved"

@@ -1,24 +1,63 @@
 # Sourced by tests/feldrime: the words, their help and their wrong uses; draw, rows and check.
-ends 0 "feldrime draw PAGE FONT OUT.png [FIELD]" "${feldrime[@]}" --help
-for word in draw rows site check catalogue sheet; do
-    ends 0 "  feldrime $word " "${feldrime[@]}" --help
-    ends 0 "usage: feldrime $word" "${feldrime[@]}" "$word" --help
-    [[ $said == *"0 where all was done, 1 where a file was refused"* ]] || say "$word --help does not tell the statuses"
-    ends 2 "usage: feldrime $word" "${feldrime[@]}" "$word"
-done
-ends 2 "feldrime WORD --help" "${feldrime[@]}"
-ends 2 "paint: is no word" "${feldrime[@]}" paint "$page"
-ends 2 "usage:" "${feldrime[@]}" draw "$page" "$font"
-ends 2 "usage:" "${feldrime[@]}" draw "$page" "$font" "$work/a.png" 0 0
-ends 2 "usage:" "${feldrime[@]}" rows "$page" "$page" "$page"
-ends 2 "usage:" "${feldrime[@]}" site "$font" "$work/site"
-ends 2 "usage:" "${feldrime[@]}" check "$page" "$font" "$font"
-[ ! -e "$work/a.png" ] && [ ! -e "$work/site" ] || say "a wrong use made something"
+words=(draw rows site check catalogue sheet)
 
-for field in 256 -1 "" " 1" 1x x 0x1 1.0 +1 18446744073709551616 99999999999999999999; do
-    ends 2 "a number from 0 to 255" "${feldrime[@]}" draw "$page" "$font" "$work/a.png" "$field"
-    [ ! -e "$work/a.png" ] || say "field '$field' drew something"
+misused() {  # misused TEXT WORD COMMAND..: it ends with 2 and says one line with this text, then where help is
+    ends 2 "$1" "${@:3}"
+    [[ $said == "feldrime: "*$'\n'"Try 'feldrime ${2:+$2 }--help'." && $(wc -l <<< "$said") -eq 2 ]] || say "not one line and a hint: ${*:3}: $said"
+}
+
+# help and version, by the program and, from the sources alone, by the script
+version=$(sed -n 's/^#define FELDRIME_VERSION //p' include/feldrime.h)
+mkdir -p "$work/few" "$work/bare"
+for name in bash dirname env readlink sed; do
+    ln -s "$(command -v "$name")" "$work/few"
 done
+cp -r feldrime include programs "$work/bare"
+bare=(env PATH="$work/few" "$work/bare/feldrime")  # neither a compiler nor rt is there, nor anything that was built
+for arguments in --help "${words[@]/%/ --help}"; do
+    ends 0 "Exit status is 0 on success, 1 if a file is refused" "${feldrime[@]}" $arguments
+    shown=$said
+    [[ $shown == "Usage: feldrime ${arguments/--help/}"* ]] || say "$arguments says: $shown"
+    for script in ./feldrime "${bare[*]}"; do
+        ends 0 "$shown" $script $arguments
+        [ "$said" = "$shown" ] || say "$script $arguments prints another help than the program"
+        ends 0 "$shown" $script ${arguments/--help/-h}
+    done
+    ends 0 "$shown" "${feldrime[@]}" ${arguments/--help/-h}
+    for command in "${feldrime[*]}" ./feldrime "${bare[*]}"; do
+        ends 0 "feldrime $version" $command ${arguments/--help/--version}
+        [ "$said" = "feldrime $version" ] || say "$command ${arguments/--help/--version} says: $said"
+    done
+done
+[ ! -e "$work/bare/target" ] || say "help built something"
+for word in "${words[@]}"; do
+    ends 0 $'\n'"  $word " "${feldrime[@]}" --help
+    ends 0 "Usage: feldrime $word" "${feldrime[@]}" "$word" "$page" --help
+    ends 0 "Usage: feldrime $word" "${feldrime[@]}" -- "$word" -h none none none none none
+    misused "missing operand" "$word" "${feldrime[@]}" "$word"
+    misused "unrecognized option '--none'" "$word" "${feldrime[@]}" "$word" --none "$page"
+    misused "invalid option -- 'x'" "$word" "${feldrime[@]}" "$word" "$page" -x
+    misused "option '--help' doesn't allow an argument" "$word" "${feldrime[@]}" "$word" --help=1
+    status=0
+    "${feldrime[@]}" "$word" --help > /dev/full 2> "$work/said" || status=$?
+    [ "$status" -eq 1 ] && grep -q "standard output: No space left" "$work/said" || say "$word --help to a full disk ended with $status: $(< "$work/said")"
+done
+misused "missing word" "" "${feldrime[@]}"
+misused "missing word" "" "${feldrime[@]}" --
+misused "unknown word 'paint'" "" "${feldrime[@]}" paint "$page"
+misused "unknown word '--help'" "" "${feldrime[@]}" -- --help
+misused "unrecognized option '--none'" "" "${feldrime[@]}" --none draw
+misused "missing operand" draw "${feldrime[@]}" draw "$page" "$font"
+misused "extra operand 'more'" draw "${feldrime[@]}" draw "$page" "$font" "$work/a.png" 0 more
+misused "extra operand 'more'" rows "${feldrime[@]}" rows "$page" "$page" more
+misused "missing operand" site "${feldrime[@]}" site "$font" "$work/site"
+misused "extra operand 'more'" check "${feldrime[@]}" check "$page" "$font" more
+misused "invalid option -- '1'" draw "${feldrime[@]}" draw "$page" "$font" "$work/a.png" -1
+for field in 256 "" " 1" 1x x 0x1 1.0 +1 18446744073709551616 99999999999999999999; do
+    misused "'$field' is not a field: a field is a number from 0 to 255" draw "${feldrime[@]}" draw "$page" "$font" "$work/a.png" "$field"
+done
+misused "'-1' is not a field" draw "${feldrime[@]}" draw -- "$page" "$font" "$work/a.png" -1
+[ ! -e "$work/a.png" ] && [ ! -e "$work/site" ] || say "a wrong use made something"
 
 levels() {  # levels FILE: a PNG file as the C example writes it
     pngtopnm "$1" 2> /dev/null | pnmdepth 255 2> /dev/null
@@ -32,17 +71,17 @@ for sample in samples/*.page; do
     ends 0 "$work/b.png: " "${feldrime[@]}" draw "$sample" "$font" "$work/b.png"
     cmp -s <(levels "$work/b.png") <("${runner[@]}" "$example" "$sample" "$font" 0) || say "$sample is not drawn in field 0"
 done
-! cmp -s <("${runner[@]}" "$example" "$page" "$font" 0) <("${runner[@]}" "$example" "$page" "$font" 16) || say "fields 0 and 16 look alike, so that nothing was tried"
+! cmp -s <("${runner[@]}" "$example" "$page" "$font" 0) <("${runner[@]}" "$example" "$page" "$font" 16) || say "fields 0 and 16 look alike, and nothing was tried"
 
 python3 tests/command/rows.py "${feldrime[@]}" || failed=1
 
 ends 0 "fr.page: a page of 19 rows and 48 columns, 384 x 266 dots" "${feldrime[@]}" check "$page"
-[[ $said != *"field mode"* ]] || say "a page in character mode is told as one in field mode"
+[[ $said != *"field mode"* ]] || say "a page in character mode is reported as one in field mode"
 ends 0 "warning.page: a page of 23 rows and 64 columns, 576 x 322 dots, field mode" "${feldrime[@]}" check "$latching"
 # its switch 4 off
 { head -c 26 "$latching"; printf '\1'; tail -c +28 "$latching"; } > "$work/character.page"
 ends 0 "character.page: a page of 23 rows and 64 columns, 576 x 322 dots" "${feldrime[@]}" check "$work/character.page"
-[[ $said != *"field mode"* ]] || say "a page of version 2 in character mode is told as one in field mode"
+[[ $said != *"field mode"* ]] || say "a page of version 2 in character mode is reported as one in field mode"
 ends 0 "headline.page: a page of 12 rows and 48 columns, 432 x 168 dots" "${feldrime[@]}" check samples/headline.page
 # every row of double width: the high bytes of its entries, in every other cell from 8193 on, become 40 hex
 cp samples/headline.page "$work/wide.page"
@@ -62,16 +101,16 @@ done <<< '5 \xe8\x11\x1a
 ends 0 "deck.font: a font" "${feldrime[@]}" check "$page" "$font"
 head -c 100 "$font" > "$work/short.font"
 ends 1 "short.font: refused 2, " "${feldrime[@]}" check "$page" "$work/short.font"
-[[ $said == *"fr.page: a page"* ]] || say "a good page is not told beside a bad font"
+[[ $said == *"fr.page: a page"* ]] || say "a good page is not reported with a bad font"
 ends 1 "refused 2, the length" "${feldrime[@]}" check "$font" "$page"
-[[ $said == *"(it is as long as a font)"*"(it is as long as a page)"* ]] || say "a page and a font that changed places are not told: $said"
+[[ $said == *"(it is as long as a font)"*"(it is as long as a page)"* ]] || say "a page and a font that changed places are not recognized: $said"
 # its byte 7 is IR2, without a back porch 98 hex; its byte 10 is IR5: 52 to 54 cells leave a front porch of 1, 0 and -1
 while read -r number place byte missing; do
     cp "$page" "$work/porch.page"
     printf "\\x$byte" | dd of="$work/porch.page" bs=1 seek="$place" conv=notrunc status=none
     ends 1 "porch.page: refused $number, " "${feldrime[@]}" check "$work/porch.page"
-    [[ $number -eq 13 || $said == *"(EC in IR1, HSYNC and HBP in IR2, HACT in IR5): $missing" ]] || say "what is missing is not told: $said"
-    [[ $number -ne 13 || $said != *missing* ]] || say "13 tells missing clocks: $said"
+    [[ $number -eq 13 || $said == *"(EC in IR1, HSYNC and HBP in IR2, HACT in IR5): $missing" ]] || say "what is missing is not reported: $said"
+    [[ $number -ne 13 || $said != *missing* ]] || say "13 reports missing clocks: $said"
     ends 1 "$said" "${feldrime[@]}" draw "$work/porch.page" "$font" "$work/out.png"
 done <<< "13 7 98
 15 10 33 1 clock is missing
@@ -87,3 +126,29 @@ for word in check rows; do
     "${feldrime[@]}" "$word" "$page" > /dev/full 2> "$work/said" || status=$?
     [ "$status" -eq 1 ] && grep -q "standard output: No space left" "$work/said" || say "$word to a full disk ended with $status: $(< "$work/said")"
 done
+
+# standard input and output: every file but a site's folder can be -
+anew
+ends 0 "standard input: a page of 19 rows" "${feldrime[@]}" check - < "$page"
+ends 0 "standard input: a font" "${feldrime[@]}" check "$page" - < "$font"
+ends 1 "standard input: refused 2, " "${feldrime[@]}" check - < "$font"
+ends 1 "standard input: cannot be read: Is a directory" "${feldrime[@]}" check - < "$work"
+ends 1 "standard input: cannot be read twice" "${feldrime[@]}" check - - < "$page"
+cmp -s <("${feldrime[@]}" rows - < "$page") <("${feldrime[@]}" rows "$page") || say "rows of standard input are others"
+cmp -s <("${feldrime[@]}" rows "$page" - < samples/catalogue.phrases) <("${feldrime[@]}" rows "$page" samples/catalogue.phrases) || say "rows by a list on standard input are others"
+ends 0 "$work/out/a.png: " "${feldrime[@]}" draw - "$font" "$work/out/a.png" < "$page"
+ends 0 "$work/out/b.png: " "${feldrime[@]}" draw "$page" - "$work/out/b.png" < "$font"
+env -C "$work/out" "${feldrime[@]}" draw "$page" "$font" - > "$work/c.png" || say "draw to standard output ended with $?"
+cmp -s "$work/out/a.png" "$work/out/b.png" && cmp -s "$work/out/a.png" "$work/c.png" || say "a picture by way of standard input or output is another"
+only a.png b.png
+ends 1 "standard output: No space left on device" bash -c '"$@" > /dev/full' - "${feldrime[@]}" draw "$page" "$font" -
+ends 1 "standard output: Bad file descriptor" bash -c '"$@" >&-' - "${feldrime[@]}" draw "$page" "$font" -
+ends 1 "standard input: cannot be read: Bad file descriptor" bash -c '"$@" <&-' - "${feldrime[@]}" draw - "$font" -
+bash -c '"$@" <&-' - "${feldrime[@]}" draw "$page" "$font" - | cmp -s - "$work/c.png" || say "a picture drawn without standard input is another"
+# files that are named like an option, or -
+anew
+cp "$page" "$work/out/-"
+cp "$font" "$work/out/--help"
+ends 0 "./-: a page of 19 rows" env -C "$work/out" "${feldrime[@]}" check ./-
+ends 1 "./-: the picture cannot replace a file it is drawn from" env -C "$work/out" "${feldrime[@]}" draw -- ./- --help ./-
+cmp -s <(env -C "$work/out" "${feldrime[@]}" draw ./- ./--help -) "$work/c.png" || say "a file named - and standard output are taken for one"
