@@ -1,9 +1,9 @@
 # make [all]                                      builds the library, archive and shared library, and the programs
-# make install [PREFIX=/usr/local] [DESTDIR=]     installs these, the header and feldrime.pc, and builds what is missing
+# make install [PREFIX=/usr/local] [DESTDIR=]     installs these, the header and feldrime.pc, and builds them if needed
 # make uninstall [PREFIX=/usr/local] [DESTDIR=]   removes the files that install put there, and leaves the folders
 # make check                                      runs ./check
 # make clean                                      removes target/, where all is built, and out/, where ./draw draws
-# The library is for x86-64.
+# The library is for x86-64. If a command is missing, make says how to install it; only ./check and ./draw install it.
 PREFIX = /usr/local
 DESTDIR =
 SHELL = /bin/bash

@@ -1,5 +1,6 @@
-# Sourced: `build_archive` proves the library and builds "$archive", for C to link; `build_listing_archive` proves the listing program but for its
-# main, "$listing_archive". Each works only where its file is missing or older than a source.
+# Sourced: `build_archive` proves the library and builds "$archive", for C to link; `build_listing_archive` proves the
+# listing program except its main, "$listing_archive". Each does something only if its file is missing or older than a
+# source.
 root=$(cd "$(dirname "${BASH_SOURCE[0]}")/.." && pwd)
 archive=$root/target/staticlib/libfeldrime.a
 listing_archive=$root/target/staticlib/liblisting_program.a
@@ -36,7 +37,7 @@ prove() {  # prove FILE CRATE WHAT: the file is the crate's archive
         return
     fi
     if ! command -v rt > /dev/null; then
-        echo "$3 must be built, and Rattle's command rt is missing" >&2
+        echo "$3 must be built first, and Rattle's command rt is missing" >&2
         return 1
     fi
     echo "proving $3 and building it, which takes minutes; the log is $log"
