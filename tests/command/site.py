@@ -1,6 +1,8 @@
 #!/usr/bin/env python3
-"""site.py FOLDER EXAMPLE..: the web site made of the samples, beside the texts that they are made of and beside the pictures
-that the C example draws, field by field. EXAMPLE.. is the command that runs it."""
+"""site.py FOLDER EXAMPLE..: the web site made of the samples, compared with the texts that they are made of and with the
+pictures that the C example draws, field by field. EXAMPLE.. is the command that runs it.
+
+site.py --page PAGE LOOKS FOLDER EXAMPLE..: the pictures of one page in a site, which has to have so many."""
 import html.parser
 import pathlib
 import re
@@ -85,14 +87,15 @@ def pgm_of(path):
     return kind + b"\n" + size + b"\n255\n" + bytes(level * 255 // int(highest) for level in levels)
 
 
-def pictures(folder, name, style, command):
+def pictures(folder, page, style, command, fields):
+    name = page.stem
     pgm = {path.name: pgm_of(path) for path in folder.glob(f"{name}.*png")}
     used = set()
-    for field in range(0, 256, 1 if name == "sheet" else 5):
+    for field in fields:
         top = look(style, field)
         shown = f"{name}.png" if top is None else f"{name}.{top}.png"
         used.add(shown)
-        drawn = subprocess.run([*command, pages.SAMPLES / f"{name}.page", FONT, str(field)], capture_output=True, check=True).stdout
+        drawn = subprocess.run([*command, page, FONT, str(field)], capture_output=True, check=True).stdout
         if pgm[shown] != drawn:
             wrong.append(f"{name}: field {field} does not look as {shown}")
     same(f"{name}: pictures shown", used, set(pgm))
@@ -111,13 +114,20 @@ def web_page(folder, name, command):
     same(f"{name}: alternatives of the same picture", {a["alt"] for a in others} - {""}, set())
     same(f"{name}: the text", reader.text["pre"][0].removeprefix("\n"), pages.sample_text(name, "", ""))
     same(f"{name}: size", [first["width"].encode(), first["height"].encode()], pgm_of(folder / f"{name}.png").split(None, 3)[1:3])
-    count = pictures(folder, name, reader.text["style"][0], command)
+    fields = range(0, 256, 1 if name == "sheet" else 5)
+    count = pictures(folder, pages.SAMPLES / f"{name}.page", reader.text["style"][0], command, fields)
     same(f"{name}: pictures on the page", 1 + len(others), count)
     same(f"{name}: a way to hold it still", len(reader.all("input")), int(count > 1))
     return count
 
 
-def main(folder, *command):
+def one_page(page, looks, folder, *command):
+    page, folder = pathlib.Path(page), pathlib.Path(folder)
+    style = Reader(folder / f"{page.stem}.html").text["style"][0]
+    same(f"{page.stem}: looks", pictures(folder, page, style, command, range(256)), int(looks))
+
+
+def samples(folder, *command):
     folder = pathlib.Path(folder)
     names = sorted(path.stem for path in pages.SAMPLES.glob("*.page"))
     counts = {name: web_page(folder, name, command) for name in names}
@@ -128,6 +138,13 @@ def main(folder, *command):
     same("languages", [a["lang"] for a in index.all("a")], [pages.language(name) or "" for name in names])
     made = {"index.html"} | {path.name for name in names for path in folder.glob(f"{name}.*")}
     same("files", {path.name for path in folder.iterdir()}, made)
+
+
+def main(*arguments):
+    if arguments[0] == "--page":
+        one_page(*arguments[1:])
+    else:
+        samples(*arguments)
     for what in wrong[:10]:
         print(f"site: {what}")
     return 1 if wrong else 0

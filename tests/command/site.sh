@@ -2,6 +2,14 @@
 site=$work/site
 ends 0 "$site/index.html" "${feldrime[@]}" site "$font" "$site" samples/*.page
 python3 tests/command/site.py "$site" "${runner[@]}" "$example" || failed=1
+# a page whose cells blink over 128 fields, by IR4[7] in byte 9, and its cursor over 64, by IR7[4] in byte 12: no sample does
+cp samples/sheet.page "$work/slow.page"
+for place in 9:80 12:30; do
+    byte=$(od -An -tu1 -j"${place%:*}" -N1 samples/sheet.page)
+    printf "\\x$(printf %x $((byte | 0x${place#*:})))" | dd of="$work/slow.page" bs=1 seek="${place%:*}" conv=notrunc status=none
+done
+ends 0 "$work/slow/slow.html" "${feldrime[@]}" site "$font" "$work/slow" "$work/slow.page"
+python3 tests/command/site.py --page "$work/slow.page" 3 "$work/slow" "${runner[@]}" "$example" || failed=1
 
 shows() {  # shows FILE TEXT: a file of the site has this text
     grep -qF -- "$2" "$site/$1" || say "$1 does not say: $2"
@@ -112,6 +120,13 @@ if [ "$(id -u)" -eq 0 ]; then
     ends 1 "the library must be built first, and Rattle's command rt is missing" "${lacking[@]}" ./draw
     [[ $said == "missing: ${compiler[*]} pnmtopng. Installing: $packages netpbm"$'\n'"ran apt-get update "*"ran apt-get install --no-install-recommends $packages netpbm "* ]] || say "./draw says: $said"
 fi
+cp -r .ci "$work/tree"
+printf '#!/bin/sh\necho "checked in $0"\n' > "$work/tree/check"
+chmod +x "$work/tree/check"
+ln -s "$work/tree/.ci/run" "$work/run"
+for run in "$work/tree/.ci/run" "$work/run"; do
+    ends 0 "checked in $work/tree/.ci/../check" env -C / "$run"
+done
 grep -q '^export FELDRIME_INSTALL=1$' check || say "./check does not install what is missing"
 printf 'one:\ntwo: one\nfeldrime: two kit\nother: one\n' > "$work/tree/crates.txt"
 ends 1 "the library must be built first, and Rattle's command rt is missing" "${lacking[@]}" bash -c '. "$0/tools/build.sh"; build_archive' "$work/tree"
