@@ -249,12 +249,16 @@ int site_option(int option, char *value)
     return DONE;
 }
 
-/* The pages of the site, those to check first. NULL if there is no memory for them. */
+/* The pages of the site, those to check first. */
 static struct entry *entries_of(int count, char **checked)
 {
     struct entry *entries = calloc((size_t)(count + unchecked_count), sizeof *entries);
 
-    for (int i = 0; entries != NULL && i < count + unchecked_count; i++) {
+    if (entries == NULL) {
+        say("the pages", "%s", strerror(ENOMEM));
+        exit(COULD_NOT);
+    }
+    for (int i = 0; i < count + unchecked_count; i++) {
         entries[i].checked = list_name != NULL && i < count;
         entries[i].file = i < count ? checked[i] : unchecked[i - count];
     }
@@ -271,7 +275,7 @@ int site_word(int count, char **operands)
     if (is_standard(folder))
         return wrong_use("site", "a site is a folder and cannot go to standard output");
     struct entry *entries = entries_of(pages, operands + 2);
-    if (entries != NULL && read_common(operands[0]) && make_folder(folder))
+    if (read_common(operands[0]) && make_folder(folder))
         status = make_site(entries, pages + unchecked_count, folder);
     drop_phrases(&list);
     free(entries);

@@ -16,7 +16,7 @@ aarch64)
     runner=(qemu-x86_64 -L /usr/x86_64-linux-gnu)
     ;;
 *)
-    echo "no way is known here to run x86-64 programs on $(uname -m)" >&2
+    echo "x86-64 programs cannot be run on $(uname -m)" >&2
     exit 1
     ;;
 esac

@@ -116,6 +116,8 @@ for command in "./feldrime check en.page" "./feldrime --none" "make"; do
 done
 ends 1 "missing: ${compiler[*]} pnmtopng. To install, as root: apt-get install --no-install-recommends $packages netpbm" \
     "${other[@]}" "${lacking[@]}" bash -c 'export FELDRIME_INSTALL=1; set -e; . "$0/need.sh"; need "$@"' "$here/tools" "${compiler[@]}" pnmtopng
+ends 0 "Usage: feldrime draw" "${lacking[@]}" ./draw --help
+[[ $said != *"ran apt-get"* ]] || say "./draw --help installed something"
 if [ "$(id -u)" -eq 0 ]; then
     ends 1 "the library must be built first, and Rattle's command rt is missing" "${lacking[@]}" ./draw
     [[ $said == "missing: ${compiler[*]} pnmtopng. Installing: $packages netpbm"$'\n'"ran apt-get update "*"ran apt-get install --no-install-recommends $packages netpbm "* ]] || say "./draw says: $said"
