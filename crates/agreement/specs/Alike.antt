@@ -2,14 +2,14 @@
 -- row fetches both memories have the same bytes. Assumes nothing.
 --     same-place                 the place for clock n
 --     same-line, same-picture    in every field and both attribute modes
-use Prim.Native.Nat.{ℕ, zero, suc, pred, min, _+_, _*_, _/_, _%_, _≤_, _<_}
+use Prim.Native.Nat.{ℕ, min, _+_, _-_, _*_, _/_, _%_, _≤_, _<_}
 use mathlib.Core.Path.{_≡_, refl, sym, ap, ap₂, _∙_}
 use mathlib.Core.Bool.{Bool, false, not, _&&_, _||_}
 use mathlib.Core.List.{List, [], _∷_}
 use native.Mathlib.Nat.{div-lt-iff-lt-mul, mod-lt, add-mul, one-mul}
 use native.Mathlib.Decide.{decLt}
 use native.Mathlib.Omega.{arith}
-use borrow.Author.Tests.{lt-ltb, le-ltb}
+use borrow.Author.Tests.{le-ltb}
 use lib.Dec.{eqb, ltb}
 use lib.ListN.{getD}
 use Rattle.units.specs.declared.Clocks.{Clocks}
@@ -19,66 +19,30 @@ use Rattle.refusal.specs.declared.Refusal.the-variants.{Done, Address, Reserved
 use Rattle.refusal.specs.Laws.{passed}
 use Rattle.raster.specs.declared.Buffer.{Buffer}
 use Rattle.raster.specs.declared.Counts.{Counts}
-use Rattle.raster.specs.declared.Row.{Row}
 use Rattle.raster.specs.Moves.{advanceBy}
-use Rattle.raster.specs.Raster.{HT, VT, R, L, Rows, pair, scan, tail, inLine, carriedAt, scanAt}
+use Rattle.raster.specs.Raster.{L, scan}
 use Rattle.raster.specs.Beams.{row}
-use Rattle.raster.specs.Wide.{codeOf, isWide, againAt, fetchesAt, movedAt}
+use Rattle.raster.specs.Wide.{codeOf, isWide, againAt, fetchesAt}
 use Rattle.raster.specs.Latch.{lastSet, same-last}
 use Rattle.board.specs.declared.Page.{Page}
 use Rattle.board.specs.declared.Board.{Board}
 use Rattle.board.specs.Modes.{fieldMode}
 use Rattle.board.specs.Range.{startsRefused, switchesRefused, addressRefused}
-use Rattle.timing.specs.Fields.{ir, codedOf, tableOf, linesOf, rowsOf, hactOf, visibleOf, bufferOf, cursorOf, countsOf, hbpOf, vsyncOf, blinkOf}
+use Rattle.timing.specs.Fields.{ir, codedOf, tableOf, linesOf, rowsOf, hactOf, htOf, vtOf, visibleOf, bufferOf, cursorOf, countsOf, hbpOf, vsyncOf, blinkOf}
 use Rattle.timing.specs.Check.{reservedRefused, backPorchRefused, lineShort, frontPorchRefused, missing, widthRefused, pageCheck, stateRefused}
-use Rattle.timing.specs.Laws.{lines-some, row-shown}
-use Rattle.fetch.specs.Rows.{codeAt, rowStart, cellAt, movedOf, fetchAt}
+use Rattle.timing.specs.Laws.{row-shown}
+use Rattle.fetch.specs.Rows.{codeAt, rowStart, fetchAt, fetchedOf, movedOf, cellAt}
 use Rattle.fetch.specs.Laws.{cell-moved}
 use Rattle.latch.specs.Held.{setIn, byteOf, heldAt}
-use Rattle.latch.specs.Laws.{held-valid}
 use Rattle.shape.specs.Font.{Font}
 use Rattle.video.specs.Scene.{sceneOf}
 use Rattle.video.specs.Cell.{columnOf}
 use Rattle.video.specs.At.{scanOf, scanDots, dotsAt}
 use Rattle.line.specs.Line.{columnDots, lineDots}
 use Rattle.picture.specs.Picture.{pictureDots}
-use Rattle.place.specs.Place.{placeOf, countsIn, rowsIn, placeAt}
+use Rattle.place.specs.Place.{carried, placed, rowAt, lastAt, lineAt, carriedBefore, placeAt, clockIn, lineIn, frameIn}
+use Rattle.place.specs.Laws.{line-shown, line-idle}
 use Rattle.catalogue.specs.There.{withPage}
-
--- ---- the place at once, where two beams carry the same
-
-module _ {A : Type 0} (g : Counts) (rows : 0 < R g) (lines : 0 < L g) (v w : Rows A) (start-is : (r : ℕ) → r < R g → v .start r ≡ w .start r)
-    (walk-is : (r c : ℕ) → r < R g → v .walk r c ≡ w .walk r c) where
-  last : (n : ℕ) → 0 < n → pred n < n
-  last zero l = absurd (omega (arith, l))
-  last (suc n) l = omega arith
-
-  same-tail : tail g v ≡ tail g w
-  unfolding tail
-  same-tail = ap₂ (λ (x y : A). pair x y) (walk-is _ _ (last (R g) rows)) (start-is _ (last (R g) rows))
-
-  same-in-line : (c line : ℕ) → inLine g v c line ≡ inLine g w c line
-  unfolding inLine
-  same-in-line c line = go (decLt line (R g * L g))
-    where
-      go : Dec (line < R g * L g)
-          → pick (ltb line (R g * L g)) (pair (v .walk (line / L g) c) (v .start (line / L g))) (tail g v)
-          ≡ pick (ltb line (R g * L g)) (pair (w .walk (line / L g) c) (w .start (line / L g))) (tail g w)
-      go (yes l) =
-          let r = div-lt-iff-lt-mul lines .1 l in
-          rw (lt-ltb line (R g * L g) l) (ap₂ (λ (x y : A). pair x y) (walk-is _ _ r) (start-is _ r))
-      go (no f) = rw (le-ltb line (R g * L g) (omega (arith, f))) same-tail
-
-  same-carried-at : (z : A) (c line frame : ℕ) → carriedAt g v z c line frame ≡ carriedAt g w z c line frame
-  unfolding carriedAt
-  same-carried-at z (suc c) line frame = same-in-line (suc c) line
-  same-carried-at z zero (suc line) frame = same-in-line (HT g) line
-  same-carried-at z zero zero (suc frame) = same-tail
-  same-carried-at z zero zero zero = refl
-
-  pub same-scan : (z : A) (n : ℕ) → scanAt g v z n ≡ scanAt g w z n
-  unfolding scanAt
-  same-scan z n = ap (scan (n / HT g / VT g % 256) (n / HT g % VT g) (n % HT g)) (same-carried-at z (n % HT g) (n / HT g % VT g) (n / HT g / VT g))
 
 -- ---- two pages
 
@@ -177,14 +141,17 @@ module _ (p : Page) (irs′ : List ℕ) (s t : ℕ) (chars attrs chars′ attrs�
   H = hactOf p
 
   pub same-cell : (r c : ℕ) → r < rowsOf p → cellAt p chars r c ≡ cellAt q chars′ r c
-  unfolding fetchAt movedOf
+  unfolding fetchAt movedOf fetchedOf
   same-cell r c h =
       sym (cell-moved p chars r c)
-      ∙ parts (same-buffer p q (a .registers)) (same-counts p q (a .registers)) (a .code r h) (a .start r h)
+      ∙ parts (same-buffer p q (a .registers)) (same-hact p q (a .registers)) (a .code r h) (a .start r h)
       ∙ cell-moved q chars′ r c
     where
-      parts : {u u′ : Buffer} {g g′ : Counts} {k k′ x x′ : ℕ} → u ≡ u′ → g ≡ g′ → k ≡ k′ → x ≡ x′ → advanceBy u (movedAt g (codeOf k) c) x ≡ advanceBy u′ (movedAt g′ (codeOf k′) c) x′
-      parts ue ge ke xe = rw (ue, ge, ke, xe)
+      moved : (n k : ℕ) → ℕ
+      moved n k = pick (ltb c n) (pick (isWide (codeOf k)) (c / 2) c) (pick (isWide (codeOf k)) ((n + 1) / 2) n)
+
+      parts : {u u′ : Buffer} {n n′ k k′ x x′ : ℕ} → u ≡ u′ → n ≡ n′ → k ≡ k′ → x ≡ x′ → advanceBy u (moved n k) x ≡ advanceBy u′ (moved n′ k′) x′
+      parts ue ne ke xe = rw (ue, ne, ke, xe)
 
   -- what a column sets
   same-set : (r c : ℕ) → r < rowsOf p → c < H → setIn p chars attrs r c ≡ setIn q chars′ attrs′ r c
@@ -216,28 +183,54 @@ module _ (p : Page) (irs′ : List ℕ) (s t : ℕ) (chars attrs chars′ attrs�
 
   -- ---- the place for clock n
 
-  -- what the beam carries at a column, and what its row began with
-  same-carried : (r c : ℕ) → r < rowsOf p → rowsIn p chars attrs .walk r c ≡ rowsIn q chars′ attrs′ .walk r c
-  unfolding cellAt
-  same-carried r c h =
+  same-row : (r c : ℕ) → r < rowsOf p → rowAt p chars attrs r c ≡ rowAt q chars′ attrs′ r c
+  unfolding rowAt
+  same-row r c h =
       let cell = same-cell r c h in
-      let held = sym (held-valid p chars attrs r c) ∙ same-held r c h ∙ held-valid q chars′ attrs′ r c in
-      let code = a .code r h in
-      λ i. row (cell i) (held i) (code i)
-
-  same-begun : (r : ℕ) → r < rowsOf p → rowsIn p chars attrs .start r ≡ rowsIn q chars′ attrs′ .start r
-  unfolding rowStart
-  same-begun r h =
       let start = a .start r h in
-      let held = sym (held-valid p chars attrs r 0) ∙ same-held r 0 h ∙ held-valid q chars′ attrs′ r 0 in
+      let held = same-held r c h in
+      let before = same-held r 0 h in
       let code = a .code r h in
-      λ i. row (start i) (held i) (code i)
+      λ i. carried (row (cell i) (held i) (code i)) (row (start i) (before i) (code i))
+
+  clocks-are : htOf p ≡ htOf q
+  unfolding countsOf
+  clocks-are = ap (λ (g : Counts). g .ht .0) (same-counts p q (a .registers))
+
+  lines-are : vtOf p ≡ vtOf q
+  unfolding countsOf
+  lines-are = ap (λ (g : Counts). g .vt .0) (same-counts p q (a .registers))
+
+  same-last-row : lastAt p chars attrs ≡ lastAt q chars′ attrs′
+  same-last-row =
+      same-row (rowsOf p - 1) (htOf p) (omega arith)
+      ∙ ap₂ (λ (r c : ℕ). rowAt q chars′ attrs′ (r - 1) c) (same-rows p q (a .registers)) clocks-are
+
+  same-line-at : (c line : ℕ) → lineAt p chars attrs c line ≡ lineAt q chars′ attrs′ c line
+  same-line-at c line = go (decLt line (visibleOf p .0))
+    where
+      shown : visibleOf p .0 ≡ visibleOf q .0
+      shown = ap₂ (λ (r l : ℕ). r * l) (same-rows p q (a .registers)) (same-lines p q (a .registers))
+
+      go : Dec (line < visibleOf p .0) → lineAt p chars attrs c line ≡ lineAt q chars′ attrs′ c line
+      go (yes h) =
+          sym (line-shown p chars attrs c line h)
+          ∙ same-row (line / linesOf p) c (row-shown p line h)
+          ∙ ap (λ (l : ℕ). rowAt q chars′ attrs′ (line / l) c) (same-lines p q (a .registers))
+          ∙ line-shown q chars′ attrs′ c line (omega (arith, h, shown))
+      go (no f) =
+          sym (line-idle p chars attrs c line (omega (arith, f))) ∙ same-last-row ∙ line-idle q chars′ attrs′ c line (omega (arith, f, shown))
+
+  same-before : (c line frame : ℕ) → carriedBefore p chars attrs c line frame ≡ carriedBefore q chars′ attrs′ c line frame
+  unfolding carriedBefore
+  same-before c line frame =
+      rw (same-line-at c line, same-line-at (htOf p) (line - 1), same-last-row, clocks-are)
 
   pub same-place : (n : ℕ) → placeAt p chars attrs n ≡ placeAt q chars′ attrs′ n
-  unfolding placeAt countsOf
+  unfolding placeAt
   same-place n =
-      ap placeOf (same-scan (countsIn p) (omega arith) (lines-some p) (rowsIn p chars attrs) (rowsIn q chars′ attrs′) same-begun same-carried (row 0 0 0) n)
-      ∙ ap (λ (g : Counts). placeOf (scanAt g (rowsIn q chars′ attrs′) (row 0 0 0) n)) (same-counts p q (a .registers))
+      ap (placed (frameIn p n % 256) (lineIn p n) (clockIn p n)) (same-before (clockIn p n) (lineIn p n) (frameIn p n))
+      ∙ ap₂ (λ (t v : ℕ). placed (n / t / v % 256) (n / t % v) (n % t) (carriedBefore q chars′ attrs′ (n % t) (n / t % v) (n / t / v))) clocks-are lines-are
 
 -- ---- lines and pictures
 

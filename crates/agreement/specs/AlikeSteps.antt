@@ -10,13 +10,12 @@ use lib.ListN.{getD, replicate}
 use Rattle.lists.specs.Choice.{pick, both}
 use Rattle.refusal.specs.declared.Refusal.the-variants.{Done}
 use Rattle.raster.specs.declared.Row.{Row}
-use Rattle.raster.specs.Raster.{scanAt}
 use Rattle.raster.specs.Wide.{codeOf, isWide, againAt}
 use Rattle.raster.specs.Beams.{row}
 use Rattle.board.specs.declared.Page.{Page}
 use Rattle.board.specs.declared.Place.{Place}
 use Rattle.board.specs.declared.Board.{Board}
-use Rattle.timing.specs.Fields.{ir, linesOf, rowsOf, visibleOf, countsOf, hbpOf, vsyncOf, blinkOf}
+use Rattle.timing.specs.Fields.{ir, linesOf, visibleOf, hbpOf, vsyncOf, blinkOf}
 use Rattle.timing.specs.Laws.{row-shown}
 use Rattle.fetch.specs.Rows.{codeAt, cellAt}
 use Rattle.latch.specs.Held.{heldAt}
@@ -25,7 +24,8 @@ use Rattle.video.specs.declared.Scene.{Scene}
 use Rattle.video.specs.Scene.{sceneOf}
 use Rattle.video.specs.Cell.{columnOf}
 use Rattle.video.specs.At.{scanOf, dotsAt}
-use Rattle.place.specs.Place.{rasterOf, activeAt, loadedIn, placeAt}
+use Rattle.place.specs.Place.{activeAt, loadedIn, placeAt}
+use Rattle.place.specs.Beam.{rasterOf}
 use Rattle.place.specs.Settled.{at-settled}
 use Rattle.place.specs.State.{withPlace}
 use Rattle.step.specs.Signals.{signalsOf, padded, oddIn, clockDots}
@@ -45,7 +45,7 @@ pub record SameStep (b n : Board) (chars attrs chars′ attrs′ : List ℕ) (f 
 -- past the visible lines a clock works on what is held
 hidden : (p : Page) (chars attrs : List ℕ) (k : ℕ) → visibleOf p .0 ≤ placeAt p chars attrs k .line .0
     → loadedIn p chars (placeAt p chars attrs k) .beam ≡ rasterOf (placeAt p chars attrs k) .carried .beam
-unfolding loadedIn countsOf
+unfolding loadedIn
 hidden p chars attrs k h =
     rw (le-ltb (placeAt p chars attrs k .line .0) (visibleOf p .0) h) (ap (λ (x : Place). rasterOf x .carried .beam) (at-settled p chars attrs k))
 
@@ -55,7 +55,7 @@ visible : (b : Board) (chars attrs : List ℕ) (f : Font) → stepCheck b chars 
     ≡ row (cellAt (b .page) chars (placeAt (b .page) chars attrs k .line .0 / linesOf (b .page)) (placeAt (b .page) chars attrs k .clock .0))
     (heldAt (b .page) chars attrs (placeAt (b .page) chars attrs k .line .0 / linesOf (b .page)) (placeAt (b .page) chars attrs k .clock .0))
     (codeAt (b .page) chars (placeAt (b .page) chars attrs k .line .0 / linesOf (b .page)))
-unfolding placeAt scanAt countsOf
+unfolding placeAt
 visible b chars attrs f ok k h = beam-at b chars attrs f ok k h
 
 module _ (b : Board) (irs′ : List ℕ) (s t : ℕ) (chars attrs chars′ attrs′ : List ℕ) (f : Font) (a : Alike (b .page) irs′ s t chars attrs chars′ attrs′) where

@@ -7,14 +7,13 @@ use lib.Dec.{eqb}
 use Rattle.units.specs.Units.{clocksOf}
 use Rattle.refusal.specs.Number.{numberOf, besideOf}
 use Rattle.raster.specs.Moves.{advance, advanceBy, toLast, around}
-use Rattle.raster.specs.Cells.{startOf, cellOf}
 use Rattle.raster.specs.Latch.{latched}
 use Rattle.board.specs.declared.Page.{Page}
 use Rattle.board.specs.State.{boardOf}
 use Rattle.board.specs.Range.{addressRefused}
 use Rattle.timing.specs.Fields.{htOf, hfpOf, vtOf, bufferOf, cursorOf, countsOf, codedOf, linesOf, tableOf, hbpOf, vsyncOf, blinkOf}
 use Rattle.timing.specs.Check.{pageCheck}
-use Rattle.fetch.specs.Rows.{codeAt, rowStart, cellAt}
+use Rattle.fetch.specs.Rows.{codeAt, rowStart, cellAt, fetchAt, movedOf, fetchedOf}
 use Rattle.video.specs.declared.Look.{Look}
 use Rattle.video.specs.Scene.{sceneOf}
 use Rattle.video.specs.Look.{lookOf}
@@ -121,5 +120,5 @@ cases =
     ∷ []
 
 pub worked : all cases ≡ true
-unfolding all cases true-of holds columnsFrom fetched page same ones look pageCheck addressRefused codedOf linesOf tableOf hbpOf vsyncOf blinkOf countsOf bufferOf cursorOf codeAt rowStart cellAt startOf cellOf advance advanceBy toLast around sceneOf lookOf cellDots litBits cellBits lead bits xor
+unfolding all cases true-of holds columnsFrom fetched page same ones look pageCheck addressRefused codedOf linesOf tableOf hbpOf vsyncOf blinkOf countsOf bufferOf cursorOf codeAt rowStart fetchAt fetchedOf movedOf cellAt advance advanceBy toLast around sceneOf lookOf cellDots litBits cellBits lead bits xor
 worked = refl

@@ -16,9 +16,11 @@ use Rattle.raster.specs.Beams.{row}
 use Rattle.board.specs.declared.Board.{Board}
 use Rattle.timing.specs.Fields.{htOf, vtOf, hactOf, linesOf, visibleOf, tableOf, bufferOf, countsOf}
 use Rattle.timing.specs.Laws.{accepted-good, buffer-bounded, frame-bound}
-use Rattle.fetch.specs.Rows.{feedIn, tallyIn, cellAt}
+use Rattle.fetch.specs.Rows.{cellAt}
+use Rattle.fetch.specs.Feed.{feedIn, tallyIn, cell-fed}
 use Rattle.shape.specs.Font.{Font}
-use Rattle.place.specs.Place.{countsIn, rowsIn, placeAt}
+use Rattle.place.specs.Place.{placeAt}
+use Rattle.place.specs.Beam.{rowsIn}
 use Rattle.step.specs.Step.{stepCheck}
 use Rattle.agreement.specs.Steps.{after, fits, steps-are}
 use Rattle.agreement.specs.Lines.{addressAt, DrawnFrom, address-is, drawn-from}
@@ -33,7 +35,7 @@ module _ (b : Board) (chars attrs : List ℕ) (f : Font) (ok : stepCheck b chars
   frame-product = mul-comm (vtOf (b .page)) (htOf (b .page))
 
   -- the counts of the beam
-  good : Good (countsIn (b .page))
+  good : Good (countsOf (b .page))
   good = accepted-good (b .page) (fits b chars attrs f ok .page)
 
   -- clock n, counted from clock 0: line and clock are both 0 exactly where whole frames are over, and the field counts the frames, modulo 256
@@ -47,7 +49,7 @@ module _ (b : Board) (chars attrs : List ℕ) (f : Font) (ok : stepCheck b chars
   unfolding placeAt scanAt countsOf
   every-frame n =
       let at-n = steps-are b chars attrs f ok n in
-      let counts = countsIn (b .page) in
+      let counts = countsOf (b .page) in
       let rows = rowsIn (b .page) chars attrs in
       record {
         ends = λ e. rw at-n (frame→ counts rows good (row 0 0 0) n (rw frame-product at e));
@@ -60,8 +62,8 @@ module _ (b : Board) (chars attrs : List ℕ) (f : Font) (ok : stepCheck b chars
 
   cells-stay : tableOf (b .page) ≡ false → Inside (bufferOf (b .page)) (b .page .starts .start1)
       → (r c : ℕ) → Inside (bufferOf (b .page)) (cellAt (b .page) chars r c)
-  unfolding cellAt
-  cells-stay t i r c = cells-inside (feedIn (b .page) chars) (tallyIn (b .page) chars) t (buffer-bounded (b .page) .last-lt) i r c
+  cells-stay t i r c =
+      rw (cell-fed (b .page) chars r c) (cells-inside (feedIn (b .page) chars) (tallyIn (b .page) chars) t (buffer-bounded (b .page) .last-lt) i r c)
 
   -- table off, first ≤ screen start 1 ≤ last: line l of frame k fetches nothing outside that range
   pub record Stays (k l : ℕ) : Type 0 where

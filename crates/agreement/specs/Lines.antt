@@ -14,13 +14,11 @@ use Rattle.refusal.specs.declared.Refusal.the-variants.{Done}
 use Rattle.raster.specs.declared.Row.{Row}
 use Rattle.raster.specs.Raster.{Pair, Scan, loaded, scanAt}
 use Rattle.raster.specs.Agree.{loaded-meets}
-use Rattle.raster.specs.Latch.{setsOf}
 use Rattle.raster.specs.Wide.{isWide, againAt}
-use Rattle.raster.specs.Beams.{row, validAt}
+use Rattle.raster.specs.Beams.{row}
 use Rattle.board.specs.declared.Page.{Page}
 use Rattle.board.specs.declared.Place.{Place}
 use Rattle.board.specs.declared.Board.{Board}
-use Rattle.board.specs.Modes.{fieldMode}
 use Rattle.timing.specs.Fields.{htOf, vtOf, hactOf, linesOf, visibleOf, countsOf}
 use Rattle.timing.specs.Laws.{accepted-good}
 use Rattle.fetch.specs.Rows.{codeAt, cellAt}
@@ -32,8 +30,9 @@ use Rattle.line.specs.Line.{rowFor, codeFor, scanFor, columnDots, lineDots, lin
 use Rattle.video.specs.Cell.{columnOf}
 use Rattle.video.specs.At.{scanDots, dotsAt, lentRefused}
 use Rattle.place.specs.declared.Carried.{Carried}
-use Rattle.place.specs.Place.{rasterOf, countsIn, carrierIn, rowsIn, carriedOf, settledIn, activeAt, loadedIn, placeAt}
-use Rattle.place.specs.Settled.{at-settled}
+use Rattle.place.specs.Place.{activeAt, loadedIn, clockIn, lineIn, frameIn, placeAt}
+use Rattle.place.specs.Beam.{rasterOf, carriedOf, carrierOf, rowsIn, loaded-beam, walk-is}
+use Rattle.place.specs.Settled.{settledIn, at-settled}
 use Rattle.step.specs.Signals.{padded, clockDots}
 use Rattle.step.specs.Step.{steppedOf, stepCheck, stepOf}
 use Rattle.agreement.specs.Steps.{after, fits, lawful, raster-at, atClock, step-is, steps-are}
@@ -64,28 +63,29 @@ DrawnFrom b chars attrs f line address = (field : ℕ) (out : List ℕ) → line
     ++ drop (lineLength b) out
 
 loaded-visible : (p : Page) (chars attrs : List ℕ) (q : Place) → settledIn p q ≡ q → q .line .0 < visibleOf p .0
-    → loadedIn p chars q ≡ carriedOf (loaded (countsIn p) (carrierIn p chars (setsOf (fieldMode p) attrs)) (q .line .0) (q .clock .0) (rasterOf q .carried))
-unfolding loadedIn loaded countsOf
+    → loadedIn p chars q ≡ carriedOf (loaded (countsOf p) (carrierOf p chars attrs) (q .line .0) (q .clock .0) (rasterOf q .carried))
 loaded-visible p chars attrs q s h =
-    rw (lt-ltb (q .line .0) (visibleOf p .0) h)
-    (ap (λ (x : Place). carriedOf (loaded (countsIn p) (carrierIn p chars (setsOf (fieldMode p) attrs)) (q .line .0) (q .clock .0) (rasterOf x .carried))) s)
+    loaded-beam p chars attrs q
+    ∙ rw (lt-ltb (q .line .0) (visibleOf p .0) h)
+    (ap (λ (x : Place). carriedOf (loaded (countsOf p) (carrierOf p chars attrs) (q .line .0) (q .clock .0) (rasterOf x .carried))) s)
 
 module _ (b : Board) (chars attrs : List ℕ) (f : Font) (ok : stepCheck b chars attrs f ≡ Done) where
   -- what the step at clock n works on in a visible line
-  pub beam-at : (n : ℕ) → n / htOf (b .page) % vtOf (b .page) < visibleOf (b .page) .0
+  pub beam-at : (n : ℕ) → lineIn (b .page) n < visibleOf (b .page) .0
       → loadedIn (b .page) chars (placeAt (b .page) chars attrs n) .beam
-      ≡ row (cellAt (b .page) chars (n / htOf (b .page) % vtOf (b .page) / linesOf (b .page)) (n % htOf (b .page)))
-      (heldAt (b .page) chars attrs (n / htOf (b .page) % vtOf (b .page) / linesOf (b .page)) (n % htOf (b .page)))
-      (codeAt (b .page) chars (n / htOf (b .page) % vtOf (b .page) / linesOf (b .page)))
-  unfolding placeAt scanAt cellAt heldAt validAt countsOf
+      ≡ row (cellAt (b .page) chars (lineIn (b .page) n / linesOf (b .page)) (clockIn (b .page) n))
+      (heldAt (b .page) chars attrs (lineIn (b .page) n / linesOf (b .page)) (clockIn (b .page) n))
+      (codeAt (b .page) chars (lineIn (b .page) n / linesOf (b .page)))
+  unfolding placeAt scanAt countsOf
   beam-at n h =
       let p = b .page in
       let page = fits b chars attrs f ok .page in
       ap (λ (x : Carried). x .beam) (loaded-visible p chars attrs (placeAt p chars attrs n) (at-settled p chars attrs n) h)
-      ∙ ap (λ (s : Scan Row). loaded (countsIn p) (carrierIn p chars (setsOf (fieldMode p) attrs)) (n / htOf p % vtOf p) (n % htOf p) (s .carried) .beam) (raster-at p chars attrs page n)
+      ∙ ap (λ (s : Scan Row). loaded (countsOf p) (carrierOf p chars attrs) (lineIn p n) (clockIn p n) (s .carried) .beam) (raster-at p chars attrs page n)
       ∙ ap (λ (x : Pair Row). x .beam)
-      (loaded-meets (countsIn p) (carrierIn p chars (setsOf (fieldMode p) attrs)) (rowsIn p chars attrs) (accepted-good p page) (lawful p chars attrs page)
-      (row 0 0 0) (n % htOf p) (n / htOf p % vtOf p) (n / htOf p / vtOf p) h)
+      (loaded-meets (countsOf p) (carrierOf p chars attrs) (rowsIn p chars attrs) (accepted-good p page) (lawful p chars attrs page)
+      (row 0 0 0) (clockIn p n) (lineIn p n) (frameIn p n) h)
+      ∙ walk-is p chars attrs (lineIn p n / linesOf p) (clockIn p n)
 
   module _ (k l c : ℕ) (hl : l < visibleOf (b .page) .0) (hc : c < hactOf (b .page)) where
     c-lt : c < htOf (b .page)
@@ -121,12 +121,12 @@ module _ (b : Board) (chars attrs : List ℕ) (f : Font) (ok : stepCheck b chars
         rw (steps-are b chars attrs f ok (clockOf b k l c), step-is b chars attrs f ok (clockOf b k l c)) (ap (λ (x : Row). x .address) worked-on)
 
     active : activeAt (b .page) (atClock b chars attrs f ok (clockOf b k l c) .place) ≡ true
-    unfolding placeAt scanAt countsOf
+    unfolding placeAt
     active = rw (line-is, clock-is, lt-ltb l (visibleOf (b .page) .0) hl, lt-ltb c (hactOf (b .page)) hc)
 
     pub dots-are : stepOf (after b chars attrs f (clockOf b k l c)) chars attrs f .dots
         ≡ padded (columnDots b chars attrs f l (k % 256) c) (b .page .video .dots .0)
-    unfolding steppedOf clockDots columnDots dotsAt scanDots sceneOf placeAt scanAt countsOf
+    unfolding steppedOf clockDots columnDots dotsAt scanDots sceneOf placeAt
     dots-are =
         let n = clockOf b k l c in
         rw (steps-are b chars attrs f ok n, step-is b chars attrs f ok n)

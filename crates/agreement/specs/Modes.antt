@@ -16,7 +16,7 @@ use Rattle.board.specs.declared.Page.{Page}
 use Rattle.board.specs.declared.Place.{Place}
 use Rattle.board.specs.Modes.{fieldMode}
 use Rattle.board.specs.Range.{startsRefused, addressRefused}
-use Rattle.timing.specs.Fields.{codedOf, hactOf, countsOf}
+use Rattle.timing.specs.Fields.{codedOf, hactOf}
 use Rattle.fetch.specs.Rows.{codeAt, fetchedOf}
 use Rattle.fetch.specs.Laws.{no-codes}
 use Rattle.latch.specs.Held.{heldAt}
@@ -55,7 +55,7 @@ module _ (p : Page) (character : fieldMode p ≡ false) (chars attrs : List ℕ)
 
 module _ (p : Page) (plain : codedOf p ≡ false) (chars attrs : List ℕ) where
   pub no-row-codes : (row : ℕ) → (codeAt p chars row ≡ 0) × (fetchedOf p chars row ≡ hactOf p)
-  unfolding fetchedOf countsOf
+  unfolding fetchedOf
   no-row-codes row = (no-codes p chars plain row, rw (no-codes p chars plain row))
 
   no-code : (code : ℕ) → countedCode p code ≡ 0

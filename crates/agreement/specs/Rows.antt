@@ -19,7 +19,7 @@ use Rattle.raster.specs.Wide.{codeOf, isWide}
 use Rattle.board.specs.declared.Board.{Board}
 use Rattle.board.specs.Modes.{fieldMode}
 use Rattle.board.specs.Range.{memoryRefused}
-use Rattle.timing.specs.Fields.{hactOf, linesOf, rowsOf, visibleOf, tableOf, bufferOf, countsOf}
+use Rattle.timing.specs.Fields.{hactOf, linesOf, rowsOf, visibleOf, tableOf, bufferOf}
 use Rattle.fetch.specs.Rows.{entryOf, codeAt, rowStart, cellAt, fetchedOf, fetchAt}
 use Rattle.fetch.specs.Run.{runCheck, spanOf}
 use Rattle.fetch.specs.RowCells.{cellsOf, cellsCheck, rowOf, cellsGiven, cellsPut}
@@ -49,7 +49,7 @@ abbrev pub nthColumn : Board → (chars : List ℕ) → (r i : ℕ) → ℕ
 nthColumn b chars r i = pick (isWide (codeOf (codeAt (b .page) chars r))) (2 * i) i
 
 column-in : (b : Board) (chars : List ℕ) (r i : ℕ) → i < fetchedOf (b .page) chars r → (nthColumn b chars r i < hactOf (b .page)) × (nthCell b chars r (nthColumn b chars r i) ≡ i)
-unfolding fetchedOf countsOf
+unfolding fetchedOf
 column-in b chars r i = go (isWide (codeOf (codeAt (b .page) chars r)))
   where
     go : (t : Bool) → i < pick t ((hactOf (b .page) + 1) / 2) (hactOf (b .page)) → (pick t (2 * i) i < hactOf (b .page)) × (pick t (pick t (2 * i) i / 2) (pick t (2 * i) i) ≡ i)
@@ -57,7 +57,7 @@ column-in b chars r i = go (isWide (codeOf (codeAt (b .page) chars r)))
     go false h = (h, refl)
 
 pub cell-in : (b : Board) (chars : List ℕ) (r c : ℕ) → c < hactOf (b .page) → nthCell b chars r c < fetchedOf (b .page) chars r
-unfolding fetchedOf countsOf
+unfolding fetchedOf
 cell-in b chars r c h = go (isWide (codeOf (codeAt (b .page) chars r)))
   where
     go : (t : Bool) → pick t (c / 2) c < pick t ((hactOf (b .page) + 1) / 2) (hactOf (b .page))

@@ -9,7 +9,7 @@ use borrow.Author.Tests.{lt-leb, le-ltb, eq-eqb}
 use lib.ListN.{length}
 use Rattle.refusal.specs.declared.Refusal.the-variants.{Done, Size}
 use Rattle.refusal.specs.Laws.{not-refused, passed}
-use Rattle.raster.specs.Raster.{Scan, pair, scan, step, carriedAt, scanAt}
+use Rattle.raster.specs.Raster.{Pair, Scan, pair, scan, step, scanAt}
 use Rattle.raster.specs.Agree.{Laws, step-meets}
 use Rattle.raster.specs.Latch.{setsOf}
 use Rattle.raster.specs.declared.Row.{Row}
@@ -23,12 +23,14 @@ use Rattle.board.specs.Range.{memoriesRefused}
 use Rattle.timing.specs.Fields.{htOf, vtOf, countsOf}
 use Rattle.timing.specs.Check.{pageCheck, stateRefused, callCheck}
 use Rattle.timing.specs.Laws.{Accepted, InRange, accepted-good, call-passed}
-use Rattle.fetch.specs.Rows.{codeAt, feedIn, tallyIn}
+use Rattle.fetch.specs.Rows.{codeAt}
+use Rattle.fetch.specs.Feed.{feedIn, tallyIn}
 use Rattle.fetch.specs.Laws.{fed, tallied, cell-at-lt, row-start-lt}
 use Rattle.shape.specs.Font.{Font}
 use Rattle.video.specs.At.{lentRefused}
 use Rattle.place.specs.declared.Carried.{Carried}
-use Rattle.place.specs.Place.{countsIn, carrierIn, rowsIn, rasterOf, placeOf, nextPlace, rowAt, carriedBefore, placeAt}
+use Rattle.place.specs.Place.{nextPlace, clockIn, lineIn, frameIn, rowAt, carriedBefore, placeAt}
+use Rattle.place.specs.Beam.{rasterOf, placeOf, carrierOf, rowsIn, next-beam, carried-beam, at-beam}
 use Rattle.step.specs.Step.{steppedOf, stepCheck, stepOf, Fit}
 use Rattle.place.specs.State.{withPlace, stateCheck, stateOf}
 use Rattle.step.specs.Laws.{fit}
@@ -69,8 +71,8 @@ module _ (p : Page) (chars attrs : List ℕ) (a : Accepted p) where
   carried-small = carried-all p chars attrs Small row-small (record { beam-lt = omega arith; row-address-lt = omega arith })
 
   -- the laws by which the beam's rows, at once, fit its steps
-  pub lawful : Laws (countsIn p) (carrierIn p chars (setsOf (fieldMode p) attrs)) (rowsIn p chars attrs)
-  lawful = beams-lawful (countsIn p) (feedIn p chars) (codeAt p chars) (setsOf (fieldMode p) attrs) (tallyIn p chars) refl (fed p chars a) (tallied p chars a) (accepted-good p a)
+  pub lawful : Laws (countsOf p) (carrierOf p chars attrs) (rowsIn p chars attrs)
+  lawful = beams-lawful (countsOf p) (feedIn p chars) (codeAt p chars) (setsOf (fieldMode p) attrs) (tallyIn p chars) refl (fed p chars a) (tallied p chars a) (accepted-good p a)
 
   -- at every clock the beam goes by its row's code
   one-code : (c line frame : ℕ) → carriedBefore p chars attrs c line frame .beam .code ≡ carriedBefore p chars attrs c line frame .row .code
@@ -78,20 +80,21 @@ module _ (p : Page) (chars attrs : List ℕ) (a : Accepted p) where
   one-code = carried-all p chars attrs (λ (x : Carried). x .beam .code ≡ x .row .code) (λ r c. refl) refl
 
   -- so that nothing of the raster is lost in a place
-  pub raster-at : (n : ℕ) → rasterOf (placeAt p chars attrs n) ≡ scanAt (countsIn p) (rowsIn p chars attrs) (row 0 0 0) n
-  unfolding placeAt scanAt carriedBefore countsOf
+  pub raster-at : (n : ℕ) → rasterOf (placeAt p chars attrs n) ≡ scanAt (countsOf p) (rowsIn p chars attrs) (row 0 0 0) n
+  unfolding placeAt scanAt countsOf
   raster-at n =
-      let y = n / htOf p in
-      let s = scanAt (countsIn p) (rowsIn p chars attrs) (row 0 0 0) n in
-      ap (λ (k : ℕ). scan (s .field) (s .line) (s .clock) (pair (row (s .carried .beam .address) (s .carried .beam .latch) k) (s .carried .row)))
-      (sym (one-code (n % htOf p) (y % vtOf p) (y / vtOf p)))
+      let x = carriedBefore p chars attrs (clockIn p n) (lineIn p n) (frameIn p n) in
+      let to : Pair Row → Scan Row = λ y. scan (frameIn p n % 256) (lineIn p n) (clockIn p n) y in
+      ap (λ (k : ℕ). to (pair (row (x .beam .address) (x .beam .latch) k) (x .row))) (sym (one-code (clockIn p n) (lineIn p n) (frameIn p n)))
+      ∙ ap (λ (y : Carried). to (pair (y .beam) (y .row))) (carried-beam p chars attrs (clockIn p n) (lineIn p n) (frameIn p n))
 
   pub next-place : (n : ℕ) → nextPlace p chars attrs (placeAt p chars attrs n) ≡ placeAt p chars attrs (suc n)
-  unfolding nextPlace placeAt
   next-place n =
-      ap (λ (q : Place). placeOf (step (countsIn p) (carrierIn p chars (setsOf (fieldMode p) attrs)) (rasterOf q))) (at-settled p chars attrs n)
-      ∙ ap (λ (s : Scan Row). placeOf (step (countsIn p) (carrierIn p chars (setsOf (fieldMode p) attrs)) s)) (raster-at n)
-      ∙ ap placeOf (step-meets (countsIn p) (carrierIn p chars (setsOf (fieldMode p) attrs)) (rowsIn p chars attrs) (accepted-good p a) lawful (row 0 0 0) n)
+      next-beam p chars attrs (placeAt p chars attrs n)
+      ∙ ap (λ (q : Place). placeOf (step (countsOf p) (carrierOf p chars attrs) (rasterOf q))) (at-settled p chars attrs n)
+      ∙ ap (λ (s : Scan Row). placeOf (step (countsOf p) (carrierOf p chars attrs) s)) (raster-at n)
+      ∙ ap placeOf (step-meets (countsOf p) (carrierOf p chars attrs) (rowsIn p chars attrs) (accepted-good p a) lawful (row 0 0 0) n)
+      ∙ sym (at-beam p chars attrs (suc n))
 
 -- ---- the steps
 
@@ -115,14 +118,14 @@ module _ (b : Board) (chars attrs : List ℕ) (f : Font) (ok : stepCheck b chars
   atClock n = withPlace b (placeAt (b .page) chars attrs n)
 
   clock-in-range : (n : ℕ) → InRange (atClock n)
-  unfolding placeAt scanAt carriedBefore countsOf
+  unfolding placeAt
   clock-in-range n =
-      let h : 0 < htOf (b .page) = omega arith in
-      let v : 0 < vtOf (b .page) = omega arith in
-      let y = n / htOf (b .page) in
-      let c = carried-small (b .page) chars attrs (fits .page) (n % htOf (b .page)) (y % vtOf (b .page)) (y / vtOf (b .page)) in
+      let p = b .page in
+      let h : 0 < htOf p = omega arith in
+      let v : 0 < vtOf p = omega arith in
+      let c = carried-small p chars attrs (fits .page) (clockIn p n) (lineIn p n) (frameIn p n) in
       record {
-        line-lt = mod-lt (n / htOf (b .page)) v;
+        line-lt = mod-lt (n / htOf p) v;
         clock-lt = mod-lt n h;
         beam-le = omega (arith, c .beam-lt);
         row-le = omega (arith, c .row-address-lt);
@@ -138,7 +141,7 @@ module _ (b : Board) (chars attrs : List ℕ) (f : Font) (ok : stepCheck b chars
   step-is n = rw (accepts n)
 
   begins-at-zero : withPlace b clockZero ≡ atClock 0
-  unfolding placeAt scanAt carriedAt
+  unfolding placeAt carriedBefore
   begins-at-zero = simp (zero-div, zero-mod)
 
   step-on : (n : ℕ) → stepOf (atClock n) chars attrs f .board ≡ atClock (suc n)

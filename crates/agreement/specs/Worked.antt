@@ -9,13 +9,12 @@ use lib.ListN.{length, replicate}
 use Rattle.lists.specs.Search.{anyBelow, any-some, first-lt}
 use Rattle.refusal.specs.declared.Refusal.the-variants.{Done}
 use Rattle.raster.specs.Moves.{Inside, advanceBy, toLast}
-use Rattle.raster.specs.Cells.{cellOf, startOf}
 use Rattle.raster.specs.Latch.{lastSet}
 use Rattle.board.specs.declared.Page.{Page}
 use Rattle.board.specs.declared.Board.{Board}
 use Rattle.board.specs.State.{boardOf}
 use Rattle.board.specs.Range.{addressRefused}
-use Rattle.fetch.specs.Rows.{codeAt, entryOf, rowStart, cellAt, fetchedOf, fetchAt}
+use Rattle.fetch.specs.Rows.{codeAt, entryOf, rowStart, cellAt, fetchedOf, fetchAt, movedOf}
 use Rattle.latch.specs.Held.{heldAt}
 use Rattle.timing.specs.Fields.{bufferOf, countsOf, codedOf, linesOf, tableOf, hbpOf, vsyncOf}
 use Rattle.timing.specs.Check.{pageCheck, stateRefused, callCheck}
@@ -140,7 +139,7 @@ coded-row =
     (shown .stepped 0 0 (omega arith), refl)
 
 pub coded-held : heldAt (coded .page) entries reversed 0 1 ≡ 129
-unfolding coded entries reversed heldAt lastSet cellAt cellOf startOf linesOf vsyncOf countsOf codedOf tableOf codeAt entryOf advanceBy toLast bufferOf
+unfolding coded entries reversed heldAt lastSet cellAt fetchAt movedOf fetchedOf rowStart linesOf vsyncOf countsOf codedOf tableOf codeAt entryOf advanceBy toLast bufferOf
 coded-held = refl
 
 -- ---- R-5's moves take something
@@ -154,7 +153,7 @@ unfolding small memory ownCheck callCheck pageCheck addressRefused codedOf lines
 small-own = refl
 
 room-at-1 : unfetchedAt (small .page) memory 1 ≡ true
-unfolding small memory unfetchedAt fetchesCell anyBelow fetchAt fetchedOf linesOf vsyncOf countsOf codedOf tableOf codeAt rowStart startOf advanceBy toLast bufferOf
+unfolding small memory unfetchedAt fetchesCell anyBelow fetchAt fetchedOf linesOf vsyncOf countsOf codedOf tableOf codeAt rowStart advanceBy toLast bufferOf
 room-at-1 = refl
 
 pub there-taken : thereCheck small memory ≡ Done

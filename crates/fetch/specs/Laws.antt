@@ -5,7 +5,7 @@ use mathlib.Core.Bool.{Bool, true, false}
 use mathlib.Core.List.{List}
 use native.Mathlib.Nat.{mul-le-mul}
 use native.Mathlib.Omega.{arith}
-use borrow.Author.Tests.{lt-ltb, leb-false, eq-eqb, ne-eqb}
+use borrow.Author.Tests.{lt-ltb, leb-false}
 use lib.Dec.{ltb, leb}
 use lib.ListN.{length, take, drop, length-drop}
 use lib.Seq.{length-take-le}
@@ -17,17 +17,16 @@ use Rattle.refusal.specs.Laws.{done-is}
 use Rattle.raster.specs.Moves.{advanceBy, advanceBy-lt}
 use Rattle.raster.specs.declared.Code.{Code}
 use Rattle.raster.specs.Wide.{codeOf, isWide}
-use Rattle.raster.specs.Latch.{fetchedBy}
-use Rattle.raster.specs.Cells.{Fed, Tallied, begins, startOf, cellOf, start-lt}
+use Rattle.raster.specs.Cells.{Fed, Tallied, start-lt}
 use Rattle.board.specs.declared.Page.{Page}
 use Rattle.board.specs.declared.Board.{Board}
 use Rattle.board.specs.Range.{memoryRefused}
 use Rattle.board.specs.Laws.{memory-all}
 use Rattle.timing.specs.Fields.{codedOf, rowsOf, hactOf, tableOf, bufferOf, countsOf}
 use Rattle.timing.specs.Laws.{Accepted, call-passed}
-use Rattle.fetch.specs.Feed.{accepted-fed, accepted-tallied}
+use Rattle.fetch.specs.Feed.{feedIn, tallyIn, start-fed, accepted-fed, accepted-tallied}
 use Rattle.fetch.specs.declared.Span.{Span}
-use Rattle.fetch.specs.Rows.{entryOf, codeAt, feedIn, tallyIn, rowStart, cellAt, fetchedOf, movedOf, begunOf, fetchAt}
+use Rattle.fetch.specs.Rows.{entryOf, codeAt, wideAt, rowStart, fetchAt, fetchedOf, begunOf, movedOf, cellAt}
 use Rattle.fetch.specs.Run.{runCheck, runCount, span, spanOf, runOf}
 
 pub entry-lt : (p : Page) (chars : List ℕ) (r : ℕ) → entryOf p chars r < 16384
@@ -47,12 +46,11 @@ module _ (p : Page) (chars : List ℕ) (a : Accepted p) where
   tallied = accepted-tallied p (entryOf p chars) (codeAt p chars) a (no-codes p chars)
 
   pub row-start-lt : (r : ℕ) → rowStart p chars r < 16384
-  unfolding rowStart
-  row-start-lt r = start-lt (countsOf p) (feedIn p chars) (tallyIn p chars) fed tallied r
+  row-start-lt r = rw (start-fed p chars r) (start-lt (countsOf p) (feedIn p chars) (tallyIn p chars) fed tallied r)
 
 pub cell-at-lt : (p : Page) (chars : List ℕ) (r c : ℕ) → cellAt p chars r c < 16384
-unfolding cellAt cellOf
-cell-at-lt p chars r c = advanceBy-lt (bufferOf p) (tallyIn p chars .moved r c) (startOf (feedIn p chars) (tallyIn p chars) r)
+unfolding cellAt fetchAt
+cell-at-lt p chars r c = advanceBy-lt (bufferOf p) (movedOf p chars r c) (rowStart p chars r)
 
 -- ---- the definitions as the code has them
 
@@ -64,46 +62,46 @@ moves-fit p r h =
 
 module _ (p : Page) (chars : List ℕ) (r : ℕ) where
   pub start-table : tableOf p ≡ true → entryOf p chars r ≡ rowStart p chars r
-  unfolding rowStart startOf
+  unfolding rowStart
   start-table e = rw e
 
   pub start-sheet : tableOf p ≡ false → advanceBy (bufferOf p) (r * hactOf p) (p .starts .start1) ≡ rowStart p chars r
-  unfolding rowStart startOf countsOf
+  unfolding rowStart
   start-sheet e = rw e
 
   pub cell-moved : (c : ℕ) → fetchAt p chars r (movedOf p chars r c) ≡ cellAt p chars r c
-  unfolding cellAt cellOf rowStart fetchAt movedOf countsOf
+  unfolding cellAt
   cell-moved c = refl
 
-  moved-in : (c : ℕ) → c < hactOf p → movedOf p chars r c ≡ pick (isWide (codeOf (codeAt p chars r))) (c / 2) c
-  unfolding movedOf countsOf
+  moved-in : (c : ℕ) → c < hactOf p → movedOf p chars r c ≡ pick (wideAt p chars r) (c / 2) c
+  unfolding movedOf
   moved-in c h = rw (lt-ltb c (hactOf p) h)
 
   -- within the row a column shows the cell of its own place, or of half of it where the row is of double width
-  pub cell-shown : (c : ℕ) → c < hactOf p → fetchAt p chars r (pick (isWide (codeOf (codeAt p chars r))) (c / 2) c) ≡ cellAt p chars r c
+  pub cell-shown : (c : ℕ) → c < hactOf p → fetchAt p chars r (pick (wideAt p chars r) (c / 2) c) ≡ cellAt p chars r c
   cell-shown c h = ap (fetchAt p chars r) (sym (moved-in c h)) ∙ cell-moved c
 
 -- ---- a row's code, as the code has it
 
 module _ (p : Page) (chars : List ℕ) (r : ℕ) where
   -- whether the row is of double width
-  pub wide-is : {t : Bool} {k : Code} {byte : ℕ} → t ≡ isWide k → k ≡ codeOf byte → byte ≡ codeAt p chars r → t ≡ isWide (codeOf (codeAt p chars r))
+  pub wide-is : {t : Bool} {k : Code} {byte : ℕ} → t ≡ isWide k → k ≡ codeOf byte → byte ≡ codeAt p chars r → t ≡ wideAt p chars r
   wide-is e f g = rw (e, f, g)
 
-  pub fetched-by : {t : Bool} → t ≡ isWide (codeOf (codeAt p chars r)) → pick t ((hactOf p + 1) / 2) (hactOf p) ≡ fetchedOf p chars r
-  unfolding fetchedOf countsOf
+  pub fetched-by : {t : Bool} → t ≡ wideAt p chars r → pick t ((hactOf p + 1) / 2) (hactOf p) ≡ fetchedOf p chars r
+  unfolding fetchedOf
   fetched-by e = rw e
 
-  pub moved-by : {t : Bool} (c : ℕ) → t ≡ isWide (codeOf (codeAt p chars r)) → ltb c (hactOf p) ≡ true → pick t (c / 2) c ≡ movedOf p chars r c
-  unfolding movedOf countsOf
+  pub moved-by : {t : Bool} (c : ℕ) → t ≡ wideAt p chars r → ltb c (hactOf p) ≡ true → pick t (c / 2) c ≡ movedOf p chars r c
+  unfolding movedOf
   moved-by c e h = rw (h, e)
 
   pub moved-past : (c : ℕ) → ltb c (hactOf p) ≡ false → fetchedOf p chars r ≡ movedOf p chars r c
-  unfolding movedOf fetchedOf countsOf
+  unfolding movedOf
   moved-past c h = rw h
 
-  pub begun-by : {t : Bool} (c : ℕ) → t ≡ isWide (codeOf (codeAt p chars r)) → pick t ((min c (hactOf p) + 1) / 2) (min c (hactOf p)) ≡ begunOf p chars r c
-  unfolding begunOf fetchedBy
+  pub begun-by : {t : Bool} (c : ℕ) → t ≡ wideAt p chars r → pick t ((min c (hactOf p) + 1) / 2) (min c (hactOf p)) ≡ begunOf p chars r c
+  unfolding begunOf
   begun-by c e = rw e
 
   pub begun-least : (c : ℕ) → begunOf p chars r (min c (hactOf p)) ≡ begunOf p chars r c
@@ -114,33 +112,18 @@ module _ (p : Page) (chars : List ℕ) (r : ℕ) where
 
   -- at the row's end all of them
   pub begun-all : begunOf p chars r (hactOf p) ≡ fetchedOf p chars r
-  unfolding begunOf fetchedBy fetchedOf countsOf
+  unfolding begunOf fetchedOf
   begun-all =
       let m : min (hactOf p) (hactOf p) ≡ hactOf p = omega arith in
       rw m
 
 pub fetched-small : (p : Page) (chars : List ℕ) (r : ℕ) → (0 < fetchedOf p chars r) × (fetchedOf p chars r ≤ 256)
-unfolding fetchedOf countsOf
-fetched-small p chars r = go (isWide (codeOf (codeAt p chars r)))
+unfolding fetchedOf
+fetched-small p chars r = go (wideAt p chars r)
   where
     go : (t : Bool) → (0 < pick t ((hactOf p + 1) / 2) (hactOf p)) × (pick t ((hactOf p + 1) / 2) (hactOf p) ≤ 256)
     go true = (omega arith, omega arith)
     go false = (omega arith, omega arith)
-
--- ---- what a row begins with, as the code has it
-
-module _ (p : Page) (chars : List ℕ) (r a : ℕ) where
-  pub begins-table : tableOf p ≡ true → entryOf p chars r ≡ begins (feedIn p chars) r a
-  unfolding begins
-  begins-table e = rw e
-
-  pub begins-first : tableOf p ≡ false → r ≡ 0 → p .starts .start1 ≡ begins (feedIn p chars) r a
-  unfolding begins
-  begins-first e z = rw (e, eq-eqb r 0 z)
-
-  pub begins-on : tableOf p ≡ false → (r ≡ 0 → ⊥) → a ≡ begins (feedIn p chars) r a
-  unfolding begins
-  begins-on e z = rw (e, ne-eqb r 0 z)
 
 -- ---- runs
 

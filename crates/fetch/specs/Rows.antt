@@ -1,15 +1,14 @@
--- 01, "Which cell is fetched": the raster's cells at a page and its character memory.
+-- 01, "Which cell is fetched": the row table, where a row starts, and the cell that a column shows (02, R-4: in double width).
 use Prim.Native.Nat.{ℕ, min, _+_, _*_, _/_, _%_}
+use mathlib.Core.Bool.{Bool}
 use mathlib.Core.List.{List}
+use lib.Dec.{ltb}
 use lib.ListN.{getD}
 use Rattle.lists.specs.Choice.{pick}
 use Rattle.raster.specs.Moves.{advanceBy}
-use Rattle.raster.specs.Wide.{codeOf, fetchedIn, movedAt}
-use Rattle.raster.specs.Latch.{fetchedBy}
-use Rattle.raster.specs.Cells.{Feed, Tally, tallyBy, startOf, cellOf}
+use Rattle.raster.specs.Wide.{codeOf, isWide}
 use Rattle.board.specs.declared.Page.{Page}
-use Rattle.timing.specs.Fields.{codedOf, hactOf, bufferOf, countsOf}
-use Rattle.fetch.specs.Feed.{feedOf}
+use Rattle.timing.specs.Fields.{codedOf, tableOf, hactOf, bufferOf}
 
 -- the character byte at an address, modulo 16,384
 abbrev pub byteAt : List ℕ → ℕ → ℕ
@@ -23,31 +22,30 @@ entryOf p chars r = byteAt chars (p .starts .start2 + 2 * r) % 256 + 256 * (byte
 unfoldable pub codeAt : Page → List ℕ → ℕ → ℕ
 codeAt p chars r = pick (codedOf p) (byteAt chars (p .starts .start2 + 2 * r + 1) / 64 % 4) 0
 
-abbrev pub feedIn : Page → List ℕ → Feed
-feedIn p chars = feedOf p (entryOf p chars) (codeAt p chars)
+-- whether row r is of double width
+abbrev pub wideAt : Page → List ℕ → (row : ℕ) → Bool
+wideAt p chars r = isWide (codeOf (codeAt p chars r))
 
-abbrev pub tallyIn : Page → List ℕ → Tally
-tallyIn p chars = tallyBy (countsOf p) (codeAt p chars)
+-- where row r starts: at its table entry if the table is on, else r x HACT moves after screen start 1
+unfoldable pub rowStart : Page → List ℕ → (row : ℕ) → ℕ
+rowStart p chars r = pick (tableOf p) (entryOf p chars r) (advanceBy (bufferOf p) (r * hactOf p) (p .starts .start1))
 
--- where row r starts
-unfoldable pub rowStart : Page → List ℕ → ℕ → ℕ
-rowStart p chars r = startOf (feedIn p chars) (tallyIn p chars) r
+-- the cell that row r fetches after i others: i moves after its start
+unfoldable pub fetchAt : Page → List ℕ → (row i : ℕ) → ℕ
+fetchAt p chars r i = advanceBy (bufferOf p) i (rowStart p chars r)
+
+-- how many cells row r fetches: one a column, or in double width one for every other column, from the first on
+unfoldable pub fetchedOf : Page → List ℕ → (row : ℕ) → ℕ
+fetchedOf p chars r = pick (wideAt p chars r) ((hactOf p + 1) / 2) (hactOf p)
+
+-- how many it has fetched before column c
+unfoldable pub begunOf : Page → List ℕ → (row column : ℕ) → ℕ
+begunOf p chars r c = pick (wideAt p chars r) ((min c (hactOf p) + 1) / 2) (min c (hactOf p))
+
+-- how many it has moved on from by column c: past its last column, all of them
+unfoldable pub movedOf : Page → List ℕ → (row column : ℕ) → ℕ
+movedOf p chars r c = pick (ltb c (hactOf p)) (pick (wideAt p chars r) (c / 2) c) (fetchedOf p chars r)
 
 -- the cell that column c of row r shows
 unfoldable pub cellAt : Page → List ℕ → (row column : ℕ) → ℕ
-cellAt p chars r c = cellOf (feedIn p chars) (tallyIn p chars) r c
-
--- how many cells row r fetches, and how many of them it has moved on from by column c
-unfoldable pub fetchedOf : Page → List ℕ → (row : ℕ) → ℕ
-fetchedOf p chars r = fetchedIn (countsOf p) (codeOf (codeAt p chars r))
-
-unfoldable pub movedOf : Page → List ℕ → (row column : ℕ) → ℕ
-movedOf p chars r c = movedAt (countsOf p) (codeOf (codeAt p chars r)) c
-
--- and how many it has fetched before column c
-unfoldable pub begunOf : Page → List ℕ → (row column : ℕ) → ℕ
-begunOf p chars r c = fetchedBy (codeOf (codeAt p chars r)) (min c (hactOf p))
-
--- the cell that row r fetches after i others
-unfoldable pub fetchAt : Page → List ℕ → (row i : ℕ) → ℕ
-fetchAt p chars r i = advanceBy (bufferOf p) i (rowStart p chars r)
+cellAt p chars r c = fetchAt p chars r (movedOf p chars r c)

@@ -21,13 +21,15 @@ use Rattle.raster.specs.declared.Buffer.{Buffer}
 use Rattle.raster.specs.declared.Cell.{Cell}
 use Rattle.raster.specs.Moves.{cell, advanceBy}
 use Rattle.raster.specs.Wide.{codeOf, isWide, againAt, fetchesAt}
-use Rattle.raster.specs.Latch.{latched, setsOf, lastSet, last-none, same-last, last-over, last-kept, columns-cells}
+use Rattle.raster.specs.Latch.{latched, setsOf, lastSet, fetchedBy, last-none, same-last, last-over, last-kept, columns-cells}
+use Rattle.raster.specs.Cells.{startOf, cellOf}
 use Rattle.raster.specs.Beams.{validAt, valid-in-row}
 use Rattle.board.specs.declared.Page.{Page}
 use Rattle.board.specs.Modes.{fieldMode}
 use Rattle.timing.specs.declared.Timing.{Timing}
 use Rattle.timing.specs.Fields.{hactOf, bufferOf, timingOf, countsOf}
-use Rattle.fetch.specs.Rows.{codeAt, feedIn, tallyIn, rowStart, cellAt, fetchedOf, begunOf, fetchAt}
+use Rattle.fetch.specs.Rows.{codeAt, rowStart, fetchAt, fetchedOf, begunOf, movedOf, cellAt}
+use Rattle.fetch.specs.Feed.{feedIn, tallyIn}
 use Rattle.fetch.specs.Run.{oneRun, run-fits, run-at}
 use Rattle.fetch.specs.Laws.{cell-shown, begun-all}
 use Rattle.latch.specs.Held.{setIn, byteOf, heldAt}
@@ -56,7 +58,7 @@ module _ (p : Page) (chars attrs : List ℕ) where
   H = hactOf p
 
   pub held-valid : (r c : ℕ) → heldAt p chars attrs r c ≡ validAt (countsOf p) (feedIn p chars) (codeAt p chars) (setsOf (fieldMode p) attrs) (tallyIn p chars) r c
-  unfolding heldAt validAt cellAt countsOf
+  unfolding heldAt validAt cellAt fetchAt movedOf fetchedOf rowStart cellOf startOf countsOf
   held-valid r c = refl
 
   pub held-first : heldAt p chars attrs 0 0 ≡ 0
@@ -66,7 +68,7 @@ module _ (p : Page) (chars attrs : List ℕ) where
       rw z
 
   pub held-in-row : (r c : ℕ) → c ≤ H → heldAt p chars attrs r c ≡ lastSet (setIn p chars attrs r) (heldAt p chars attrs r 0) c
-  unfolding heldAt validAt cellAt countsOf
+  unfolding heldAt validAt cellAt fetchAt movedOf fetchedOf rowStart cellOf startOf countsOf
   held-in-row r c h = valid-in-row (countsOf p) (feedIn p chars) (codeAt p chars) (setsOf (fieldMode p) attrs) (tallyIn p chars) r c (omega arith)
 
   -- a column of the row, by the number of the cell that it shows
@@ -83,7 +85,7 @@ module _ (p : Page) (chars attrs : List ℕ) where
   -- the same along the row from its start, cell by cell
   pub held-along : (r c : ℕ) → c ≤ H
       → heldAt p chars attrs r c ≡ lastSet (λ i. setsOf (fieldMode p) attrs (fetchAt p chars r i)) (heldAt p chars attrs r 0) (begunOf p chars r c)
-  unfolding begunOf
+  unfolding begunOf fetchedBy
   held-along r c h =
       let m : min c H ≡ c = omega arith in
       held-in-row r c h

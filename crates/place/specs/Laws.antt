@@ -1,15 +1,13 @@
 -- The definitions as the code has them: one law for each way out of a function. And what callers use. Assumes nothing.
---     one-clock      loaded, moved on and turned is one step
 --     loaded-lt      what is fetched or held is an address
 --     carried-all    what holds at every column of every row, and at clock 0, holds at every clock
 use Prim.Native.Nat.{ℕ, zero, suc, _+_, _-_, _/_, _%_, _≤_, _<_}
-use mathlib.Core.Path.{_≡_, refl, ap, subst, _∙_}
-use mathlib.Core.Bool.{Bool, true, false, not, _&&_, true≢false}
+use mathlib.Core.Path.{_≡_, refl, subst, _∙_}
+use mathlib.Core.Bool.{Bool, true, false, _&&_, true≢false}
 use mathlib.Core.List.{List}
-use native.Mathlib.Numerals.{sub-one}
 use native.Mathlib.Decide.{decLt}
 use native.Mathlib.Omega.{arith}
-use borrow.Author.Tests.{lt-ltb, le-ltb, ltb-true, eqb-true}
+use borrow.Author.Tests.{lt-ltb, le-ltb, ltb-true, eqb-true, eq-eqb, ne-eqb}
 use lib.Dec.{ltb, eqb}
 use lib.ListN.{length}
 use Rattle.lists.specs.Choice.{pick, pick-lt, both}
@@ -19,28 +17,22 @@ use Rattle.units.specs.Units.{clocks, lines}
 use Rattle.refusal.specs.declared.Refusal.the-variants.{Done}
 use Rattle.raster.specs.declared.Row.{Row}
 use Rattle.raster.specs.declared.Cell.{Cell}
-use Rattle.raster.specs.Moves.{cell, advance}
-use Rattle.raster.specs.Latch.{latched, setsOf}
-use Rattle.raster.specs.Raster.{Pair, pair, loaded, onward, turn, step, tail, inLine, carriedAt, scanAt}
-use Rattle.raster.specs.Cells.{begins}
-use Rattle.raster.specs.Wide.{codeOf, againAt, endsAt}
+use Rattle.raster.specs.Moves.{cell}
 use Rattle.raster.specs.Beams.{beam, row}
 use Rattle.board.specs.declared.Page.{Page}
 use Rattle.board.specs.declared.Place.{Place}
 use Rattle.board.specs.declared.Board.{Board}
-use Rattle.board.specs.Modes.{fieldMode}
 use Rattle.board.specs.Range.{memoriesRefused}
 use Rattle.board.specs.Laws.{memories-all}
 use Rattle.timing.specs.declared.Timing.{Timing}
-use Rattle.timing.specs.Fields.{linesOf, rowsOf, hactOf, htOf, vtOf, tableOf, visibleOf, bufferOf, timingOf, countsOf}
+use Rattle.timing.specs.Fields.{linesOf, htOf, vtOf, tableOf, visibleOf, timingOf, countsOf}
 use Rattle.timing.specs.Laws.{Accepted, row-shown, call-passed}
-use Rattle.fetch.specs.Rows.{entryOf, codeAt, feedIn, rowStart, cellAt}
+use Rattle.fetch.specs.Rows.{entryOf, codeAt, rowStart, cellAt}
 use Rattle.fetch.specs.Laws.{entry-lt}
 use Rattle.latch.specs.Held.{heldAt}
-use Rattle.latch.specs.Laws.{held-valid}
 use Rattle.place.specs.declared.Carried.{Carried}
 use Rattle.place.specs.declared.Spot.{Spot}
-use Rattle.place.specs.Place.{countsIn, carrierIn, rowsIn, rasterOf, carriedOf, settled, settledIn, activeAt, loadsAt, begunIn, loadedIn, pastCell, movedIn, turnedIn, nextPlace, rowAt, lineAt, carriedBefore, placeAt}
+use Rattle.place.specs.Place.{carried, settled, heldIn, activeAt, loadsAt, beginsAt, begunIn, loadedIn, pastCell, movedIn, turnedIn, rowAt, lastAt, lineAt, carriedBefore, placeAt}
 use Rattle.place.specs.Spot.{lastSpot, spotIn, spotBefore, originAt}
 use Rattle.place.specs.State.{stateCheck}
 
@@ -65,51 +57,39 @@ spot-row p c line = go (ltb 0 c) (ltb 0 line)
 
 -- ---- what a clock works on
 
--- what the beam holds, with its row's code
-abbrev pub heldIn : Page → Place → Row
-heldIn p q = settled p (row (q .beam .address) (q .beam .latch) (q .row .code))
+module _ (p : Page) (chars : List ℕ) (r a : ℕ) where
+  pub begins-table : tableOf p ≡ true → entryOf p chars r ≡ beginsAt p chars r a
+  begins-table e = rw e
+
+  pub begins-first : tableOf p ≡ false → r ≡ 0 → p .starts .start1 ≡ beginsAt p chars r a
+  begins-first e z = rw (e, eq-eqb r 0 z)
+
+  pub begins-on : tableOf p ≡ false → (r ≡ 0 → ⊥) → a ≡ beginsAt p chars r a
+  begins-on e z = rw (e, ne-eqb r 0 z)
 
 module _ (p : Page) (chars : List ℕ) (q : Place) where
   pub loads-row : loadsAt p q ≡ true → q .line .0 / linesOf p < 8192
   loads-row t = row-of p (q .line .0) (ltb-true _ _ (both (ltb (q .line .0) (visibleOf p .0)) (eqb (q .clock .0) 0) t .0))
 
   pub loaded-first : loadsAt p q ≡ true → eqb (q .line .0 % linesOf p) 0 ≡ true
-      → (x : Row) → x ≡ begunIn p chars (q .line .0 / linesOf p) (heldIn p q) → carriedOf (pair x x) ≡ loadedIn p chars q
-  unfolding loadedIn loaded countsOf
-  loaded-first t z x e =
-      let b = both (ltb (q .line .0) (visibleOf p .0)) (eqb (q .clock .0) 0) t in
-      rw (b .0, b .1, z, e)
+      → (x : Row) → x ≡ begunIn p chars (q .line .0 / linesOf p) (heldIn p q) → carried x x ≡ loadedIn p chars q
+  unfolding loadedIn
+  loaded-first t z x e = rw (t, z, e)
 
   pub loaded-again : loadsAt p q ≡ true → eqb (q .line .0 % linesOf p) 0 ≡ false
-      → (x : Row) → x ≡ settled p (q .row) → carriedOf (pair x x) ≡ loadedIn p chars q
-  unfolding loadedIn loaded countsOf
-  loaded-again t z x e =
-      let b = both (ltb (q .line .0) (visibleOf p .0)) (eqb (q .clock .0) 0) t in
-      rw (b .0, b .1, z, e)
+      → (x : Row) → x ≡ settled p (q .row) → carried x x ≡ loadedIn p chars q
+  unfolding loadedIn
+  loaded-again t z x e = rw (t, z, e)
 
-  pub loaded-on : loadsAt p q ≡ false → (x y : Row) → x ≡ heldIn p q → y ≡ settled p (q .row) → carriedOf (pair x y) ≡ loadedIn p chars q
-  unfolding loadedIn loaded countsOf
-  loaded-on t x y e d = rw (e, d) (go (ltb (q .line .0) (visibleOf p .0)) (eqb (q .clock .0) 0) t)
-    where
-      held : Pair Row
-      held = rasterOf (settledIn p q) .carried
-
-      first : Row
-      first = begunIn p chars (q .line .0 / linesOf p) (held .beam)
-
-      m : Pair Row
-      m = pick (eqb (q .line .0 % linesOf p) 0) (pair first first) (pair (held .row) (held .row))
-
-      go : (u v : Bool) → (u && v) ≡ false → carriedOf held ≡ carriedOf (pick u (pick v m held) held)
-      go true true w = absurd (true≢false w)
-      go true false w = refl
-      go false v w = refl
+  pub loaded-on : loadsAt p q ≡ false → (x y : Row) → x ≡ heldIn p q → y ≡ settled p (q .row) → carried x y ≡ loadedIn p chars q
+  unfolding loadedIn
+  loaded-on t x y e d = rw (t, e, d)
 
 -- ---- the place after a clock
 
 module _ (p : Page) (attrs : List ℕ) (q : Place) (c : Carried) where
   pub moved-active : activeAt p q ≡ true → (x : Row) → x ≡ pastCell p attrs (q .clock .0) (c .beam)
-      → _≡_ {A = Carried} (record { beam = x; row = c .row }) (movedIn p attrs q c)
+      → carried x (c .row) ≡ movedIn p attrs q c
   unfolding movedIn
   moved-active t x e = rw (t, e)
 
@@ -130,119 +110,72 @@ module _ (p : Page) (q : Place) (c : Carried) (t : Timing) (et : t ≡ timingOf 
 
   pub turned-clock : ltb (k .0) (t .counts .ht .0) ≡ true
       → _≡_ {A = Place} (record { field = q .field; line = q .line; clock = k; beam = beam (c .beam .address) (c .beam .latch); row = c .row }) (turnedIn p q c)
-  unfolding turnedIn turn countsOf
+  unfolding turnedIn
   turned-clock h = rw (clock-test true h, ek)
 
   pub turned-line : ltb (k .0) (t .counts .ht .0) ≡ false → ltb (l .0) (t .counts .vt .0) ≡ true
       → _≡_ {A = Place} (record { field = q .field; line = l; clock = clocks 0; beam = beam (c .beam .address) (c .beam .latch); row = c .row }) (turnedIn p q c)
-  unfolding turnedIn turn countsOf
+  unfolding turnedIn
   turned-line h g = rw (clock-test false h, line-test true g, el)
 
   pub turned-frame : ltb (k .0) (t .counts .ht .0) ≡ false → ltb (l .0) (t .counts .vt .0) ≡ false → (f : ℕ) → f ≡ (q .field + 1) % 256
       → _≡_ {A = Place} (record { field = f; line = lines 0; clock = clocks 0; beam = beam (c .beam .address) (c .beam .latch); row = c .row }) (turnedIn p q c)
-  unfolding turnedIn turn countsOf
+  unfolding turnedIn
   turned-frame h g f e = rw (clock-test false h, line-test false g, e)
-
--- loaded, moved on and turned is one step
-pub one-clock : (p : Page) (chars attrs : List ℕ) (q : Place) → turnedIn p q (movedIn p attrs q (loadedIn p chars q)) ≡ nextPlace p chars attrs q
-unfolding nextPlace step turnedIn movedIn loadedIn loaded onward countsOf
-one-clock p chars attrs q = go (ltb (q .line .0) (visibleOf p .0)) (ltb (q .clock .0) (hactOf p))
-  where
-    a : Pair Row
-    a = loaded (countsIn p) (carrierIn p chars (λ _. 0)) (q .line .0) (q .clock .0) (rasterOf (settledIn p q) .carried)
-
-    b : Pair Row
-    b = rasterOf (settledIn p q) .carried
-
-    ends : Bool
-    ends = endsAt (countsIn p) (codeOf (a .beam .code)) (q .clock .0)
-
-    again : Bool
-    again = againAt (codeOf (a .beam .code)) (q .clock .0)
-
-    at : ℕ
-    at = advance (bufferOf p) (a .beam .address)
-
-    set : ℕ
-    set = latched (setsOf (fieldMode p) attrs (a .beam .address)) (a .beam .latch)
-
-    past : (latch : ℕ) → Carried
-    past latch = record { beam = row (pick ends at (a .beam .address)) latch (a .beam .code); row = a .row }
-
-    turned : (t : Bool) (x y : ℕ) → pick t x y ≡ pick (not t) y x
-    turned true x y = refl
-    turned false x y = refl
-
-    go : (u v : Bool)
-        → turnedIn p q (pick (u && v) (record { beam = pastCell p attrs (q .clock .0) (carriedOf (pick u a b) .beam); row = carriedOf (pick u a b) .row }) (carriedOf (pick u a b)))
-        ≡ turnedIn p q (carriedOf (pick u (pair (row (pick (v && ends) at (a .beam .address)) (pick (v && not again) set (a .beam .latch)) (a .beam .code)) (a .row)) b))
-    go true true = ap (λ (x : ℕ). turnedIn p q (past x)) (turned again (a .beam .latch) set)
-    go true false = refl
-    go false v = refl
 
 -- what is fetched or held is an address
 module _ (p : Page) (chars : List ℕ) (a : Accepted p) where
-  begins-lt : (r x : ℕ) → x < 16384 → begins (feedIn p chars) r x < 16384
-  unfolding begins
+  begins-lt : (r x : ℕ) → x < 16384 → beginsAt p chars r x < 16384
   begins-lt r x h =
       pick-lt 16384 (tableOf p) (entryOf p chars r) _ (entry-lt p chars r)
       (pick-lt 16384 (eqb r 0) (p .starts .start1) x (omega (arith, a .start1)) h)
 
   pub loaded-lt : (q : Place) → q .beam .address ≤ 16383 → q .row .address ≤ 16383 → loadedIn p chars q .beam .address < 16384
-  unfolding loadedIn loaded countsOf
-  loaded-lt q h k = go (ltb (q .line .0) (visibleOf p .0)) (eqb (q .clock .0) 0) (eqb (q .line .0 % linesOf p) 0)
+  unfolding loadedIn
+  loaded-lt q h k = go (loadsAt p q) (eqb (q .line .0 % linesOf p) 0)
     where
       first : Row
       first = begunIn p chars (q .line .0 / linesOf p) (heldIn p q)
 
-      held : Pair Row
-      held = pair (heldIn p q) (settled p (q .row))
+      again : Row
+      again = settled p (q .row)
 
-      go : (u v w : Bool) → carriedOf (pick u (pick v (pick w (pair first first) (pair (held .row) (held .row))) held) held) .beam .address < 16384
-      go true true true = begins-lt (q .line .0 / linesOf p) (q .beam .address) (omega arith)
-      go true true false = omega arith
-      go true false w = omega arith
-      go false v w = omega arith
+      go : (u w : Bool) → pick u (pick w (carried first first) (carried again again)) (carried (heldIn p q) again) .beam .address < 16384
+      go true true = begins-lt (q .line .0 / linesOf p) (q .beam .address) (omega arith)
+      go true false = omega arith
+      go false w = omega arith
 
 -- ---- at once
 
 module _ (p : Page) (chars attrs : List ℕ) where
   pub row-at : (r c : ℕ) (a s : Cell) (l k : ℕ) → a ≡ cell (cellAt p chars r c) → s ≡ cell (rowStart p chars r)
       → l ≡ heldAt p chars attrs r c → k ≡ heldAt p chars attrs r 0
-      → (j : ℕ) → j ≡ codeAt p chars r → _≡_ {A = Carried} (record { beam = row (a .address) l j; row = row (s .address) k j }) (rowAt p chars attrs r c)
+      → (j : ℕ) → j ≡ codeAt p chars r → carried (row (a .address) l j) (row (s .address) k j) ≡ rowAt p chars attrs r c
   unfolding rowAt
   row-at r c a s l k e d m n j o = rw (e, d, m, n, o)
 
-  -- it is the raster's
-  row-walked : (r c : ℕ) → rowAt p chars attrs r c ≡ carriedOf (pair (rowsIn p chars attrs .walk r c) (rowsIn p chars attrs .start r))
-  unfolding rowAt cellAt rowStart
-  row-walked r c = rw (held-valid p chars attrs r c, held-valid p chars attrs r 0)
-
   pub line-shown : (c line : ℕ) → line < visibleOf p .0 → rowAt p chars attrs (line / linesOf p) c ≡ lineAt p chars attrs c line
-  unfolding lineAt inLine countsOf
-  line-shown c line h = row-walked _ c ∙ rw (lt-ltb line (visibleOf p .0) h)
+  unfolding lineAt
+  line-shown c line h = rw (lt-ltb line (visibleOf p .0) h)
 
-  pub line-idle : (c line : ℕ) → visibleOf p .0 ≤ line → rowAt p chars attrs (rowsOf p - 1) (htOf p) ≡ lineAt p chars attrs c line
-  unfolding lineAt inLine tail countsOf
-  line-idle c line h = row-walked _ _ ∙ rw (le-ltb line (visibleOf p .0) h, sub-one (rowsOf p))
+  pub line-idle : (c line : ℕ) → visibleOf p .0 ≤ line → lastAt p chars attrs ≡ lineAt p chars attrs c line
+  unfolding lineAt
+  line-idle c line h = rw (le-ltb line (visibleOf p .0) h)
 
   pub carried-on : (c line frame : ℕ) → 0 < c → lineAt p chars attrs c line ≡ carriedBefore p chars attrs c line frame
-  unfolding lineAt carriedBefore carriedAt
-  carried-on zero line frame h = absurd (omega arith)
-  carried-on (suc c) line frame h = refl
+  unfolding carriedBefore
+  carried-on c line frame h = rw (lt-ltb 0 c h)
 
   pub carried-line : (c line frame : ℕ) → c ≡ 0 → 0 < line → lineAt p chars attrs (htOf p) (line - 1) ≡ carriedBefore p chars attrs c line frame
-  unfolding lineAt carriedBefore carriedAt countsOf
-  carried-line c zero frame e h = absurd (omega arith)
-  carried-line c (suc line) frame e h = rw (e, sub-one (suc line))
+  unfolding carriedBefore
+  carried-line c line frame e h = rw (e, lt-ltb 0 line h)
 
-  pub carried-frame : (c line frame : ℕ) → c ≡ 0 → line ≡ 0 → 0 < frame → rowAt p chars attrs (rowsOf p - 1) (htOf p) ≡ carriedBefore p chars attrs c line frame
-  unfolding carriedBefore carriedAt tail countsOf
-  carried-frame c line zero e d h = absurd (omega arith)
-  carried-frame c line (suc frame) e d h = row-walked _ _ ∙ rw (e, d, sub-one (rowsOf p))
+  pub carried-frame : (c line frame : ℕ) → c ≡ 0 → line ≡ 0 → 0 < frame → lastAt p chars attrs ≡ carriedBefore p chars attrs c line frame
+  unfolding carriedBefore
+  carried-frame c line frame e d h = rw (e, d, lt-ltb 0 frame h)
 
-  pub carried-zero : (c line frame : ℕ) → c ≡ 0 → line ≡ 0 → frame ≡ 0 → carriedOf (pair (row 0 0 0) (row 0 0 0)) ≡ carriedBefore p chars attrs c line frame
-  unfolding carriedBefore carriedAt
+  pub carried-zero : (c line frame : ℕ) → c ≡ 0 → line ≡ 0 → frame ≡ 0 → carried (row 0 0 0) (row 0 0 0) ≡ carriedBefore p chars attrs c line frame
+  unfolding carriedBefore
   carried-zero c line frame e d f = rw (e, d, f)
 
   -- where the beam last moved gives what is carried, but at clock 0
@@ -260,7 +193,7 @@ module _ (p : Page) (chars attrs : List ℕ) where
   spot-carried zero (suc line) frame h = rw (lt-ltb 0 (suc line) (omega arith)) (spot-line (htOf p) (suc line - 1) ∙ carried-line 0 (suc line) frame refl (omega arith))
   spot-carried zero zero frame h = carried-frame 0 0 frame refl refl (omega arith)
 
-  pub at-zero : (c line frame : ℕ) → originAt c line frame ≡ true → carriedOf (pair (row 0 0 0) (row 0 0 0)) ≡ carriedBefore p chars attrs c line frame
+  pub at-zero : (c line frame : ℕ) → originAt c line frame ≡ true → carried (row 0 0 0) (row 0 0 0) ≡ carriedBefore p chars attrs c line frame
   at-zero c line frame t =
       let a = both (eqb c 0 && eqb line 0) (eqb frame 0) t in
       let b = both (eqb c 0) (eqb line 0) (a .0) in
@@ -276,7 +209,7 @@ module _ (p : Page) (chars attrs : List ℕ) where
       some zero zero (suc frame) u = omega arith
       some zero zero zero u = absurd (true≢false u)
 
-  pub carried-all : (P : Carried → Type 0) → ((r c : ℕ) → P (rowAt p chars attrs r c)) → P (carriedOf (pair (row 0 0 0) (row 0 0 0)))
+  pub carried-all : (P : Carried → Type 0) → ((r c : ℕ) → P (rowAt p chars attrs r c)) → P (carried (row 0 0 0) (row 0 0 0))
       → (c line frame : ℕ) → P (carriedBefore p chars attrs c line frame)
   carried-all P rows first c line frame = go (originAt c line frame) refl
     where
@@ -290,7 +223,7 @@ module _ (p : Page) (chars attrs : List ℕ) where
       (frame : ℕ) (ef : frame ≡ whole .0 / t .counts .vt .0) where
     pub place-at : (x : Carried) → x ≡ carriedBefore p chars attrs (clock .0) (line .0) frame
         → _≡_ {A = Place} (record { field = frame % 256; line = line; clock = clock; beam = beam (x .beam .address) (x .beam .latch); row = x .row }) (placeAt p chars attrs n)
-    unfolding carriedBefore placeAt scanAt timingOf countsOf
+    unfolding placeAt timingOf countsOf
     place-at x e = rw (e, ec, el, ef, ew, et)
 
 pub state-whole : (b : Board) (chars attrs : List ℕ) → stateCheck b chars attrs ≡ Done → (length chars ≡ 16384) × (length attrs ≡ 16384)

@@ -4,3 +4,4 @@ pub mod Spot
 pub mod State
 pub mod Laws
 pub mod Settled
+pub mod Beam

@@ -1,50 +1,44 @@
--- The board's place: the raster at a page and its memories, one clock on and at once (01, "Clock and frame", "Which cell is fetched"; 02, R-1).
-use Prim.Native.Nat.{ℕ, _*_, _%_}
+-- The board's place, one clock on and at once (01, "Clock and frame", "Which cell is fetched"; 02, R-1 and R-4).
+use Prim.Native.Nat.{ℕ, _+_, _-_, _/_, _%_}
 use mathlib.Core.Bool.{Bool, _&&_}
 use mathlib.Core.List.{List}
 use lib.Dec.{ltb, eqb}
 use Rattle.lists.specs.Choice.{pick}
 use Rattle.units.specs.Units.{clocks, lines}
 use Rattle.raster.specs.declared.Row.{Row}
-use Rattle.raster.specs.declared.Counts.{Counts}
 use Rattle.raster.specs.Moves.{advance}
-use Rattle.raster.specs.Raster.{L, R, Carrier, Rows, Pair, pair, Scan, scan, loaded, turn, step, inLine, carriedAt, scanAt}
 use Rattle.raster.specs.Latch.{latched, setsOf}
 use Rattle.raster.specs.Wide.{codeOf, againAt, endsAt}
-use Rattle.raster.specs.Beams.{beam, row, beamCarrier, beamRows}
+use Rattle.raster.specs.Beams.{beam, row}
 use Rattle.board.specs.declared.Page.{Page}
 use Rattle.board.specs.declared.Place.{Place}
 use Rattle.board.specs.Modes.{fieldMode}
-use Rattle.timing.specs.Fields.{codedOf, hactOf, visibleOf, bufferOf, countsOf}
-use Rattle.fetch.specs.Rows.{codeAt, feedIn, tallyIn, rowStart, cellAt}
+use Rattle.timing.specs.Fields.{codedOf, tableOf, linesOf, rowsOf, hactOf, htOf, vtOf, visibleOf, bufferOf, countsOf}
+use Rattle.fetch.specs.Rows.{entryOf, codeAt, rowStart, cellAt}
 use Rattle.latch.specs.Held.{heldAt}
 use Rattle.place.specs.declared.Carried.{Carried}
 
--- a place as the raster has it, where the beam goes by its row's code, and back
-abbrev pub rasterOf : Place → Scan Row
-rasterOf p = scan (p .field) (p .line .0) (p .clock .0) (pair (row (p .beam .address) (p .beam .latch) (p .row .code)) (p .row))
+-- an active clock of a visible line
+abbrev pub activeAt : Page → Place → Bool
+activeAt p q = ltb (q .line .0) (visibleOf p .0) && ltb (q .clock .0) (hactOf p)
 
-abbrev pub placeOf : Scan Row → Place
-placeOf s = record {
-  field = s .field;
-  line = lines (s .line);
-  clock = clocks (s .clock);
-  beam = beam (s .carried .beam .address) (s .carried .beam .latch);
-  row = s .carried .row;
+-- column 0 of a visible line
+abbrev pub loadsAt : Page → Place → Bool
+loadsAt p q = ltb (q .line .0) (visibleOf p .0) && eqb (q .clock .0) 0
+
+-- what the beam carries along, with its row's code, and what its row began with
+abbrev pub carried : (beam row : Row) → Carried
+carried x y = record { beam = x; row = y }
+
+-- a place by its numbers
+abbrev pub placed : (field line clock : ℕ) → Carried → Place
+placed field line clock c = record {
+  field = field;
+  line = lines line;
+  clock = clocks clock;
+  beam = beam (c .beam .address) (c .beam .latch);
+  row = c .row;
 }
-
-abbrev pub carriedOf : Pair Row → Carried
-carriedOf p = record { beam = p .beam; row = p .row }
-
-abbrev pub countsIn : Page → Counts
-countsIn p = countsOf p
-
--- sets: the attribute byte that the cell at an address sets
-abbrev pub carrierIn : Page → (chars : List ℕ) → (sets : ℕ → ℕ) → Carrier Row
-carrierIn p chars sets = beamCarrier (countsIn p) (feedIn p chars) (codeAt p chars) sets
-
-abbrev pub rowsIn : Page → (chars attrs : List ℕ) → Rows Row
-rowsIn p chars attrs = beamRows (countsIn p) (feedIn p chars) (codeAt p chars) (setsOf (fieldMode p) attrs) (tallyIn p chars)
 
 -- ---- what a latch byte and a row's code count as
 
@@ -63,70 +57,89 @@ countedCode p code = pick (codedOf p) (code % 4) 0
 abbrev pub settled : Page → Row → Row
 settled p x = row (x .address) (countedLatch p (x .latch)) (countedCode p (x .code))
 
--- a place with its two latch bytes and its row's code as they count
-abbrev pub settledIn : Page → Place → Place
-settledIn p q = record {
-  field = q .field;
-  line = q .line;
-  clock = q .clock;
-  beam = beam (q .beam .address) (countedLatch p (q .beam .latch));
-  row = settled p (q .row);
-}
+-- what the beam holds, by its row's code
+abbrev pub heldIn : Page → Place → Row
+heldIn p q = settled p (row (q .beam .address) (q .beam .latch) (q .row .code))
 
--- ---- one clock
+-- ---- one clock: load on column 0 of a visible line; fetch, latch and move on; turn to the next clock, line or frame
 
--- an active clock of a visible line
-abbrev pub activeAt : Page → Place → Bool
-activeAt p q = ltb (q .line .0) (visibleOf p .0) && ltb (q .clock .0) (hactOf p)
+-- where a row begins if an address is held: at its table entry if the table is on; else row 0 at screen start 1; else it carries on
+abbrev pub beginsAt : Page → (chars : List ℕ) → (row held : ℕ) → ℕ
+beginsAt p chars r held = pick (tableOf p) (entryOf p chars r) (pick (eqb r 0) (p .starts .start1) held)
 
--- column 0 of a visible line
-abbrev pub loadsAt : Page → Place → Bool
-loadsAt p q = ltb (q .line .0) (visibleOf p .0) && eqb (q .clock .0) 0
-
--- what a row begins with, where x is held; no attribute plays a part in it
+-- what a row begins with: at the start of a frame nothing is latched
 abbrev pub begunIn : Page → (chars : List ℕ) → (row : ℕ) → Row → Row
-begunIn p chars r x = carrierIn p chars (λ _. 0) .begin r x
+begunIn p chars r x = row (beginsAt p chars r (x .address)) (pick (eqb r 0) 0 (x .latch)) (codeAt p chars r)
 
--- what a clock works on: on column 0 of a visible line it is loaded, elsewhere it is held
+-- what a clock works on. On column 0 of a visible line it is loaded: a row's first line begins the row, its later lines load the row's start again
 unfoldable pub loadedIn : Page → (chars : List ℕ) → Place → Carried
 loadedIn p chars q =
-    carriedOf
-    (pick (ltb (q .line .0) (R (countsIn p) * L (countsIn p)))
-    (loaded (countsIn p) (carrierIn p chars (λ _. 0)) (q .line .0) (q .clock .0) (rasterOf (settledIn p q) .carried))
-    (rasterOf (settledIn p q) .carried))
+    pick (loadsAt p q)
+    (pick (eqb (q .line .0 % linesOf p) 0)
+    (carried (begunIn p chars (q .line .0 / linesOf p) (heldIn p q)) (begunIn p chars (q .line .0 / linesOf p) (heldIn p q)))
+    (carried (settled p (q .row)) (settled p (q .row))))
+    (carried (heldIn p q) (settled p (q .row)))
 
--- past a clock: the cell that it fetches is latched where it has AFLG, and after a cell's last column the beam moves on
+-- past a clock: the cell that it fetches is latched if it has AFLG, and after a cell's last column the beam moves on
 abbrev pub pastCell : Page → (attrs : List ℕ) → (clock : ℕ) → Row → Row
 pastCell p attrs clock x =
     row
-    (pick (endsAt (countsIn p) (codeOf (x .code)) clock) (advance (bufferOf p) (x .address)) (x .address))
+    (pick (endsAt (countsOf p) (codeOf (x .code)) clock) (advance (bufferOf p) (x .address)) (x .address))
     (pick (againAt (codeOf (x .code)) clock) (x .latch) (latched (setsOf (fieldMode p) attrs (x .address)) (x .latch)))
     (x .code)
 
 -- each active clock of a visible line
 unfoldable pub movedIn : Page → (attrs : List ℕ) → Place → Carried → Carried
-movedIn p attrs q c = pick (activeAt p q) (record { beam = pastCell p attrs (q .clock .0) (c .beam); row = c .row }) c
+movedIn p attrs q c = pick (activeAt p q) (carried (pastCell p attrs (q .clock .0) (c .beam)) (c .row)) c
 
+-- the field counter goes from 255 to 0
 unfoldable pub turnedIn : Page → Place → Carried → Place
-turnedIn p q c = placeOf (turn (countsIn p) (q .field) (q .line .0) (q .clock .0) (pair (c .beam) (c .row)))
+turnedIn p q c =
+    pick (ltb (q .clock .0 + 1) (htOf p))
+    (placed (q .field) (q .line .0) (q .clock .0 + 1) c)
+    (pick (ltb (q .line .0 + 1) (vtOf p))
+    (placed (q .field) (q .line .0 + 1) 0 c)
+    (placed ((q .field + 1) % 256) 0 0 c))
 
-unfoldable pub nextPlace : Page → (chars attrs : List ℕ) → Place → Place
-nextPlace p chars attrs q = placeOf (step (countsIn p) (carrierIn p chars (setsOf (fieldMode p) attrs)) (rasterOf (settledIn p q)))
+abbrev pub nextPlace : Page → (chars attrs : List ℕ) → Place → Place
+nextPlace p chars attrs q = turnedIn p q (movedIn p attrs q (loadedIn p chars q))
 
--- ---- at once
+-- ---- at once, for clock n by its quotients and remainders
 
+-- the clock in its line, its line, and its frame
+abbrev pub clockIn : Page → ℕ → ℕ
+clockIn p n = n % htOf p
+
+abbrev pub lineIn : Page → ℕ → ℕ
+lineIn p n = n / htOf p % vtOf p
+
+abbrev pub frameIn : Page → ℕ → ℕ
+frameIn p n = n / htOf p / vtOf p
+
+-- what is carried after c clocks of a row
 unfoldable pub rowAt : Page → (chars attrs : List ℕ) → (row c : ℕ) → Carried
-rowAt p chars attrs r c = record {
-  beam = row (cellAt p chars r c) (heldAt p chars attrs r c) (codeAt p chars r);
-  row = row (rowStart p chars r) (heldAt p chars attrs r 0) (codeAt p chars r);
-}
+rowAt p chars attrs r c =
+    carried
+    (row (cellAt p chars r c) (heldAt p chars attrs r c) (codeAt p chars r))
+    (row (rowStart p chars r) (heldAt p chars attrs r 0) (codeAt p chars r))
 
+-- what the last row leaves, until the next frame
+abbrev pub lastAt : Page → (chars attrs : List ℕ) → Carried
+lastAt p chars attrs = rowAt p chars attrs (rowsOf p - 1) (htOf p)
+
+-- what is carried after c clocks of a line
 unfoldable pub lineAt : Page → (chars attrs : List ℕ) → (c line : ℕ) → Carried
-lineAt p chars attrs c line = carriedOf (inLine (countsIn p) (rowsIn p chars attrs) c line)
+lineAt p chars attrs c line = pick (ltb line (visibleOf p .0)) (rowAt p chars attrs (line / linesOf p) c) (lastAt p chars attrs)
 
+-- what is carried before clock c of a line of a frame: before clock 0 what the line before it left, and nothing at all before the first frame
 unfoldable pub carriedBefore : Page → (chars attrs : List ℕ) → (c line frame : ℕ) → Carried
-carriedBefore p chars attrs c line frame = carriedOf (carriedAt (countsIn p) (rowsIn p chars attrs) (row 0 0 0) c line frame)
+carriedBefore p chars attrs c line frame =
+    pick (ltb 0 c)
+    (lineAt p chars attrs c line)
+    (pick (ltb 0 line)
+    (lineAt p chars attrs (htOf p) (line - 1))
+    (pick (ltb 0 frame) (lastAt p chars attrs) (carried (row 0 0 0) (row 0 0 0))))
 
 -- the place for clock n, counted from clock 0
 unfoldable pub placeAt : Page → (chars attrs : List ℕ) → ℕ → Place
-placeAt p chars attrs n = placeOf (scanAt (countsIn p) (rowsIn p chars attrs) (row 0 0 0) n)
+placeAt p chars attrs n = placed (frameIn p n % 256) (lineIn p n) (clockIn p n) (carriedBefore p chars attrs (clockIn p n) (lineIn p n) (frameIn p n))

@@ -2,27 +2,36 @@
 --     next-settled   every step leaves them so
 --     at-settled     and so are those of the place for clock n
 use Prim.Native.Nat.{ℕ, _+_, _*_, _/_, _%_}
-use mathlib.Core.Path.{_≡_, refl, sym, ap, _∙_}
+use mathlib.Core.Path.{_≡_, refl, sym}
 use mathlib.Core.Bool.{Bool, true, false}
 use mathlib.Core.List.{List}
 use native.Mathlib.Omega.{arith}
 use lib.Dec.{ltb, eqb}
 use Rattle.lists.specs.Choice.{pick}
 use Rattle.raster.specs.declared.Row.{Row}
-use Rattle.raster.specs.Raster.{Pair, pair, Scan, scan, turn, loaded, scanAt}
 use Rattle.raster.specs.Latch.{latched, kept-twice, latched-kept}
 use Rattle.raster.specs.Wide.{codeOf, againAt}
 use Rattle.raster.specs.Beams.{beam, row}
 use Rattle.board.specs.declared.Page.{Page}
 use Rattle.board.specs.declared.Place.{Place}
 use Rattle.board.specs.Modes.{fieldMode}
-use Rattle.timing.specs.Fields.{codedOf, linesOf, htOf, vtOf, visibleOf, countsOf}
+use Rattle.timing.specs.Fields.{codedOf, linesOf, htOf, vtOf}
 use Rattle.fetch.specs.Rows.{byteAt, codeAt}
 use Rattle.latch.specs.Held.{heldAt}
 use Rattle.latch.specs.Laws.{held-plain, held-kept}
 use Rattle.place.specs.declared.Carried.{Carried}
-use Rattle.place.specs.Place.{placeOf, countsIn, carriedOf, setBy, countedLatch, countedCode, settled, settledIn, activeAt, begunIn, loadedIn, pastCell, movedIn, turnedIn, nextPlace, rowAt, carriedBefore, placeAt}
-use Rattle.place.specs.Laws.{one-clock, carried-all}
+use Rattle.place.specs.Place.{carried, placed, setBy, countedLatch, countedCode, settled, heldIn, activeAt, loadsAt, begunIn, loadedIn, pastCell, movedIn, turnedIn, nextPlace, clockIn, lineIn, frameIn, rowAt, placeAt}
+use Rattle.place.specs.Laws.{carried-all}
+
+-- a place with its two latch bytes and its row's code as they count
+abbrev pub settledIn : Page → Place → Place
+settledIn p q = record {
+  field = q .field;
+  line = q .line;
+  clock = q .clock;
+  beam = beam (q .beam .address) (countedLatch p (q .beam .latch));
+  row = settled p (q .row);
+}
 
 module _ (p : Page) where
   -- ---- one byte
@@ -98,23 +107,25 @@ module _ (p : Page) where
       go false = counted-twice (x .latch)
 
   pub loaded-settled : (chars : List ℕ) (q : Place) → Settled (loadedIn p chars q)
-  unfolding loadedIn loaded countsOf
-  loaded-settled chars q = go (ltb (q .line .0) (visibleOf p .0)) (eqb (q .clock .0) 0) (eqb (q .line .0 % linesOf p) 0)
+  unfolding loadedIn
+  loaded-settled chars q = go (loadsAt p q) (eqb (q .line .0 % linesOf p) 0)
     where
+      r : ℕ
+      r = q .line .0 / linesOf p
+
       x : Row
       x = row (q .beam .address) (q .beam .latch) (q .row .code)
 
       first : Row
-      first = begunIn p chars (q .line .0 / linesOf p) (settled p x)
+      first = begunIn p chars r (heldIn p q)
 
-      held : Pair Row
-      held = pair (settled p x) (settled p (q .row))
+      again : Row
+      again = settled p (q .row)
 
-      go : (u v w : Bool) → Settled (carriedOf (pick u (pick v (pick w (pair first first) (pair (held .row) (held .row))) held) held))
-      go true true true = let e = begun-settled chars (q .line .0 / linesOf p) x in (e, e, code-own chars (q .line .0 / linesOf p))
-      go true true false = (counted-twice (q .row .latch), counted-twice (q .row .latch), code-twice (q .row .code))
-      go true false w = (counted-twice (q .beam .latch), counted-twice (q .row .latch), code-twice (q .row .code))
-      go false v w = (counted-twice (q .beam .latch), counted-twice (q .row .latch), code-twice (q .row .code))
+      go : (u w : Bool) → Settled (pick u (pick w (carried first first) (carried again again)) (carried (heldIn p q) again))
+      go true true = let e = begun-settled chars r x in (e, e, code-own chars r)
+      go true false = (counted-twice (q .row .latch), counted-twice (q .row .latch), code-twice (q .row .code))
+      go false w = (counted-twice (q .beam .latch), counted-twice (q .row .latch), code-twice (q .row .code))
 
   moved-settled : (attrs : List ℕ) (q : Place) (c : Carried) → Settled c → Settled (movedIn p attrs q c)
   unfolding movedIn
@@ -124,33 +135,30 @@ module _ (p : Page) where
       past true byte = h .0
       past false byte = counted-set byte (c .beam .latch) (h .0)
 
-      go : (t : Bool) → Settled (pick t (record { beam = pastCell p attrs (q .clock .0) (c .beam); row = c .row }) c)
+      go : (t : Bool) → Settled (pick t (carried (pastCell p attrs (q .clock .0) (c .beam)) (c .row)) c)
       go true = (past (againAt (codeOf (c .beam .code)) (q .clock .0)) _, h .1, h .2)
       go false = h
 
   turned-settled : (q : Place) (c : Carried) → Settled c → settledIn p (turnedIn p q c) ≡ turnedIn p q c
-  unfolding turnedIn turn
-  turned-settled q c h = go (ltb (q .clock .0 + 1) (countsIn p .ht .0)) (ltb (q .line .0 + 1) (countsIn p .vt .0))
+  unfolding turnedIn
+  turned-settled q c h = go (ltb (q .clock .0 + 1) (htOf p)) (ltb (q .line .0 + 1) (vtOf p))
     where
-      to : (field line clock : ℕ) → Scan Row
-      to field line clock = scan field line clock (pair (c .beam) (c .row))
+      to : (field line clock : ℕ) → Place
+      to field line clock = placed field line clock c
 
-      kept : (field line clock : ℕ) → settledIn p (placeOf (to field line clock)) ≡ placeOf (to field line clock)
+      kept : (field line clock : ℕ) → settledIn p (to field line clock) ≡ to field line clock
       kept field line clock = rw (h .0, h .1, h .2)
 
-      after : (u v : Bool) → Scan Row
+      after : (u v : Bool) → Place
       after u v = pick u (to (q .field) (q .line .0) (q .clock .0 + 1)) (pick v (to (q .field) (q .line .0 + 1) 0) (to ((q .field + 1) % 256) 0 0))
 
-      go : (u v : Bool) → settledIn p (placeOf (after u v)) ≡ placeOf (after u v)
+      go : (u v : Bool) → settledIn p (after u v) ≡ after u v
       go true v = kept _ _ _
       go false true = kept _ _ _
       go false false = kept _ _ _
 
   pub next-settled : (chars attrs : List ℕ) (q : Place) → settledIn p (nextPlace p chars attrs q) ≡ nextPlace p chars attrs q
-  next-settled chars attrs q =
-      ap (settledIn p) (sym (one-clock p chars attrs q))
-      ∙ turned-settled q _ (moved-settled attrs q _ (loaded-settled chars q))
-      ∙ one-clock p chars attrs q
+  next-settled chars attrs q = turned-settled q _ (moved-settled attrs q _ (loaded-settled chars q))
 
   -- ---- at once
 
@@ -159,8 +167,7 @@ module _ (p : Page) where
   row-settled chars attrs r c = (counted-held chars attrs r c, counted-held chars attrs r 0, code-own chars r)
 
   pub at-settled : (chars attrs : List ℕ) (n : ℕ) → settledIn p (placeAt p chars attrs n) ≡ placeAt p chars attrs n
-  unfolding placeAt scanAt carriedBefore countsOf
+  unfolding placeAt
   at-settled chars attrs n =
-      let y = n / htOf p in
-      let s = carried-all p chars attrs Settled (row-settled chars attrs) (counted-none, counted-none, code-none) (n % htOf p) (y % vtOf p) (y / vtOf p) in
+      let s = carried-all p chars attrs Settled (row-settled chars attrs) (counted-none, counted-none, code-none) (clockIn p n) (lineIn p n) (frameIn p n) in
       rw (s .0, s .1, s .2)

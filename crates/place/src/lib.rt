@@ -5,13 +5,11 @@ ghost use lib.ListN.{length};
 ghost use lib.Dec.{eqb};
 ghost use Rattle.lists.specs.Choice.{pick};
 ghost use Rattle.raster.specs.Moves.{cell};
-ghost use Rattle.raster.specs.Cells.{begins};
-ghost use Rattle.fetch.specs.Rows.{feedIn};
 ghost use Rattle.raster.specs.Moves.{advance};
 ghost use Rattle.raster.specs.Latch.{latched};
 ghost use Rattle.raster.specs.Wide.{endsAt};
-ghost use Rattle.timing.specs.Fields.{bufferOf};
-ghost use Rattle.place.specs.Place.{countsIn, setBy, countedCode, settled, activeAt, loadsAt, begunIn, loadedIn, pastCell, movedIn, turnedIn, rowAt, carriedBefore, placeAt};
+ghost use Rattle.timing.specs.Fields.{bufferOf, countsOf};
+ghost use Rattle.place.specs.Place.{setBy, countedCode, settled, activeAt, loadsAt, beginsAt, begunIn, loadedIn, pastCell, movedIn, turnedIn, rowAt, carriedBefore, placeAt};
 ghost use Rattle.place.specs.Spot.{lastSpot, spotIn, spotBefore, originAt};
 ghost use Rattle.place.specs.State.{withPlace, stateOf};
 
@@ -54,7 +52,7 @@ fn settled(p: board::Page, x: raster::Row) -> raster::Row
 // The cell that a row begins at, where one is held. The row table is fetched with the display off too.
 fn begun_at(p: board::Page, chars: &[u8], row: u32, held: raster::Cell) -> raster::Cell
     requires { ⌜ (length (now chars) ≡ 16384) × (row < 8192) ⌝ }
-    ensures { λ r. ⌜ r ≡ cell (begins (feedIn p (now (chars .entry))) row (held .address)) ⌝ }
+    ensures { λ r. ⌜ r ≡ cell (beginsAt p (now (chars .entry)) row (held .address)) ⌝ }
 {
     if timing::table_of(p) {
         return fetch::entry(p, chars, row);
@@ -160,7 +158,7 @@ fn next_latch(p: board::Page, again: bool, byte: u8, held: u8) -> u8
 // A cell's last column.
 fn ends_at(p: board::Page, k: raster::Code, clock: units::Clocks) -> bool
     requires { ⌜ clock .0 < 384 ⌝ }
-    ensures { λ r. ⌜ r ≡ endsAt (countsIn p) k (clock .0) ⌝ }
+    ensures { λ r. ⌜ r ≡ endsAt (countsOf p) k (clock .0) ⌝ }
 {
     let t = timing::timing_of(p);
     let next = clock.plus(units::Clocks(1));

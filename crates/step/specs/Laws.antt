@@ -32,7 +32,7 @@ use Rattle.dots.specs.Width.{length-cell}
 use Rattle.place.specs.declared.Carried.{Carried}
 use Rattle.place.specs.Place.{activeAt, loadedIn, movedIn, turnedIn}
 use Rattle.place.specs.State.{withPlace}
-use Rattle.place.specs.Laws.{one-clock, loaded-lt}
+use Rattle.place.specs.Laws.{loaded-lt}
 use Rattle.step.specs.declared.Signals.{Signals}
 use Rattle.step.specs.declared.Stepped.{Stepped}
 use Rattle.step.specs.declared.Clock.{Clock}
@@ -190,7 +190,7 @@ module _ (b : Board) (chars attrs : List ℕ) (f : Font) where
       let a = c .beam .address in
       let signals : g ≡ signalsOf b k a = eg ∙ ap (λ (x : Shown). signalsWith b (x .cursor)) es ∙ signals-shown b chars attrs f k h a in
       let dots : d ≡ clockDots b chars attrs f k h a = rw (ew, es) at ed ∙ dots-shown b chars attrs f k h a most in
-      rw (eq, signals, dots, ec, one-clock (b .page) chars attrs (b .place))
+      rw (eq, signals, dots, ec)
 
   pub clock-done : doneOf (stepCheck b chars attrs f) ≡ true → (c : Clock) → c ≡ clockIn (steppedOf b chars attrs f) → c ≡ clockIn (stepOf b chars attrs f)
   unfolding stepOf

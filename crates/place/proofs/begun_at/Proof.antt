@@ -1,4 +1,4 @@
-use Rattle.fetch.specs.Laws.{begins-table, begins-first, begins-on}
+use Rattle.place.specs.Laws.{begins-table, begins-first, begins-on}
 use Rattle.raster.specs.Moves.{cell}
 use mathlib.Core.Path.{sym, ap, _∙_}
 use borrow.Author.Needs.{needs}
