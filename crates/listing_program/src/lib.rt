@@ -137,6 +137,8 @@ fn list_page(b: board::Board, chars: &[u8], attrs: &[u8]) -> u32 {
     ending(print_listing(b, chars, attrs, &words, &flags, &unshifted, &shifted))
 }
 
+// No law of one answer: what it reads and prints no contract of the kit can say. It is proved to end and to index nothing
+// out of range, given that each `read` and `write` of C returns.
 #[no_mangle]
 pub extern "C" fn feldrime_listing() -> u32 {
     let mut file = [0u8; 32797];
