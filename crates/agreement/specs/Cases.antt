@@ -119,6 +119,8 @@ cases =
     ∷ record { given = page 35 80 0 16383 0 1; facts = levels (1 + 16) 2 0 ∷ [] }
     ∷ []
 
+-- [case A1-A10] cases A1 to A10, one table and one theorem
+-- [R-2 accepted]
 pub worked : all cases ≡ true
 unfolding all cases true-of holds columnsFrom fetched page same ones look pageCheck addressRefused codedOf linesOf tableOf hbpOf vsyncOf blinkOf countsOf bufferOf cursorOf codeAt rowStart fetchAt fetchedOf movedOf cellAt advance advanceBy toLast around sceneOf lookOf cellDots litBits cellBits lead bits xor
 worked = refl

@@ -327,6 +327,7 @@ module _ (b : Board) (chars : List ℕ) (m : Returnable b chars) (registers : 2 
 
 -- ---- as the calls answer
 
+-- [R-5 same]
 -- a sheet that `to_table` moves shows the same: it is accepted, its pictures are the same in every field and both attribute modes, and so are signals, address and dots of every step. Here and below a
 -- board's registers reach to IR2, as those of every board in the code do
 pub there-shows : (b : Board) (chars : List ℕ) → 2 < length (b .page .irs) → thereCheck b chars ≡ Done → Shows b chars (thereOf b chars .board) (thereLeft b chars)
@@ -334,6 +335,7 @@ unfolding thereOf thereLeft
 there-shows b chars registers ok = rw ok (there-shown b chars (there-passed b chars ok) registers)
 
 module _ (b : Board) (chars : List ℕ) (registers : 2 < length (b .page .irs)) where
+  -- [R-5 sheet]
   -- so does a page that `to_sheet` moves
   pub back-shows : backCheck b chars ≡ Done → Shows b chars (backOf b chars .board) chars
   unfolding backOf
@@ -348,12 +350,14 @@ module _ (b : Board) (chars : List ℕ) (registers : 2 < length (b .page .irs)) 
       → Shows b chars (thereOf (backOf b chars .board) chars .board) (thereLeft (backOf b chars .board) chars)
   back-and-there ok again = shows-on (back-shows ok) (there-shows (backOf b chars .board) chars (registers-kept ok) again)
 
+  -- [R-5 both] a sheet moved there and back differs only in screen start 2 and the table's cells
   -- a sheet that is moved there and back has another screen start 2, and nothing else of its board has changed
   pub there-and-back : ir (b .page) 2 < 256 → thereCheck b chars ≡ Done
       → backOf (thereOf b chars .board) (thereLeft b chars) ≡ movedTo Done (withPage b (changed (b .page) (b .page .irs) (b .page .starts .start1) (tablePlace (b .page) chars)))
   unfolding thereOf thereLeft therePage
   there-and-back byte ok = rw ok (returned b chars (there-passed b chars ok) registers byte)
 
+  -- [R-5 table]
   -- and of memory the table's cells
   pub memory-back : thereCheck b chars ≡ Done → (x : ℕ) → (tablePlace (b .page) chars ≤ x → x < tablePlace (b .page) chars + tableSize (b .page) → ⊥) → getD (thereLeft b chars) x 0 ≡ getD chars x 0
   unfolding thereLeft

@@ -129,6 +129,8 @@ module _ (numbers chars numbers′ chars′ : List ℕ) (ok : numbersCheck numbe
 
 -- ---- a refusal leaves numbers and memory
 
+-- [demand untouched]
+-- a refused move leaves numbers and memory
 pub table-refused : (numbers chars : List ℕ) → doneOf (toTableCheck numbers chars) ≡ false → (toTableNumbers numbers chars ≡ numbers) × (toTableChars numbers chars ≡ chars)
 unfolding toTableCheck toTableNumbers toTableChars thereOf thereLeft
 table-refused numbers chars = go (numbersRefused numbers) (thereOf (numbersBoard numbers) chars .board .page) (thereCheck (numbersBoard numbers) chars)
@@ -138,6 +140,8 @@ table-refused numbers chars = go (numbersRefused numbers) (thereOf (numbersBoard
     go true p r e = (refl, refl)
     go false p r e = rw e (refl, refl)
 
+-- [demand untouched]
+-- and a refused way back the numbers
 pub sheet-refused : (numbers chars : List ℕ) → doneOf (toSheetCheck numbers chars) ≡ false → toSheetNumbers numbers chars ≡ numbers
 unfolding toSheetCheck toSheetNumbers backOf
 sheet-refused numbers chars = go (numbersRefused numbers) (backOf (numbersBoard numbers) chars .board .page) (backCheck (numbersBoard numbers) chars)
@@ -258,12 +262,14 @@ module _ (numbers chars : List ℕ) (done : toTableCheck numbers chars ≡ Done)
   table-board : numbersBoard (toTableNumbers numbers chars) ≡ m .board
   table-board = ap numbersBoard numbers-left ∙ board-is numbers (taken .0) m m-done (therePage p place) moved long′ version
 
+  -- [R-5 same]
   -- they and character memory show the same
   pub table-shows : ShowsC numbers chars (toTableNumbers numbers chars) (toTableChars numbers chars)
   table-shows =
       shows-from-c numbers chars (toTableNumbers numbers chars) (toTableChars numbers chars) (own-ok numbers chars (taken .0) (there-passed b chars (taken .1) .own)) table-fine
       (rw (table-board, chars-left) (there-shows b chars (omega (arith, long)) (taken .1)))
 
+  -- [R-5 both]
   -- of memory only the table's cells have changed
   pub cells-again : (x : ℕ) → (place ≤ x → x < place + tableSize p → ⊥) → getD (toTableChars numbers chars) x 0 ≡ getD chars x 0
   cells-again x out = rw chars-left (memory-back b chars (omega (arith, long)) (taken .1) x out)
@@ -282,6 +288,8 @@ module _ (numbers chars : List ℕ) (done : toTableCheck numbers chars ≡ Done)
         ap (drop 25) (numbers-left ∙ numbers-are numbers (taken .0) m m-done (therePage p place) moved long′ version)
         ∙ put-rest numbers (taken .0) (therePage p place) long′
 
+    -- [R-5 both]
+    -- there and back: feldrime_to_sheet answers 0, and the numbers differ in bytes 20 and 21 alone
     pub sheet-again : (toSheetCheck (toTableNumbers numbers chars) (toTableChars numbers chars) ≡ Done)
         × (toSheetNumbers (toTableNumbers numbers chars) (toTableChars numbers chars) ≡ withStart2 numbers place)
     unfolding toSheetCheck toSheetNumbers
@@ -319,6 +327,7 @@ module _ (numbers chars : List ℕ) (done : toSheetCheck numbers chars ≡ Done)
   unfolding toSheetNumbers
   sheet-left = rw (back-taken .0)
 
+  -- [R-5 sheet]
   -- they show the same
   pub sheet-shows : ShowsC numbers chars (toSheetNumbers numbers chars) chars
   sheet-shows =
@@ -337,6 +346,8 @@ module _ (numbers chars : List ℕ) (done : toSheetCheck numbers chars ≡ Done)
 
 -- ---- refused or not, pictures and steps are the same
 
+-- [R-5 same]
+-- refused or not, pictures and steps are the same afterwards
 pub table-same : (numbers chars : List ℕ) → SameC numbers chars (toTableNumbers numbers chars) (toTableChars numbers chars)
 table-same numbers chars = go (doneOf (toTableCheck numbers chars)) refl
   where
@@ -344,6 +355,8 @@ table-same numbers chars = go (doneOf (toTableCheck numbers chars)) refl
     go true e = table-shows numbers chars (done-is _ e) .same
     go false e = let kept = table-refused numbers chars e in rw (kept .0, kept .1) (itself numbers chars)
 
+-- [R-5 sheet]
+-- and after the way back
 pub sheet-same : (numbers chars : List ℕ) → SameC numbers chars (toSheetNumbers numbers chars) chars
 sheet-same numbers chars = go (doneOf (toSheetCheck numbers chars)) refl
   where

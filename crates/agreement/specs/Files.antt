@@ -85,6 +85,7 @@ module _ (file : List ℕ) (bytes : Bytes file) (size : Bool) (ok : readCheck fi
       fine : writeCheck (boardOf (pageAt file 5)) 16384 16384 (length out) ≡ Done
       fine = write-ok (pageAt file 5) (length out) (file-ok file size ok .rest-ok) l
 
+  -- [demand round] a page file accepted and written again is the same bytes
   -- the write answers 0, and out begins with the file
   pub page-same : (chars attrs out : List ℕ) → 32797 ≤ length out
       → (writeCheck (readPageOf file size .board) (length (charsRead file size chars)) (length (attrsRead file size attrs)) (length out) ≡ Done)
@@ -139,6 +140,7 @@ module _ (b : Board) (irs-all : length (b .page .irs) ≡ 15) (chars attrs out :
       rw (sym (drop-drop 16384 29 (headOf (b .page) ++ (chars ++ attrs))), head, drop-at chars attrs 16384 (memories .0))
       (take-all 16384 attrs (omega (arith, memories .1)))
 
+  -- [demand round]
   -- the file is read as that page at clock 0, its version as it counts, and its memories are those that were written
   pub board-same : (c a file : List ℕ) → file ≡ take 32797 (written b chars attrs out)
       → (readPageOf file false ≡ pageRead Done (boardOf (keptPage (b .page)))) × (charsRead file false c ≡ chars) × (attrsRead file false a ≡ attrs)
@@ -168,6 +170,7 @@ module _ (file : List ℕ) (f : Font) (ok : fontCheck file (fontRefused f) ≡ D
   unfolding fontRead
   font-fine = rw ok parts-fine
 
+  -- [demand round]
   -- the write answers 0, and out begins with the file
   pub font-same : Bytes file → (out : List ℕ) → 2455 ≤ length out
       → (fontWriteCheck (fontRead file f) (length out) ≡ Done) × (fontWritten (fontRead file f) out ≡ file ++ drop 2455 out)

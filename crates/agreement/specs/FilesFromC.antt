@@ -40,6 +40,7 @@ module _ (file numbers chars attrs : List ℕ)
   read-ok : readCheck file size ≡ Done
   read-ok = zero-done (readCheck file size) page-taken
 
+  -- [demand round]
   -- given to feldrime_page_write, it answers 0 and the buffer begins with the file; bytes beyond stay
   pub page-same-from-c : Bytes file → (out : List ℕ) → 32797 ≤ length out
       → (answerOf (pageWriteCheck numbersC (length charsC) (length attrsC) (length out)) .refusal ≡ 0)

@@ -44,6 +44,7 @@ module _ (b : Board) (chars attrs : List ℕ) (f : Font) (ok : stepCheck b chars
     pub nowhere-else : after b chars attrs f n .place .line .0 ≡ 0 → after b chars attrs f n .place .clock .0 ≡ 0 → n % frameClocks b ≡ 0
     pub counted : after b chars attrs f n .place .field ≡ n / frameClocks b % 256
 
+  -- [demand frame] a frame takes exactly clocks per line times lines per frame
   -- so every frame, and not the first alone, takes exactly its clocks
   pub every-frame : (n : ℕ) → Framed n
   unfolding placeAt scanAt countsOf
@@ -57,6 +58,8 @@ module _ (b : Board) (chars attrs : List ℕ) (f : Font) (ok : stepCheck b chars
         counted = rw (at-n, frame-product) (ap (λ (x : ℕ). x % 256) (sym (by-frame n (htOf (b .page)) (vtOf (b .page)))));
       }
 
+  -- [demand frame]
+  -- a frame has at most 826,752 clocks
   pub frame-at-most : frameClocks b ≤ 826752
   frame-at-most = frame-bound (b .page)
 
@@ -72,6 +75,8 @@ module _ (b : Board) (chars attrs : List ℕ) (f : Font) (ok : stepCheck b chars
     -- and what is drawn of the line, in any field, is the dots of the cells at those addresses, end to end
     pub drawn : DrawnFrom b chars attrs f l (addressAt b chars attrs f k l)
 
+  -- [demand inside] row table off, ordered buffer: no fetch leaves it
+  -- so no fetch leaves the buffer
   pub stays-inside : tableOf (b .page) ≡ false → Inside (bufferOf (b .page)) (b .page .starts .start1)
       → (k l : ℕ) → l < visibleOf (b .page) .0 → Stays k l
   stays-inside t i k l hl = record {

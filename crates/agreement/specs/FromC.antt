@@ -159,6 +159,7 @@ module _ (numbers chars attrs words flags unshifted shifted : List ℕ) where
     unfolding numbered
     steps-answer n = rw (steps-from-c n, step-answers b chars attrs f step-ok n)
 
+    -- [demand at-once]
     -- feldrime_state_at for clock n, asked of the board after any number of steps, answers 0 and the board after n steps
     pub at-once-from-c : (m n : ℕ) → (stateC (afterC m) n .refusal ≡ 0) × (stateC (afterC m) n .board ≡ afterC n)
     at-once-from-c m n =
@@ -185,6 +186,7 @@ module _ (numbers chars attrs words flags unshifted shifted : List ℕ) where
     unfolding lineDrawn
     drawn-is l field out = rw (numbers-passed numbers check-ok)
 
+    -- [demand line]
     -- line l of frame k, with field count k modulo 256: feldrime_line_draw answers 0, and the buffer begins with the dots of the line's active clocks as
     -- feldrime_step answers them, end to end; bytes beyond stay
     pub same-line-from-c : (k l : ℕ) → l < sizeFor numbers .lines → (out : List ℕ) → sizeFor numbers .dots ≤ length out
@@ -213,6 +215,7 @@ module _ (numbers chars attrs words flags unshifted shifted : List ℕ) where
     unfolding pictureDrawn
     pictured-is field out = rw (numbers-passed numbers check-ok)
 
+    -- [demand picture]
     -- and the buffer begins with what feldrime_line_draw writes of line 0, 1, .. into a buffer that has room, end to end; bytes beyond stay
     pub picture-by-lines-from-c : (field : ℕ) (out part : List ℕ) → sizeFor numbers .lines * sizeFor numbers .dots ≤ length out → sizeFor numbers .dots ≤ length part
         → picturedC field out
@@ -224,6 +227,7 @@ module _ (numbers chars attrs words flags unshifted shifted : List ℕ) where
         (ap (λ (d : List ℕ). d ++ drop (visibleOf (b .page) .0 * lineLength b) out)
         (same-joined 0 (visibleOf (b .page) .0) _ _ (λ l _ h. ap (take (lineLength b)) (sym (drawn-is l field part)))))
 
+    -- [demand picture]
     -- frame k, with field count k modulo 256: the dots of all its active clocks as feldrime_step answers them, in order
     pub picture-by-steps-from-c : (k : ℕ) (out : List ℕ) → sizeFor numbers .lines * sizeFor numbers .dots ≤ length out
         → picturedC (k % 256) out
@@ -247,6 +251,8 @@ module _ (numbers chars attrs words flags unshifted shifted : List ℕ) where
       pub nowhere-else : afterC n .place .line .0 ≡ 0 → afterC n .place .clock .0 ≡ 0 → n % frameClocks b ≡ 0
       pub counted : afterC n .place .field ≡ n / frameClocks b % 256
 
+    -- [demand frame]
+    -- so every frame takes exactly its clocks
     pub every-frame-from-c : (n : ℕ) → FramedC n
     every-frame-from-c n =
         let framed = every-frame b chars attrs f step-ok n in
@@ -256,6 +262,8 @@ module _ (numbers chars attrs words flags unshifted shifted : List ℕ) where
           counted = rw (steps-from-c n) (framed .counted);
         }
 
+    -- [demand frame]
+    -- at most 826,752
     pub frame-at-most-from-c : frameClocks b ≤ 826752
     frame-at-most-from-c = frame-at-most b chars attrs f step-ok
 
@@ -277,6 +285,8 @@ module _ (numbers chars attrs words flags unshifted shifted : List ℕ) where
       pub stepped : (c : ℕ) → c < hactOf (b .page) → Inside (bufferOf (b .page)) (stepC (clockOf b k l c) .address)
       pub drawn : DrawnFromC l (λ c. stepC (clockOf b k l c) .address)
 
+    -- [demand inside]
+    -- so no fetch leaves the buffer
     pub stays-inside-from-c : tableOf (b .page) ≡ false → Inside (bufferOf (b .page)) (b .page .starts .start1)
         → (k l : ℕ) → l < sizeFor numbers .lines → StaysC k l
     unfolding numbered
@@ -307,10 +317,12 @@ module _ (numbers chars attrs words flags unshifted shifted : List ℕ) where
         drawn = drawn-from-c (lineOf b r l) _ (s .drawn);
       }
 
+      -- [fetch start]
       -- with the row table on they follow from the row's own entry, whatever the rest of memory holds
       pub row-from-table-from-c : tableOf (b .page) ≡ true → ShownC r l (entryOf (b .page) chars r)
       row-from-table-from-c t = shown-from-c (entryOf (b .page) chars r) (row-from-table b chars attrs f step-ok r l hr hl t)
 
+      -- [fetch start]
       -- with it off, from the cell r x HACT moves after screen start 1
       pub row-from-start-from-c : tableOf (b .page) ≡ false → ShownC r l (follows b (b .page .starts .start1) (r * hactOf (b .page)))
       row-from-start-from-c t = shown-from-c _ (row-from-start b chars attrs f step-ok r l hr hl t)
@@ -322,6 +334,7 @@ module _ (numbers chars attrs words flags unshifted shifted : List ℕ) where
           let done : s .refusal ≡ Done = span-number b chars r s refl ∙ run-answers b chars attrs f step-ok r l hr hl in
           rw (numbers-passed numbers check-ok) (ap (λ (x : Refusal). runAnswer x (s .start) (s .count)) done)
 
+      -- [fetch run]
       -- the run that feldrime_row_run answers is what the row fetches first, cell after cell
       pub run-from-c : (runFor numbers chars r .refusal ≡ 0)
           × ((k i : ℕ) → i < runFor numbers chars r .count → stepC (clockOf b k (lineOf b r l) (nthColumn b chars r i)) .address ≡ runFor numbers chars r .first + i)
@@ -342,6 +355,8 @@ module _ (numbers chars attrs words flags unshifted shifted : List ℕ) where
       unfolding cellsPutFor
       cells-are cells = rw (numbers-passed numbers check-ok)
 
+      -- [more cells]
+      -- so feldrime_row_cells gives what the steps fetch and the lines draw
       pub cells-from-c : (cells : List ℕ) → 256 ≤ length cells → CellsShownC cells
       unfolding cellsFor numbered
       cells-from-c cells room =

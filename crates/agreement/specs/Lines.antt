@@ -169,6 +169,7 @@ module _ (b : Board) (chars attrs : List ℕ) (f : Font) (ok : stepCheck b chars
     unfolding lineDots
     stepped-line = same-joined 0 (hactOf (b .page)) stepDots (columnDots b chars attrs f l (k % 256)) (λ c _ h. same-dots c (omega arith))
 
+    -- [demand line] the dots of a line's active clocks are the line drawn whole
     -- the line drawn whole with field count k modulo 256, into any buffer that has room
     pub same-line : (out : List ℕ) → lineLength b ≤ length out
         → drawnOf b chars attrs f l (k % 256) out ≡ joined 0 (hactOf (b .page)) stepDots ++ drop (lineLength b) out

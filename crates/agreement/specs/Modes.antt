@@ -36,11 +36,15 @@ module _ (p : Page) (one : eqb (p .version) 2 ≡ false) where
       go (yes h) = rw (lt-ltb 15 (p .switches) h) (either (ltb 63 (p .switches)))
       go (no f) = rw (le-ltb 63 (p .switches) (omega arith))
 
+  -- [R-1 version]
+  -- a page whose version is not 2 is in character mode, and its switches 4 to 7 are refused by 12
   pub version-1 : (fieldMode p ≡ false) × (addressRefused p ≡ startsRefused (p .starts) || ltb 15 (p .switches) || ltb 15 (p .video .strike))
   unfolding addressRefused
   version-1 = (rw one, rw one (ap (λ (t : Bool). startsRefused (p .starts) || t || ltb 15 (p .video .strike)) above-15))
 
 module _ (p : Page) (character : fieldMode p ≡ false) (chars attrs : List ℕ) where
+  -- [dots attributes]
+  -- in character mode no attributes are valid before a cell
   pub nothing-valid : (row column : ℕ) → heldAt p chars attrs row column ≡ 0
   nothing-valid = held-plain p chars attrs character
 
@@ -48,12 +52,16 @@ module _ (p : Page) (character : fieldMode p ≡ false) (chars attrs : List ℕ)
   unfolding countedLatch
   none-counts latch = rw character
 
+  -- [R-1 version]
+  -- and a step leaves 0 in both latch bytes, whatever they held
   pub nothing-latched : (q : Place) → (nextPlace p chars attrs q .beam .latch ≡ 0) × (nextPlace p chars attrs q .row .latch ≡ 0)
   nothing-latched q =
       let s = sym (next-settled p chars attrs q) in
       (ap (λ (x : Place). x .beam .latch) s ∙ none-counts _, ap (λ (x : Place). x .row .latch) s ∙ none-counts _)
 
 module _ (p : Page) (plain : codedOf p ≡ false) (chars attrs : List ℕ) where
+  -- [R-4 counted]
+  -- without IR0[7] every row has the code 0 and fetches HACT cells
   pub no-row-codes : (row : ℕ) → (codeAt p chars row ≡ 0) × (fetchedOf p chars row ≡ hactOf p)
   unfolding fetchedOf
   no-row-codes row = (no-codes p chars plain row, rw (no-codes p chars plain row))
@@ -62,5 +70,7 @@ module _ (p : Page) (plain : codedOf p ≡ false) (chars attrs : List ℕ) where
   unfolding countedCode
   no-code code = rw plain
 
+  -- [R-4 counted]
+  -- and a step leaves a code of 0, whatever it was
   pub no-code-left : (q : Place) → nextPlace p chars attrs q .row .code ≡ 0
   no-code-left q = ap (λ (x : Place). x .row .code) (sym (next-settled p chars attrs q)) ∙ no-code _

@@ -72,6 +72,8 @@ module _ (b : Board) where
     abbrev none : Bool
     none = eqb (tablePlace (b .page) chars) (tablePlaces (b .page))
 
+    -- [R-5 refusals]
+    -- 16, 19 and 17 are each answered exactly if their fact holds and none before it does
     pub there-told : (eqb (numberOf (thereCheck b chars)) 16 ≡ own && on)
         × (eqb (numberOf (thereCheck b chars)) 19 ≡ own && not on && coded)
         × (eqb (numberOf (thereCheck b chars)) 17 ≡ own && not on && not coded && none)
@@ -88,6 +90,8 @@ module _ (b : Board) where
         go true e false false true = (refl, refl, refl)
         go true e false false false = (refl, refl, refl)
 
+    -- [R-5 refusals]
+    -- 19 is never answered moving there: 4 comes first
     pub never-coded : numberOf (thereCheck b chars) ≡ 19 → ⊥
     never-coded e = true≢false (sym (eq-eqb _ _ e) ∙ there-told .1 ∙ go own refl on refl)
       where
@@ -96,6 +100,7 @@ module _ (b : Board) where
         go true q true z = refl
         go true q false z = own-passed b (length chars) (done-is _ q) .0 .coded z
 
+    -- [R-5 lowest]
     -- what 17 says
     pub no-place : (none ≡ true → (a : ℕ) → a < tablePlaces (b .page) → unfetchedAt (b .page) chars a ≡ false)
         × (((a : ℕ) → a < tablePlaces (b .page) → unfetchedAt (b .page) chars a ≡ false) → none ≡ true)
@@ -105,6 +110,8 @@ module _ (b : Board) where
       (λ h. eq-eqb _ _ (first-none (unfetchedAt (b .page) chars) (tablePlaces (b .page)) h)),
     )
 
+    -- [R-5 refusals]
+    -- 16, 19 and 18 are each answered exactly if their fact holds and none before it does
     pub back-told : (eqb (numberOf (backCheck b chars)) 16 ≡ own && not on)
         × (eqb (numberOf (backCheck b chars)) 19 ≡ own && on && coded)
         × (eqb (numberOf (backCheck b chars)) 18 ≡ own && on && not coded && rowsApart (b .page) chars)

@@ -19,6 +19,7 @@ use Rattle.agreement.specs.FromC.{zero-done}
 
 -- a board, which has fifteen IRs, and a buffer that its numbers are put into
 module _ (b : Board) (irs-all : length (b .page .irs) ≡ 15) (out : List ℕ) where
+  -- [more numbers]
   -- they are accepted, and are its page, its version as it counts, on an active board at clock 0, pointer at IR0
   pub board-back : numbersOfCheck b (length out) ≡ Done → (numbersCheck (numbersOf b out) ≡ Done) × (numbersBoard (numbersOf b out) ≡ boardOf (keptPage (b .page)))
   unfolding numbersOf numbersOfCheck numbersCheck
@@ -34,6 +35,7 @@ module _ (b : Board) (irs-all : length (b .page .irs) ≡ 15) (out : List ℕ) w
 
 -- numbers that are accepted, and a buffer for as many
 module _ (numbers : List ℕ) (fits : Bytes numbers) (out : List ℕ) (room : length out ≡ 32) where
+  -- [more numbers]
   -- of their board they come back the same in all bytes that count, and zeros in the others
   pub numbers-back : numbersCheck numbers ≡ Done
       → (numbersOfCheck (numbersBoard numbers) (length out) ≡ Done) × (numbersOf (numbersBoard numbers) out ≡ take 25 numbers ++ replicate 7 0)

@@ -25,6 +25,7 @@ use Rattle.agreement.specs.Lines.{clockOf, shownAt, draw-is, stepped-lin
 use Rattle.agreement.specs.Rows.{lineOf, nthCell, at-column}
 
 module _ (b : Board) (chars attrs : List ℕ) (f : Font) (ok : stepCheck b chars attrs f ≡ Done) where
+  -- [more picture]
   -- a buffer with room: nothing is refused, and the picture stands at its front
   pub picture-answers : (room : ℕ) → pictureLength (b .page) ≤ room → pictureCheck b (lentRefused chars attrs f) room ≡ Done
   unfolding pictureCheck
@@ -44,6 +45,8 @@ module _ (b : Board) (chars attrs : List ℕ) (f : Font) (ok : stepCheck b chars
       rw (draw-is b chars attrs f ok l h field part room)
       (take-at _ _ (lineLength b) (length-line b chars attrs f l field (fits b chars attrs f ok .page)))
 
+  -- [demand picture] the dots of all active clocks of a frame, in order, are its picture
+  -- [more picture]
   -- the picture is what draw_line writes of line 0, 1, .., end to end; bytes beyond stay
   pub picture-by-lines : (field : ℕ) (out part : List ℕ) → pictureLength (b .page) ≤ length out → lineLength b ≤ length part
       → picturedOf b chars attrs f field out ≡ joined 0 (visibleOf (b .page) .0) (written field part) ++ drop (pictureLength (b .page)) out
@@ -57,6 +60,7 @@ module _ (b : Board) (chars attrs : List ℕ) (f : Font) (ok : stepCheck b chars
   abbrev pub lineSteps : (k l : ℕ) → List ℕ
   lineSteps k l = joined 0 (hactOf (b .page)) (λ c. take (b .page .video .dots .0) (stepOf (after b chars attrs f (clockOf b k l c)) chars attrs f .dots))
 
+  -- [demand picture]
   -- the picture with field count k modulo 256 is the dots of all active clocks of frame k, in order
   pub picture-by-steps : (k : ℕ) (out : List ℕ) → pictureLength (b .page) ≤ length out
       → picturedOf b chars attrs f (k % 256) out ≡ joined 0 (visibleOf (b .page) .0) (lineSteps k) ++ drop (pictureLength (b .page)) out
@@ -82,6 +86,7 @@ module _ (b : Board) (chars attrs : List ℕ) (f : Font) (ok : stepCheck b chars
         ap (λ (x : ℕ). shownAt b chars attrs f (lineOf b r l) field c (heldAt (b .page) chars attrs x c) (cellAt (b .page) chars x c)) q
         ∙ ap (shownAt b chars attrs f (lineOf b r l) field c (heldAt (b .page) chars attrs r c)) (sym (at-column b chars attrs f ok r l hr hl cells wide c (omega arith))))
 
+    -- [more cells]
     -- the picture is the dots of the cells that `row_cells` gives, row by row, line by line, column by column; bytes beyond stay
     pub picture-from-cells : (out : List ℕ) → pictureLength (b .page) ≤ length out
         → picturedOf b chars attrs f field out

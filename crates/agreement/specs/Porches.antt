@@ -38,6 +38,8 @@ module _ (p : Page) where
   short-porch : lineShort p ≡ true → frontPorchRefused p ≡ true
   short-porch e = lt-ltb (hfpOf p) 2 (omega (arith, ltb-true (htOf p) (restOf p) e))
 
+  -- [R-2 accepted] which pages are accepted doesn't change; A2 is 15, one clock short
+  -- accepted: neither 12 nor 4 nor 6 refuses, the HBP code is not 0, and HFP is at least 2
   pub accepted-exactly : doneOf (pageCheck p) ≡ accepted p
   accepted-exactly =
       ap doneOf by-facts ∙ go (addressRefused p) (reservedRefused p) (backPorchRefused p) (lineShort p) (frontPorchRefused p) (widthRefused (p .video .dots)) short-porch
@@ -63,6 +65,7 @@ module _ (p : Page) where
   abbrev pub reached : Bool
   reached = clear && not (backPorchRefused p)
 
+  -- [R-2 porches]
   -- each exactly where its fact holds and none before it does, and what stands beside it
   pub told : (eqb number 13 ≡ clear && backPorchRefused p)
       × (eqb number 14 ≡ reached && lineShort p)
@@ -84,11 +87,15 @@ module _ (p : Page) where
       go false false false false false true = (refl, refl, refl, refl)
       go false false false false false false = (refl, refl, refl, refl)
 
+  -- [R-2 missing]
+  -- with 14 at least 3 clocks are missed
   pub missed-14 : number ≡ 14 → 3 ≤ besideOf (pageCheck p)
   missed-14 e =
       let short = both reached (lineShort p) (sym (told .1) ∙ rw e) .1 in
       rw (told .3, e) (omega (arith, ltb-true (htOf p) (restOf p) short))
 
+  -- [R-2 missing]
+  -- with 15 one or two
   pub missed-15 : number ≡ 15 → (1 ≤ besideOf (pageCheck p)) × (besideOf (pageCheck p) ≤ 2)
   missed-15 e =
       let f = both (reached && not (lineShort p)) (frontPorchRefused p) (sym (told .2) ∙ rw e) in
@@ -96,6 +103,7 @@ module _ (p : Page) where
       let low = ltb-true (hfpOf p) 2 (f .1) in
       rw (told .3, e) (omega (arith, long, low), omega (arith, long, low))
 
+-- [R-2 missing]
 -- no other refusal has a number beside it
 pub beside-none : (r : Refusal) → (numberOf r ≡ 14 → ⊥) → (numberOf r ≡ 15 → ⊥) → besideOf r ≡ 0
 beside-none Done s f = refl

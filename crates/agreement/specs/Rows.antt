@@ -92,10 +92,12 @@ module _ (b : Board) (chars attrs : List ℕ) (f : Font) (ok : stepCheck b chars
     drawn = drawn-from b chars attrs f ok (lineOf b r l) line-visible _ (λ c h. rw row-is (from-start start begins c h));
   }
 
+  -- [fetch start]
   -- with the table on: they follow from the row's entry
   pub row-from-table : tableOf (b .page) ≡ true → Shown (entryOf (b .page) chars r)
   row-from-table t = shown (entryOf (b .page) chars r) (start-table (b .page) chars r t)
 
+  -- [fetch start]
   -- with it off: from the cell r x HACT moves after screen start 1
   pub row-from-start : tableOf (b .page) ≡ false → Shown (follows b (b .page .starts .start1) (r * hactOf (b .page)))
   row-from-start t = shown (follows b (b .page .starts .start1) (r * hactOf (b .page))) (start-sheet (b .page) chars r t)
@@ -125,6 +127,7 @@ module _ (b : Board) (chars attrs : List ℕ) (f : Font) (ok : stepCheck b chars
       let q = column-in b chars r i h in
       fetched k (nthColumn b chars r i) (q .0) ∙ sym (cell-shown (b .page) chars r (nthColumn b chars r i) (q .0)) ∙ ap (fetchAt (b .page) chars r) (q .1)
 
+  -- [fetch run]
   -- the run that `row_run` gives is what the row fetches first, on every line of the row, cell after cell
   pub run-shown : (k i : ℕ) → i < spanOf b chars r .count → addressAt b chars attrs f k (lineOf b r l) (nthColumn b chars r i) ≡ spanOf b chars r .start + i
   run-shown k i h = let s = run-at b chars r i h in fetched-by k i (s .0) ∙ s .1
@@ -159,6 +162,8 @@ module _ (b : Board) (chars attrs : List ℕ) (f : Font) (ok : stepCheck b chars
     pub at-column : (c : ℕ) → c < hactOf (b .page) → getD (cellsPut b chars r cells) (nthCell b chars r c) 0 ≡ cellAt (b .page) chars r c
     at-column c h = at-cell (nthCell b chars r c) (cell-in b chars r c h) ∙ cell-shown (b .page) chars r c h
 
+    -- [more cells]
+    -- so `row_cells` gives what the steps fetch and the lines draw
     pub cells-shown : CellsShown cells
     cells-shown = record {
       answered = given;

@@ -167,11 +167,13 @@ module _ (b : Board) (chars attrs : List ℕ) (f : Font) (ok : stepCheck b chars
   state-ok-at : (n : ℕ) → stateCheck (atClock n) chars attrs ≡ Done
   state-ok-at n = call-ok (atClock n) (memoriesRefused (length chars) (length attrs)) memories-ok page-ok (range-ok (atClock n) (clock-in-range n))
 
+  -- [demand at-once] the state for clock n is the state after n single steps
   -- the state for clock n answers 0 and is the board after n single steps from clock 0
   pub at-once : (n : ℕ) → (stateOf b chars attrs n .refusal ≡ Done) × (stateOf b chars attrs n .board ≡ after b chars attrs f n)
   unfolding stateOf
   at-once n = (state-ok, rw state-ok (sym (steps-are n)))
 
+  -- [demand at-once]
   -- the board that is asked may itself stand at any clock m
   pub at-once-anywhere : (m n : ℕ) → (stateOf (after b chars attrs f m) chars attrs n .refusal ≡ Done)
       × (stateOf (after b chars attrs f m) chars attrs n .board ≡ after b chars attrs f n)

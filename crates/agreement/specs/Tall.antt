@@ -74,6 +74,8 @@ module _ (b : Board) (chars attrs : List ℕ) (f : Font) (field r s : ℕ) (top 
         ∙ same-joined 0 (hactOf (b .page)) _ _ (λ c _ k.
         ap₂ (λ (held a : ℕ). columnOf true (eqb (c % 2) 1) (dotsAt b chars attrs f ((L + l) / 2) field (againAt Wide c) held a)) (valid c (omega arith)) (same-cell c (omega arith)))
 
+    -- [R-4 halves]
+    -- line j of a top and a bottom row together shows scan line j / 2 of their cells in double width
     pub double-height : (j : ℕ) → j < 2 * L → pairLine j ≡ tallLine (j / 2)
     double-height j h = go (decLt j L)
       where
@@ -84,12 +86,15 @@ module _ (b : Board) (chars attrs : List ℕ) (f : Font) (field r s : ℕ) (top 
             let e : (L + (j - L)) / 2 ≡ j / 2 = omega (arith, g) in
             rw (le-ltb j L (omega (arith, g))) (in-bottom (j - L) l ∙ ap tallLine e)
 
+    -- [R-4 halves]
+    -- so each of the L scan lines comes twice
     pub each-twice : (i : ℕ) → i < L → (pairLine (2 * i) ≡ tallLine i) × (pairLine (2 * i + 1) ≡ tallLine i)
     each-twice i h =
         let one : 2 * i / 2 ≡ i = omega arith in
         let two : (2 * i + 1) / 2 ≡ i = omega arith in
         (double-height (2 * i) (omega (arith, h)) ∙ ap tallLine one, double-height (2 * i + 1) (omega (arith, h)) ∙ ap tallLine two)
 
+  -- [R-4 halves]
   -- in character mode nothing more is asked
   pub always-twice : fieldMode (b .page) ≡ false → (i : ℕ) → i < L → (pairLine (2 * i) ≡ tallLine i) × (pairLine (2 * i + 1) ≡ tallLine i)
   always-twice m = each-twice (λ c h. held-plain (b .page) chars attrs m s c ∙ sym (held-plain (b .page) chars attrs m r c))

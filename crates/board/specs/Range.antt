@@ -10,6 +10,7 @@ use Rattle.board.specs.declared.Place.{Place}
 abbrev pub memoryRefused : ℕ → Bool
 memoryRefused n = not (eqb n 16384)
 
+-- [board memory] character and attribute memory are lent, 16,384 bytes each
 abbrev pub memoriesRefused : (chars attrs : ℕ) → Bool
 memoriesRefused chars attrs = memoryRefused chars || memoryRefused attrs
 
@@ -17,10 +18,12 @@ memoriesRefused chars attrs = memoryRefused chars || memoryRefused attrs
 abbrev pub startsRefused : Starts → Bool
 startsRefused s = ltb 16383 (s .start1) || ltb 16383 (s .cursor) || ltb 16383 (s .start2)
 
+-- [R-1 refusals] 1 means neither 1 nor 2; in a version 2 file 12 covers switches 6 and 7 only
 -- switches 6 and 7, and in every version but 2 also 4 and 5; a version that is not known counts as 1
 abbrev pub switchesRefused : (version switches : ℕ) → Bool
 switchesRefused version switches = ltb 63 switches || (not (eqb version 2) && ltb 15 switches)
 
+-- [refusal numbers]
 -- 12: a start or cursor address above 16383, a switch that the version does not know, or strike line above 15
 unfoldable pub addressRefused : Page → Bool
 addressRefused p = startsRefused (p .starts) || switchesRefused (p .version) (p .switches) || ltb 15 (p .video .strike)
@@ -29,6 +32,7 @@ addressRefused p = startsRefused (p .starts) || switchesRefused (p .version) (p 
 abbrev pub cellsRefused : Place → Bool
 cellsRefused p = ltb 16383 (p .beam .address) || ltb 16383 (p .row .address)
 
+-- [refusal numbers]
 -- 7: a state's IR pointer out of range
 abbrev pub pointerRefused : ℕ → Bool
 pointerRefused n = ltb 14 n

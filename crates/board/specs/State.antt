@@ -6,10 +6,12 @@ use Rattle.board.specs.declared.Page.{Page}
 use Rattle.board.specs.declared.Place.{Place}
 use Rattle.board.specs.declared.Board.{Board}
 
+-- [clock zero] at clock 0 field, address and row start are 0; the state for clock n counts from there
 -- the field counter is 0, as are line, clock, address, row start and row code; nothing is latched
 abbrev pub clockZero : Place
 clockZero = record { field = 0; line = lines 0; clock = clocks 0; beam = beam 0 0; row = row 0 0 0 }
 
+-- [register power] power gives zeros throughout (and version 1, by 02)
 -- power gives zeros throughout, and version 1
 abbrev pub powerOf : Board
 powerOf = record {

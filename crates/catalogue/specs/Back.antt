@@ -17,14 +17,17 @@ use Rattle.fetch.specs.Rows.{entryOf}
 use Rattle.catalogue.specs.declared.Moved.{Moved}
 use Rattle.catalogue.specs.There.{ownCheck, movedTo, withPage}
 
+-- [R-5 back] the way back takes a plain page whose every later entry is where the row before ended; row 0's is anything
 -- the entry of the row after row r is where row r ended; of its high byte six bits count
 unfoldable pub followsRow : Page → (chars : List ℕ) → (r : ℕ) → Bool
 followsRow p chars r = eqb (entryOf p chars (r + 1)) (advanceBy (bufferOf p) (hactOf p) (entryOf p chars r))
 
+-- [R-5 back]
 -- some later entry is not
 unfoldable pub rowsApart : Page → (chars : List ℕ) → Bool
 rowsApart p chars = anyBelow (λ r. not (followsRow p chars r)) (rowsOf p - 1)
 
+-- [R-5 sheet]
 -- IR2[7] is cleared and screen start 1 is the first entry; memory stays
 abbrev pub sheetAt : Page → (first : ℕ) → Page
 sheetAt p a = record {
@@ -35,16 +38,20 @@ sheetAt p a = record {
   video = p .video;
 }
 
+-- [R-5 sheet] it clears IR2[7], sets screen start 1 to the first entry, and leaves memory
 unfoldable pub backPage : Page → (chars : List ℕ) → Page
 backPage p chars = sheetAt p (entryOf p chars 0)
 
+-- [R-5 refusals]
 -- 16, 19, 18
 abbrev pub backOrder : Page → (chars : List ℕ) → Refusal
 backOrder p chars = firstOf ((not (tableOf p), Kind) ∷ (codedOf p, Coded) ∷ (rowsApart p chars, Apart) ∷ []) Done
 
+-- [R-5 refusals]
 -- after the page's own
 unfoldable pub backCheck : Board → (chars : List ℕ) → Refusal
 backCheck b chars = pick (doneOf (ownCheck b (length chars))) (backOrder (b .page) chars) (ownCheck b (length chars))
 
+-- [R-5 sheet]
 unfoldable pub backOf : Board → (chars : List ℕ) → Moved
 backOf b chars = movedTo (backCheck b chars) (pick (doneOf (backCheck b chars)) (withPage b (backPage (b .page) chars)) b)

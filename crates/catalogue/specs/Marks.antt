@@ -243,6 +243,8 @@ module _ (p : Page) (chars : List ℕ) (a : Accepted p) (off : tableOf p ≡ fal
       go true = refl
       go false = refl
 
+  -- [R-5 lowest]
+  -- the search over marked cells finds the lowest stretch that no row fetches
   pub sheet-place : sheetPlace p ≡ tablePlace p chars
   unfolding sheetPlace tablePlace freeIn unfetchedAt
   sheet-place = same-first _ _ (tablePlaces p) (λ k h. ap not (same-any _ _ (tableSize p) (λ i l. mark-is (k + i) (omega (arith, h, l)))))

@@ -19,10 +19,12 @@ use Rattle.timing.specs.Check.{callCheck}
 use Rattle.fetch.specs.Rows.{rowStart, fetchedOf, fetchAt}
 use Rattle.catalogue.specs.declared.Moved.{Moved}
 
+-- [R-5 lowest] into the lowest stretch of consecutive cells, not passing 16383, that no row fetches
 -- whether some row fetches the cell at an address
 unfoldable pub fetchesCell : Page → (chars : List ℕ) → (x : ℕ) → Bool
 fetchesCell p chars x = anyBelow (λ r. anyBelow (λ i. eqb (fetchAt p chars r i) x) (fetchedOf p chars r)) (rowsOf p)
 
+-- [R-5 table] a table of two bytes a row; the move sets screen start 2 and IR2[7] and nothing else
 -- a table has two bytes a row
 abbrev pub tableSize : Page → ℕ
 tableSize p = 2 * rowsOf p
@@ -31,18 +33,22 @@ tableSize p = 2 * rowsOf p
 abbrev pub tablePlaces : Page → ℕ
 tablePlaces p = 16385 - tableSize p
 
+-- [R-5 lowest]
 -- no row fetches one of the cells that it would have there
 unfoldable pub unfetchedAt : Page → (chars : List ℕ) → (place : ℕ) → Bool
 unfetchedAt p chars a = not (anyBelow (λ i. fetchesCell p chars (a + i)) (tableSize p))
 
+-- [R-5 lowest]
 -- the lowest of them, or the count of places where there is none
 unfoldable pub tablePlace : Page → (chars : List ℕ) → ℕ
 tablePlace p chars = firstBelow (unfetchedAt p chars) (tablePlaces p)
 
+-- [R-5 table]
 -- where each row starts: low byte, then high byte, of which the upper two bits are 0
 unfoldable pub tableByte : Page → (chars : List ℕ) → (i : ℕ) → ℕ
 tableByte p chars i = pick (eqb (i % 2) 0) (rowStart p chars (i / 2) % 256) (rowStart p chars (i / 2) / 256)
 
+-- [R-5 table]
 -- the page with it: screen start 2 is its place and IR2[7] is set, nothing else changes
 unfoldable pub therePage : Page → (place : ℕ) → Page
 therePage p a = record {
@@ -53,18 +59,22 @@ therePage p a = record {
   video = p .video;
 }
 
+-- [R-5 table]
 -- character memory with it
 unfoldable pub thereChars : Page → (chars : List ℕ) → (place : ℕ) → List ℕ
 thereChars p chars a = take a chars ++ (tab (tableSize p) (tableByte p chars) ++ drop (a + tableSize p) chars)
 
+-- [R-5 refusals]
 -- the page's own: 3 for character memory, 12, 4, 13, 14, 15, 6, 7
 unfoldable pub ownCheck : Board → (n : ℕ) → Refusal
 ownCheck b n = callCheck b (memoryRefused n) false false
 
+-- [R-5 refusals] after the page's own 16, 19, 17 or 18, each exactly when its fact holds and none before it does
 -- then 16, 19, 17
 abbrev pub thereOrder : Page → (place : ℕ) → Refusal
 thereOrder p a = firstOf ((tableOf p, Kind) ∷ (codedOf p, Coded) ∷ (eqb a (tablePlaces p), Stretch) ∷ []) Done
 
+-- [R-5 refusals]
 unfoldable pub thereCheck : Board → (chars : List ℕ) → Refusal
 thereCheck b chars = pick (doneOf (ownCheck b (length chars))) (thereOrder (b .page) (tablePlace (b .page) chars)) (ownCheck b (length chars))
 
@@ -75,13 +85,16 @@ movedTo r b = record { refusal = r; board = b }
 abbrev pub withPage : Board → Page → Board
 withPage b p = record { page = p; place = b .place; pointer = b .pointer; resets = b .resets }
 
+-- [R-5 same] typed sheets become row table pages with the same picture in every frame
 unfoldable pub thereOf : Board → (chars : List ℕ) → Moved
 thereOf b chars =
     movedTo (thereCheck b chars) (pick (doneOf (thereCheck b chars)) (withPage b (therePage (b .page) (tablePlace (b .page) chars))) b)
 
+-- [R-5 same]
 unfoldable pub thereLeft : Board → (chars : List ℕ) → List ℕ
 thereLeft b chars = pick (doneOf (thereCheck b chars)) (thereChars (b .page) chars (tablePlace (b .page) chars)) chars
 
+-- [demand untouched]
 -- the call: its answer, and character memory afterwards
 abbrev pub MovesToTable : Board → (chars : List ℕ) → Moved → (left : List ℕ) → Type 0
 MovesToTable b chars r left = (r ≡ thereOf b chars) × (left ≡ thereLeft b chars)

@@ -8,6 +8,7 @@ use Rattle.records.specs.declared.Phrase.{Phrase}
 abbrev pub phraseBy : (language number first length : ℕ) → Phrase
 phraseBy l n f c = record { language = l; number = n; first = f; length = c }
 
+-- [R-6 columns] columns of different lengths: the shortest ends the list (our ruling)
 -- a record for each position that all four columns have
 unfoldable pub recordsOf : (languages numbers firsts lengths : List ℕ) → List Phrase
 recordsOf (l ∷ ls) (n ∷ ns) (f ∷ fs) (c ∷ cs) = phraseBy l n f c ∷ recordsOf ls ns fs cs

@@ -53,16 +53,21 @@ firstsOf = map (λ (p : Phrase). p .first)
 abbrev pub lengthsOf : List Phrase → List ℕ
 lengthsOf = map (λ (p : Phrase). p .length)
 
+-- [R-6 columns]
+-- records taken apart into four columns are these records again
 pub records-back : (rs : List Phrase) → recordsOf (languagesOf rs) (numbersOf rs) (firstsOf rs) (lengthsOf rs) ≡ rs
 unfolding recordsOf
 records-back [] = refl
 records-back (p ∷ rs) = ap {B = List Phrase} (λ qs. p ∷ qs) (records-back rs)
 
+-- [R-6 columns]
 -- r is what the core answers on the records' columns, s what the call over records answers
 pub row-alike : (b : Board) (chars : List ℕ) (rs : List Phrase) (row : ℕ) {r s : PhraseAnswer}
     → r ≡ phraseOfRow b chars (recordsOf (languagesOf rs) (numbersOf rs) (firstsOf rs) (lengthsOf rs)) row → s ≡ phraseOfRow b chars rs row → r ≡ s
 row-alike b chars rs row p q = p ∙ ap (λ (x : List Phrase). phraseOfRow b chars x row) (records-back rs) ∙ sym q
 
+-- [R-6 columns]
+-- so too of two records that differ
 pub differ-alike : (rs : List Phrase) {r s : PairAnswer}
     → r ≡ phrasesDiffer (recordsOf (languagesOf rs) (numbersOf rs) (firstsOf rs) (lengthsOf rs)) → s ≡ phrasesDiffer rs → r ≡ s
 differ-alike rs p q = p ∙ ap phrasesDiffer (records-back rs) ∙ sym q

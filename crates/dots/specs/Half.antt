@@ -118,6 +118,8 @@ module _ (f : ℕ → List ℕ) (d : ℕ) (some : 0 < d) (each : (i : ℕ) → l
           let t : c * d ≡ q * d + q * d = ap (λ (k : ℕ). k * d) e ∙ add-mul q q d in
           rw (ne-eqb (c % 2) 1 f) (omega (arith, t), omega (arith, h))
 
+  -- [R-4 width]
+  -- the columns of a row of double width, end to end, are the dots of its cells, each twice
   pub columns-doubled : (n : ℕ) (cells rest : List ℕ) → cells ≡ joined 0 ((n + 1) / 2) f ++ rest → tab (n * d) (halfBy cells 0) ≡ joined 0 n (shownOf true f)
   unfolding halfBy shownOf
   columns-doubled n cells rest e =

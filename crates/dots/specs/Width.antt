@@ -42,6 +42,9 @@ by-test : (b : Bool) (w d : ℕ) → w < 1024 → d ≤ 12 → ltb 10 d ≡ b �
 by-test true w d h m e = broad w d h (ltb-true _ _ e) m
 by-test false w d h m e = narrow w d h (ltb-false _ _ e)
 
+-- [strength width] facts on cell width are proved once over 6 to 12
+-- [dots width]
+-- the dots of a cell are the low bits of one number, once for all widths to 12
 pub wide-right : (w d : ℕ) → w < 1024 → d ≤ 12 → cellBits w d ≡ bits d (wideOf w d)
 unfolding wideOf
 wide-right w d h m = by-test (ltb 10 d) w d h m refl
@@ -99,6 +102,8 @@ pub length-shades : (symbol surround n w : ℕ) → length (shades symbol surrou
 unfolding shades
 length-shades symbol surround n w = rw (length-map, length-bits)
 
+-- [strength width]
+-- a cell has as many dots as its width says
 pub length-cell : (k : Look) (w d : ℕ) → w < 1024 → d ≤ 12 → length (cellDots k w d) ≡ d
 length-cell k w d h m = rw (← cell-shades k w d h m) (length-shades (k .symbol) (underOf k) d (wideOf w d))
 

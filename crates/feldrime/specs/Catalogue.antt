@@ -40,5 +40,6 @@ abbrev pub MovesToTableFor : (numbers chars : List ℕ) → Answer → (numbersL
 MovesToTableFor numbers chars r numbersLeft charsLeft =
     (r ≡ answerOf (toTableCheck numbers chars)) × (numbersLeft ≡ toTableNumbers numbers chars) × (charsLeft ≡ toTableChars numbers chars)
 
+-- [demand untouched]
 abbrev pub MovesToSheetFor : (numbers chars : List ℕ) → Answer → (left : List ℕ) → Type 0
 MovesToSheetFor numbers chars r left = (r ≡ answerOf (toSheetCheck numbers chars)) × (left ≡ toSheetNumbers numbers chars)

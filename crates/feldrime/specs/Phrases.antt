@@ -13,6 +13,7 @@ use Rattle.records.specs.Folds.{searchOf}
 use Rattle.phrases.specs.Laws.{held-refused, row-held}
 use Rattle.numbers.specs.Numbers.{numbersRefused, numbersBoard}
 
+-- [R-6 refusals]
 -- 3 for the numbers, then the call's own
 unfoldable pub phraseFor : (numbers chars : List ℕ) → List Phrase → (row : ℕ) → PhraseAnswer
 phraseFor numbers chars rs row = pick (numbersRefused numbers) (phraseAnswer 3 0 0 0) (phraseOfRow (numbersBoard numbers) chars rs row)

@@ -25,6 +25,7 @@ numbered s = record {
   dots = s .dots;
 }
 
+-- [dots step]
 abbrev pub stepNumbers : Board → (chars attrs words flags unshifted shifted : List ℕ) → StepBy
 stepNumbers b chars attrs words flags unshifted shifted = record {
   answer = numbered (stepOf b chars attrs (fontOf words flags unshifted shifted));

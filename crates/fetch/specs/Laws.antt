@@ -189,11 +189,14 @@ module _ (b : Board) (chars : List ℕ) (row : ℕ) where
   unfolding spanOf
   counted e h = rw e (count-some (b .page) (fetchedOf (b .page) chars row) (rowStart (b .page) chars row) (fetched-small (b .page) chars row .0) h)
 
+  -- [fetch run]
   -- a refusal shows an empty part, and nothing else does
   pub run-refused : doneOf (runCheck b (length chars) row) ≡ false → length (runOf b chars row) ≡ 0
   unfolding runOf spanOf
   run-refused q = rw q
 
+  -- [fetch run]
+  -- a run that is not refused has a cell
   pub run-some : doneOf (runCheck b (length chars) row) ≡ true → 0 < length (runOf b chars row)
   unfolding runOf
   run-some q =

@@ -24,10 +24,12 @@ use Rattle.fetch.specs.Rows.{rowStart, fetchedOf}
 abbrev pub rowCheck : Board → (size : Bool) → (row : ℕ) → Refusal
 rowCheck b size row = callCheck b size (leb (rowsOf (b .page)) row) false
 
+-- [refusal kinds]
 -- 3 for a character memory of n cells
 unfoldable pub runCheck : Board → (n row : ℕ) → Refusal
 runCheck b n row = rowCheck b (memoryRefused n) row
 
+-- [fetch run]
 -- so many cells to the row's end, so many to the last buffer address, so many to 16383
 unfoldable pub runCount : Page → (cells start : ℕ) → ℕ
 runCount p cells start = min cells (min (toLast (bufferOf p) start + 1) (16384 - start))
@@ -60,6 +62,7 @@ spanOf b chars row =
     (span (runCheck b (length chars) row) (rowStart (b .page) chars row) (runCount (b .page) (fetchedOf (b .page) chars row) (rowStart (b .page) chars row)))
     (span (runCheck b (length chars) row) 0 0)
 
+-- [fetch run] the row's first run of cells as a part of character memory; only a refusal shows an empty part
 -- the part; a refusal shows an empty part
 unfoldable pub runOf : Board → List ℕ → ℕ → List ℕ
 runOf b chars row = take (spanOf b chars row .count) (drop (spanOf b chars row .start) chars)

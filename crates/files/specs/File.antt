@@ -22,18 +22,22 @@ use Rattle.files.specs.Page.{wordAt, pageAt, boardAt, pageBytes}
 unfoldable pub longAt : List ℕ → ℕ → ℕ
 longAt bytes i = wordAt bytes i * 65536 + wordAt bytes (i + 2)
 
+-- [refusal numbers] [R-1 refusals]
 -- 1: version byte missing or none of 1 to the newest
 abbrev pub versionRefused : List ℕ → (newest : ℕ) → Bool
 versionRefused file newest = not (within 1 newest (getD file 0 0))
 
+-- [refusal numbers]
 -- 2: length field or bytes present wrong, where n bytes follow the length
 unfoldable pub lengthRefused : List ℕ → ℕ → Bool
 lengthRefused file n = not (eqb (length file) (n + 5)) || not (eqb (longAt file 1) n)
 
+-- [refusal order]
 -- 1, 2, 3 in this order, then the rest; versions from 1 to the newest are known, n bytes follow the length, and size says that a lent part has a wrong size
 unfoldable pub fileCheck : List ℕ → (newest n : ℕ) → (size : Bool) → Refusal → Refusal
 fileCheck file newest n size rest = firstOf ((versionRefused file newest, Version) ∷ (lengthRefused file n, Length) ∷ (size, Size) ∷ []) rest
 
+-- [refusal kinds]
 -- 1, 2, 3, then the page's own 12, 4, 13, 14, 15, 6; versions 1 and 2 are known
 unfoldable pub readCheck : List ℕ → (size : Bool) → Refusal
 readCheck file size = fileCheck file 2 32792 size (pageCheck (pageAt file 5))
@@ -54,6 +58,7 @@ attrsRead file size attrs = pick (doneOf (readCheck file size)) (take 16384 (dro
 
 -- ---- writing
 
+-- [R-1 version]
 -- the version, the length 32,792 in four bytes
 abbrev pub pageHead : Page → List ℕ
 pageHead p = versionOf p ∷ 0 ∷ 0 ∷ 128 ∷ 24 ∷ []
@@ -62,14 +67,17 @@ pageHead p = versionOf p ∷ 0 ∷ 0 ∷ 128 ∷ 24 ∷ []
 unfoldable pub headOf : Page → List ℕ
 headOf p = pageHead p ++ pageBytes p
 
+-- [file page]
 -- a page's file
 unfoldable pub fileOf : Page → (chars attrs : List ℕ) → List ℕ
 fileOf p chars attrs = headOf p ++ (chars ++ attrs)
 
+-- [refusal kinds]
 -- 3, the page's own 12, 4, 13, 14, 15, 6, then 7 for the state
 unfoldable pub writeCheck : Board → (chars attrs out : ℕ) → Refusal
 writeCheck b chars attrs out = callCheck b (memoriesRefused chars attrs || ltb out 32797) false false
 
+-- [file beyond] bytes beyond a written file stay
 -- the buffer afterwards: the file, and what stood beyond it; on a refusal as it was
 unfoldable pub written : Board → (chars attrs out : List ℕ) → List ℕ
 written b chars attrs out =
@@ -77,12 +85,14 @@ written b chars attrs out =
 
 -- ---- the calls: what is answered, and the lent buffers afterwards
 
+-- [demand untouched]
 abbrev pub ReadsPage : (file chars attrs : List ℕ) → PageRead → (charsLeft attrsLeft : List ℕ) → Type 0
 ReadsPage file chars attrs r charsLeft attrsLeft =
     (r ≡ readPageOf file (memoriesRefused (length chars) (length attrs)))
     × (charsLeft ≡ charsRead file (memoriesRefused (length chars) (length attrs)) chars)
     × (attrsLeft ≡ attrsRead file (memoriesRefused (length chars) (length attrs)) attrs)
 
+-- [demand untouched]
 abbrev pub WritesPage : Board → (chars attrs out : List ℕ) → Refusal → (left : List ℕ) → Type 0
 WritesPage b chars attrs out r left =
     (r ≡ writeCheck b (length chars) (length attrs) (length out)) × (left ≡ written b chars attrs out)

@@ -30,6 +30,7 @@ bytesIn words = tab 2304 (byteOf words)
 abbrev pub fontCheck : List ℕ → (size : Bool) → Refusal
 fontCheck file size = fileCheck file 1 2450 size Done
 
+-- [file font] the font file, byte by byte
 -- 1,152 words, 128 flags, unshifted list, shifted list
 unfoldable pub fontIn : List ℕ → Font
 fontIn file = fontOf (wordsOf 1152 (take 2304 (drop 5 file))) (take 128 (drop 2309 file)) (take 9 (drop 2437 file)) (take 9 (drop 2446 file))
@@ -44,6 +45,7 @@ fontRead file f = pick (doneOf (fontCheck file (fontRefused f))) (fontIn file) f
 abbrev pub fontHead : List ℕ
 fontHead = 1 ∷ 0 ∷ 0 ∷ 9 ∷ 146 ∷ []
 
+-- [file font]
 -- then words, flags, unshifted list, shifted list
 unfoldable pub fontFileOf : Font → List ℕ
 fontFileOf f = fontHead ++ (bytesIn (f .words) ++ (f .flags ++ (f .unshifted ++ f .shifted)))
@@ -55,14 +57,17 @@ fontWriteRefused f out = fontRefused f || ltb out 2455
 unfoldable pub fontWriteCheck : Font → (out : ℕ) → Refusal
 fontWriteCheck f out = pick (fontWriteRefused f out) Size Done
 
+-- [file beyond]
 -- the buffer afterwards: the file, and what stood beyond it; on a refusal as it was
 unfoldable pub fontWritten : Font → List ℕ → List ℕ
 fontWritten f out = pick (fontWriteRefused f (length out)) out (fontFileOf f ++ drop 2455 out)
 
 -- ---- the calls: the refusal, and what was lent afterwards
 
+-- [demand untouched]
 abbrev pub ReadsFont : (file : List ℕ) → Font → Refusal → (left : Font) → Type 0
 ReadsFont file f r left = (r ≡ fontCheck file (fontRefused f)) × (left ≡ fontRead file f)
 
+-- [demand untouched]
 abbrev pub WritesFont : Font → (out : List ℕ) → Refusal → (left : List ℕ) → Type 0
 WritesFont f out r left = (r ≡ fontWriteCheck f (length out)) × (left ≡ fontWritten f out)

@@ -21,6 +21,7 @@ startsAt bytes at = record { start1 = wordAt bytes at; cursor = wordAt bytes (at
 abbrev pub videoOf : (n strike : ℕ) → Video
 videoOf n strike = record { dots = dots n; strike = strike }
 
+-- [file page] the page file, byte by byte; a page read gives an active board at clock 0, pointer at IR0
 -- the version stands first; from a place on 15 IRs, the three addresses, switches, dots, strike line
 unfoldable pub pageAt : List ℕ → ℕ → Page
 pageAt bytes at = record {
@@ -31,6 +32,7 @@ pageAt bytes at = record {
   video = videoOf (getD bytes (at + 22) 0) (getD bytes (at + 23) 0);
 }
 
+-- [file page]
 -- a page read gives an active board at clock 0
 abbrev pub boardAt : List ℕ → ℕ → Board
 boardAt bytes at = boardOf (pageAt bytes at)
@@ -49,6 +51,7 @@ tailOf p =
     ++ (bytesOf (p .starts .start2)
     ++ (p .switches ∷ p .video .dots .0 ∷ p .video .strike ∷ [])))
 
+-- [file page]
 -- the page as it is written, but for its version
 abbrev pub pageBytes : Page → List ℕ
 pageBytes p = p .irs ++ tailOf p

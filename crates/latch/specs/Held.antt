@@ -9,6 +9,7 @@ use Rattle.board.specs.Modes.{fieldMode}
 use Rattle.timing.specs.Fields.{hactOf, countsOf}
 use Rattle.fetch.specs.Rows.{codeAt, cellAt}
 
+-- [R-4 latch] in field mode a cell latches on its even column, and the odd one shows what is then latched (our ruling)
 -- what column c of row r sets: the attribute byte of the cell that it fetches, if it fetches one
 abbrev pub setIn : Page → (chars attrs : List ℕ) → (row column : ℕ) → ℕ
 setIn p chars attrs r c = pick (fetchesAt (countsOf p) (codeOf (codeAt p chars r)) c) (setsOf (fieldMode p) attrs (cellAt p chars r c)) 0
@@ -17,6 +18,7 @@ setIn p chars attrs r c = pick (fetchesAt (countsOf p) (codeOf (codeAt p chars r
 abbrev pub byteOf : Page → (chars attrs : List ℕ) → (k : ℕ) → ℕ
 byteOf p chars attrs k = setIn p chars attrs (k / hactOf p) (k % hactOf p)
 
+-- [R-1 latch] attributes latched at a cell with AFLG hold until the next such cell, across rows
 -- of the last cell with AFLG that is fetched in the frame before column c of row r, or 0 for none
 unfoldable pub heldAt : Page → (chars attrs : List ℕ) → (row column : ℕ) → ℕ
 heldAt p chars attrs r c = lastSet (byteOf p chars attrs) 0 (r * hactOf p + min c (hactOf p))

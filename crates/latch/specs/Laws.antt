@@ -61,12 +61,16 @@ module _ (p : Page) (chars attrs : List ℕ) where
   unfolding heldAt validAt cellAt fetchAt movedOf fetchedOf rowStart cellOf startOf countsOf
   held-valid r c = refl
 
+  -- [R-1 frame]
+  -- nothing is valid at the start of a frame
   pub held-first : heldAt p chars attrs 0 0 ≡ 0
   unfolding heldAt lastSet
   held-first =
       let z : 0 * H + min 0 H ≡ 0 = omega (arith, zero-mul H) in
       rw z
 
+  -- [R-1 latch]
+  -- in a row it goes by what the row began with
   pub held-in-row : (r c : ℕ) → c ≤ H → heldAt p chars attrs r c ≡ lastSet (setIn p chars attrs r) (heldAt p chars attrs r 0) c
   unfolding heldAt validAt cellAt fetchAt movedOf fetchedOf rowStart cellOf startOf countsOf
   held-in-row r c h = valid-in-row (countsOf p) (feedIn p chars) (codeAt p chars) (setsOf (fieldMode p) attrs) (tallyIn p chars) r c (omega arith)
@@ -99,6 +103,8 @@ module _ (p : Page) (chars attrs : List ℕ) where
       let e : min (min c H) H ≡ min c H = omega arith in
       rw e
 
+  -- [R-1 latch]
+  -- a row begins with what the row before it ends with
   pub held-next : (r : ℕ) → heldAt p chars attrs r H ≡ heldAt p chars attrs (suc r) 0
   unfolding heldAt
   held-next r =

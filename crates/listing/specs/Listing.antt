@@ -45,6 +45,7 @@ headCheck p room = firstOf ((not (doneOf (pageCheck p)), pageCheck p) ∷ (ltb r
 unfoldable pub lineCheck : Board → (size : Bool) → (line room : ℕ) → Refusal
 lineCheck b size line room = callCheck b size (leb (visibleOf (b .page) .0) line) (ltb room (lineLength b + 1))
 
+-- [case listing] the listing, its printed example, and `refused N`
 -- what a call with this check answers, where these are its bytes
 unfoldable pub listedOf : Refusal → List ℕ → Listed
 listedOf r bytes = record { refusal = r; count = pick (doneOf r) (length bytes) 0 }

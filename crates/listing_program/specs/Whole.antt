@@ -30,6 +30,8 @@ lines-small p z e = rw e (go (doneOf (pageCheck p)))
     go true = visible-bound p
     go false = omega arith
 
+-- [case listing]
+-- the buffer has room for the head of every accepted page
 pub head-answers : (p : Page) → pageCheck p ≡ Done → headCheck p 3073 ≡ Done
 unfolding listingHead sizeOf
 head-answers p e =
@@ -39,6 +41,8 @@ head-answers p e =
     let d : length (decimal broad) ≤ 4 = length-decimal 3 broad (omega (arith, dots-bound p (accepted p e))) in
     head-fits p 3073 e (rw e (simp length-append (omega arith)))
 
+-- [case listing]
+-- and for every visible line
 pub line-answers : (file : List ℕ) → pageCheck (pageAt file 5) ≡ Done → (line : ℕ) → line < visibleOf (pageAt file 5) .0 → lineCheck (boardAt file 5) false line 3073 ≡ Done
 unfolding lineCheck callCheck stateRefused
 line-answers file e line h =

@@ -1,6 +1,7 @@
 -- A contract that leaves one answer only. Assumes nothing.
 use mathlib.Core.Path.{_≡_, sym, _∙_}
 
+-- [demand takes] every call takes any bytes and numbers, ends, and asks nothing; bad input gets its number
 -- any two answers that meet the contract are the same answer
 abbrev pub OneAnswer : {A : Type 0} → (A → Type 0) → Type 0
 OneAnswer {A} Meets = (r s : A) → Meets r → Meets s → r ≡ s

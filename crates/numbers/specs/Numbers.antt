@@ -40,6 +40,7 @@ numbersWith version page = numbersFront version page (replicate 7 0)
 abbrev pub numbersIn : List ℕ → List ℕ
 numbersIn file = numbersWith (getD file 0 0) (take 24 (drop 5 file))
 
+-- [more numbers]
 -- those of a page: its version, IR0 to IR14, screen start 1, cursor and screen start 2 high byte first, switches, dots, strike line, seven zeros
 abbrev pub pageNumbers : Page → List ℕ
 pageNumbers p = numbersWith (versionOf p) (pageBytes p)
@@ -54,14 +55,17 @@ pageOrOwn r p numbers = pick (doneOf r) (pageIn p numbers) numbers
 
 -- ---- a board's page as numbers
 
+-- [more numbers]
 -- 3 where there is room for another number than 32, then the page's own 12, 4, 13, 14, 15, 6; the board's place is not judged
 unfoldable pub numbersOfCheck : Board → (room : ℕ) → Refusal
 numbersOfCheck b room = pick (not (eqb room 32)) Size (pageCheck (b .page))
 
+-- [more numbers] a board's page as numbers, and back
 -- the numbers afterwards: the page's, and on a refusal as they were
 unfoldable pub numbersOf : Board → List ℕ → List ℕ
 numbersOf b numbers = pick (doneOf (numbersOfCheck b (length numbers))) (pageNumbers (b .page)) numbers
 
+-- [demand untouched]
 -- the call: the refusal, and the numbers afterwards
 abbrev pub GivesNumbers : Board → (numbers : List ℕ) → Refusal → (left : List ℕ) → Type 0
 GivesNumbers b numbers r left = (r ≡ numbersOfCheck b (length numbers)) × (left ≡ numbersOf b numbers)

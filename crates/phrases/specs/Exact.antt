@@ -29,12 +29,16 @@ abbrev pub HoldsEach : Page → List ℕ → ℕ → Phrase → Type 0
 HoldsEach p chars row r = (i : ℕ) → i < fetchedOf p chars row → (r .first ≤ fetchAt p chars row i) × (fetchAt p chars row i < pastOf r)
 
 module _ (p : Page) (chars : List ℕ) (row : ℕ) (r : Phrase) where
+  -- [R-6 row]
+  -- a record that holds a row has each cell that the row fetches
   pub holds-each : holdsRow p chars row r ≡ true → HoldsEach p chars row r
   unfolding holdsRow holdsCell
   holds-each e i l =
       let q = both _ _ (not-false _ (none-of (λ i. not (holdsCell r (fetchAt p chars row i))) (fetchedOf p chars row) (not-true _ e) i l)) in
       (leb-true _ _ (q .0), ltb-true _ _ (q .1))
 
+  -- [R-6 row]
+  -- a record that has each cell that the row fetches holds the row
   pub each-holds : HoldsEach p chars row r → holdsRow p chars row r ≡ true
   unfolding holdsRow holdsCell
   each-holds h = ap not (any-none (λ i. not (holdsCell r (fetchAt p chars row i))) (fetchedOf p chars row)
@@ -91,18 +95,26 @@ module _ (b : Board) (chars : List ℕ) (rs : List Phrase) (row : ℕ) (done : r
   holding : Phrase → Bool
   holding = holdsRow (b .page) chars row
 
+  -- [R-6 refusals]
+  -- 20 comes with the first bad record
   pub phrase-bad : (k : ℕ) → First (at rs badRecord) (length rs) k → phraseOfRow b chars rs row ≡ phraseAnswer 20 0 0 k
   unfolding phraseOfRow holding
   phrase-bad k f = rw done (among-bad _ _ _ _ (at rs holding) _ k f)
 
+  -- [R-6 lowest]
+  -- a record that is found holds the row, and no lower one does
   pub phrase-found : (k : ℕ) → None (at rs badRecord) (length rs) → First (at rs (holdsRow (b .page) chars row)) (length rs) k → phraseOfRow b chars rs row ≡ phraseAnswer 0 0 1 k
   unfolding phraseOfRow
   phrase-found k o f = rw done (among-found _ _ _ _ _ _ k o f)
 
+  -- [R-6 lowest]
+  -- none is found exactly if none holds the row
   pub phrase-none : None (at rs badRecord) (length rs) → None (at rs (holdsRow (b .page) chars row)) (length rs) → phraseOfRow b chars rs row ≡ phraseAnswer 0 0 0 0
   unfolding phraseOfRow
   phrase-none o f = rw done (among-none _ _ _ _ _ _ o f)
 
+  -- [R-6 lowest]
+  -- one of the three holds, for every row that is not refused
   pub phrase-told : Told (phraseAnswer 20 0 0) (phraseAnswer 0 0 1) (phraseAnswer 0 0 0 0) (at rs badRecord) (at rs (holdsRow (b .page) chars row)) (length rs) (phraseOfRow b chars rs row)
   unfolding phraseOfRow
   phrase-told = rw done (among-told _ _ _ _ _ _)
@@ -117,21 +129,29 @@ module _ (rs : List Phrase) where
   abbrev pairOf : (i : ℕ) → PairAnswer
   pairOf i = pairAnswer 0 0 1 i (firstBelow (laterDiffers rs i) (length rs))
 
+  -- [R-6 refusals]
+  -- 20 comes with the first bad record
   pub differ-bad : (k : ℕ) → First (at rs badRecord) (length rs) k → phrasesDiffer rs ≡ pairAnswer 20 0 0 k 0
   unfolding phrasesDiffer
   differ-bad k f = among-bad (λ i. pairAnswer 20 0 0 i 0) pairOf (pairAnswer 0 0 0 0 0) (at rs badRecord) Differs (length rs) k f
 
+  -- [R-6 pair]
+  -- two records that are found have the same language and number, and differ
   pub differ-found : (i j : ℕ) → None (at rs badRecord) (length rs) → First Differs (length rs) i → First (laterDiffers rs i) (length rs) j → phrasesDiffer rs ≡ pairAnswer 0 0 1 i j
   unfolding phrasesDiffer
   differ-found i j o f g =
       among-found (λ i. pairAnswer 20 0 0 i 0) pairOf (pairAnswer 0 0 0 0 0) (at rs badRecord) Differs (length rs) i o f
       ∙ ap (pairAnswer 0 0 1 i) (first-at (laterDiffers rs i) (length rs) j (g .inside) (g .passes) (g .before))
 
+  -- [R-6 pair]
+  -- none are found exactly if no two differ
   pub differ-none : None (at rs badRecord) (length rs) → ((i j : ℕ) → j < length rs → laterDiffers rs i j ≡ false) → phrasesDiffer rs ≡ pairAnswer 0 0 0 0 0
   unfolding phrasesDiffer
   differ-none o h =
       among-none (λ i. pairAnswer 20 0 0 i 0) pairOf (pairAnswer 0 0 0 0 0) (at rs badRecord) Differs (length rs) o (λ i l. any-none (laterDiffers rs i) (length rs) (h i))
 
+  -- [R-6 pair]
+  -- one of the three holds, for every list
   pub differ-told : Told (λ i. pairAnswer 20 0 0 i 0) pairOf (pairAnswer 0 0 0 0 0) (at rs badRecord) Differs (length rs) (phrasesDiffer rs)
   unfolding phrasesDiffer
   differ-told = among-told (λ i. pairAnswer 20 0 0 i 0) pairOf (pairAnswer 0 0 0 0 0) (at rs badRecord) Differs (length rs)
@@ -152,6 +172,8 @@ module _ (rs : List Phrase) where
       go (no h) (yes g) = absurd (true≢false (sym any ∙ f .before i g))
       go (no h) (no g) = let q : k ≡ i = omega (arith, h, g) in inr (q, rw q (least (decLt j _)))
 
+  -- [R-6 pair]
+  -- no two that differ come before them
   pub differ-first : phrasesDiffer rs .found ≡ 1 → (i j : ℕ) → j < length rs → laterDiffers rs i j ≡ true
       → (phrasesDiffer rs .earlier < i) ⊎ ((phrasesDiffer rs .earlier ≡ i) × (phrasesDiffer rs .later ≤ j))
   differ-first e i j l q = go differ-told

@@ -17,6 +17,7 @@ use Rattle.shape.specs.Font.{Font}
 use Rattle.video.specs.At.{lentRefused}
 use Rattle.line.specs.Line.{lineDots}
 
+-- [more picture] the picture is all visible lines, end to end, at the front of the buffer; bytes beyond stay
 unfoldable pub pictureDots : Board → (chars attrs : List ℕ) → Font → (field : ℕ) → List ℕ
 pictureDots b chars attrs f field = joined 0 (visibleOf (b .page) .0) (λ (line : ℕ). lineDots b chars attrs f line field)
 
@@ -24,6 +25,7 @@ pictureDots b chars attrs f field = joined 0 (visibleOf (b .page) .0) (λ (line 
 abbrev pub pictureLength : Page → ℕ
 pictureLength p = visibleOf p .0 * (hactOf p * p .video .dots .0)
 
+-- [more picture]
 -- 3, 12, 4, 13, 14, 15, 6, 7, 8 for a buffer of room bytes that is too short
 unfoldable pub pictureCheck : Board → (size : Bool) → (room : ℕ) → Refusal
 pictureCheck b size room = callCheck b size false (ltb room (pictureLength (b .page)))
@@ -32,6 +34,7 @@ pictureCheck b size room = callCheck b size false (ltb room (pictureLength (b .p
 abbrev pub pictureOver : Board → (chars attrs : List ℕ) → Font → (field : ℕ) → (out : List ℕ) → List ℕ
 pictureOver b chars attrs f field out = pictureDots b chars attrs f field ++ drop (pictureLength (b .page)) out
 
+-- [more picture]
 -- the buffer afterwards, which stays on a refusal
 unfoldable pub picturedOf : Board → (chars attrs : List ℕ) → Font → (field : ℕ) → List ℕ → List ℕ
 picturedOf b chars attrs f field out =
@@ -39,6 +42,7 @@ picturedOf b chars attrs f field out =
     (pictureOver b chars attrs f field out)
     out
 
+-- [demand untouched]
 -- the call: the refusal, and the buffer afterwards
 abbrev pub DrawsPicture : Board → (chars attrs : List ℕ) → Font → (field : ℕ) → (out : List ℕ) → Refusal → (left : List ℕ) → Type 0
 DrawsPicture b chars attrs f field out r left =

@@ -18,6 +18,7 @@ use Rattle.fetch.specs.Rows.{entryOf, codeAt, rowStart, cellAt}
 use Rattle.latch.specs.Held.{heldAt}
 use Rattle.place.specs.declared.Carried.{Carried}
 
+-- [clock parts]
 -- an active clock of a visible line
 abbrev pub activeAt : Page → Place → Bool
 activeAt p q = ltb (q .line .0) (visibleOf p .0) && ltb (q .clock .0) (hactOf p)
@@ -46,10 +47,12 @@ placed field line clock c = record {
 abbrev pub setBy : Page → (byte : ℕ) → ℕ
 setBy p byte = pick (fieldMode p) byte 0
 
+-- [R-1 counted] a latch handed over without AFLG, or in character mode, counts as 0, and a step leaves 0 (our ruling)
 -- one that is handed over without AFLG, or in character mode, counts as none
 unfoldable pub countedLatch : Page → (latch : ℕ) → ℕ
 countedLatch p latch = latched (setBy p latch) 0
 
+-- [R-4 counted] of a code handed over two bits count, none while IR0[7] is 0, and a step leaves what counts (our ruling)
 -- of a row's code two bits count, and none while IR0[7] is 0
 unfoldable pub countedCode : Page → (code : ℕ) → ℕ
 countedCode p code = pick (codedOf p) (code % 4) 0
@@ -63,6 +66,7 @@ heldIn p q = settled p (row (q .beam .address) (q .beam .latch) (q .row .code))
 
 -- ---- one clock: load on column 0 of a visible line; fetch, latch and move on; turn to the next clock, line or frame
 
+-- [fetch start]
 -- where a row begins if an address is held: at its table entry if the table is on; else row 0 at screen start 1; else it carries on
 abbrev pub beginsAt : Page → (chars : List ℕ) → (row held : ℕ) → ℕ
 beginsAt p chars r held = pick (tableOf p) (entryOf p chars r) (pick (eqb r 0) (p .starts .start1) held)
@@ -71,6 +75,8 @@ beginsAt p chars r held = pick (tableOf p) (entryOf p chars r) (pick (eqb r 0) (
 abbrev pub begunIn : Page → (chars : List ℕ) → (row : ℕ) → Row → Row
 begunIn p chars r x = row (beginsAt p chars r (x .address)) (pick (eqb r 0) 0 (x .latch)) (codeAt p chars r)
 
+-- [fetch load] on column 0 of a visible line the address is loaded; a row's later lines load its row start again
+-- [R-1 lines]
 -- what a clock works on. On column 0 of a visible line it is loaded: a row's first line begins the row, its later lines load the row's start again
 unfoldable pub loadedIn : Page → (chars : List ℕ) → Place → Carried
 loadedIn p chars q =
@@ -80,6 +86,7 @@ loadedIn p chars q =
     (carried (settled p (q .row)) (settled p (q .row))))
     (carried (heldIn p q) (settled p (q .row)))
 
+-- [R-4 step]
 -- past a clock: the cell that it fetches is latched if it has AFLG, and after a cell's last column the beam moves on
 abbrev pub pastCell : Page → (attrs : List ℕ) → (clock : ℕ) → Row → Row
 pastCell p attrs clock x =
@@ -88,10 +95,13 @@ pastCell p attrs clock x =
     (pick (againAt (codeOf (x .code)) clock) (x .latch) (latched (setsOf (fieldMode p) attrs (x .address)) (x .latch)))
     (x .code)
 
+-- [fetch hold] other clocks hold the address; a display that is off moves it all the same
+-- [R-1 off] a display that is off latches all the same
 -- each active clock of a visible line
 unfoldable pub movedIn : Page → (attrs : List ℕ) → Place → Carried → Carried
 movedIn p attrs q c = pick (activeAt p q) (carried (pastCell p attrs (q .clock .0) (c .beam)) (c .row)) c
 
+-- [clock field] the field counter has eight bits and goes from 255 to 0 at the end of a frame
 -- the field counter goes from 255 to 0
 unfoldable pub turnedIn : Page → Place → Carried → Place
 turnedIn p q c =
@@ -140,6 +150,8 @@ carriedBefore p chars attrs c line frame =
     (lineAt p chars attrs (htOf p) (line - 1))
     (pick (ltb 0 frame) (lastAt p chars attrs) (carried (row 0 0 0) (row 0 0 0))))
 
+-- [strength at-once] the state for clock n and a whole line are stated and computed at once, without single steps
+-- [clock zero]
 -- the place for clock n, counted from clock 0
 unfoldable pub placeAt : Page → (chars attrs : List ℕ) → ℕ → Place
 placeAt p chars attrs n = placed (frameIn p n % 256) (lineIn p n) (clockIn p n) (carriedBefore p chars attrs (clockIn p n) (lineIn p n) (frameIn p n))

@@ -157,6 +157,8 @@ module _ (p : Page) where
       go false true = kept _ _ _
       go false false = kept _ _ _
 
+  -- [R-1 counted]
+  -- every step leaves latch bytes and a row code that count as they stand
   pub next-settled : (chars attrs : List ℕ) (q : Place) → settledIn p (nextPlace p chars attrs q) ≡ nextPlace p chars attrs q
   next-settled chars attrs q = turned-settled q _ (moved-settled attrs q _ (loaded-settled chars q))
 
@@ -166,6 +168,8 @@ module _ (p : Page) where
   unfolding rowAt
   row-settled chars attrs r c = (counted-held chars attrs r c, counted-held chars attrs r 0, code-own chars r)
 
+  -- [R-1 counted]
+  -- so does every state worked out at once
   pub at-settled : (chars attrs : List ℕ) (n : ℕ) → settledIn p (placeAt p chars attrs n) ≡ placeAt p chars attrs n
   unfolding placeAt
   at-settled chars attrs n =

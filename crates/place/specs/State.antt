@@ -23,6 +23,7 @@ stateCheck b chars attrs = callCheck b (memoriesRefused (length chars) (length a
 abbrev pub stated : Refusal → Board → StateAt
 stated r b = record { refusal = r; board = b }
 
+-- [clock zero]
 -- page, pointer and power state are the given board's; the place is that for clock n, counted from clock 0
 unfoldable pub stateOf : Board → (chars attrs : List ℕ) → ℕ → StateAt
 stateOf b chars attrs n =

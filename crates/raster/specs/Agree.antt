@@ -186,6 +186,7 @@ module _ {D : Type 0} (g : Counts) (m : Carrier D) (w : Rows D) (s : Good g) (k 
   unfolding origin scanAt carriedAt
   at-origin = simp (zero-div, zero-mod)
 
+  -- [demand at-once]
   -- n single steps from clock 0 come to the state for clock n
   pub steps-meet : (n : ℕ) → steps g m n (origin g m) ≡ scanAt g w (m .zeroth) n
   unfolding steps

@@ -35,6 +35,7 @@ row a l k = record { address = a; latch = l; code = k }
 module _ (g : Counts) (e : Feed) (code sets : ℕ → ℕ) where
   -- ---- one clock
 
+  -- [R-1 frame] at the start of a frame nothing is latched
   -- at the start of a frame nothing is latched
   abbrev pub beginsLatch : ℕ → ℕ → ℕ
   beginsLatch r held = pick (eqb r 0) 0 held
@@ -46,6 +47,7 @@ module _ (g : Counts) (e : Feed) (code sets : ℕ → ℕ) where
   abbrev pub movesCell : (code c address : ℕ) → ℕ
   movesCell k c a = pick (movesAt g (codeOf k) c) (advance (e .buffer) a) a
 
+  -- [R-4 code]
   abbrev pub beamCarrier : Carrier Row
   beamCarrier = record {
     zeroth = row 0 0 0;
@@ -64,6 +66,7 @@ module _ (g : Counts) (e : Feed) (code sets : ℕ → ℕ) where
     unfoldable pub validAt : (r c : ℕ) → ℕ
     validAt r c = lastSet fetched 0 (r * HACT g + min c (HACT g))
 
+    -- [R-1 lines] each scan line of a row starts with what was valid at the end of the previous row
     abbrev pub beamRows : Rows Row
     beamRows = record { start = λ r. row (startOf e t r) (validAt r 0) (code r); walk = λ r c. row (cellOf e t r c) (validAt r c) (code r) }
 

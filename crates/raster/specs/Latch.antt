@@ -21,6 +21,7 @@ use Rattle.lists.specs.Choice.{pick}
 use Rattle.raster.specs.declared.Code.{Code}
 use Rattle.raster.specs.Wide.{isWide, againAt}
 
+-- [dots attributes] the attribute byte; with AFLG 0 the cell has none
 -- AFLG is bit 7: where it is set a cell's own byte, else what was valid before
 abbrev pub latched : (byte held : ℕ) → ℕ
 latched byte held = pick (ltb byte 128) held byte
@@ -29,6 +30,7 @@ latched byte held = pick (ltb byte 128) held byte
 abbrev pub setsOf : (runs : Bool) → (attrs : List ℕ) → (address : ℕ) → ℕ
 setsOf runs attrs a = pick runs (getD attrs a 0) 0
 
+-- [R-1 latch]
 -- of n cells, looked at from the last one back: the byte of the first with AFLG that is met, or what was valid before them all
 unfoldable pub lastSet : (byte : ℕ → ℕ) → (held n : ℕ) → ℕ
 lastSet byte held zero = held

@@ -19,6 +19,7 @@ use Rattle.raster.specs.Tick.{Tick, up, carry, tick}
 abbrev pub cell : ℕ → Cell
 cell a = record { address = a }
 
+-- [fetch move] after the last buffer address comes the first; otherwise add 1, and 16383 is followed by 0
 -- after the last buffer address comes the first; otherwise add 1, and 16383 is followed by 0
 unfoldable pub advance : Buffer → ℕ → ℕ
 advance b a = pick (eqb a (b .last)) (b .first) ((a + 1) % 16384)
@@ -31,6 +32,7 @@ toLast b a = (b .last + 16384 - a % 16384) % 16384
 unfoldable pub around : Buffer → ℕ
 around b = toLast b (b .first) + 1
 
+-- [fetch move]
 -- k moves at once
 unfoldable pub advanceBy : Buffer → ℕ → ℕ → ℕ
 advanceBy b k a = pick (leb k (toLast b a)) ((a + k) % 16384) ((b .first + (k - toLast b a - 1) % around b) % 16384)
@@ -137,6 +139,7 @@ advanceBy-add b o (suc j) k a ha =
 
 -- ---- the range
 
+-- [demand inside]
 pub record Inside (b : Buffer) (a : ℕ) : Type 0 where
   pub above : b .first ≤ a
   pub below : a ≤ b .last

@@ -68,6 +68,7 @@ scan f l c p = record { field = f; line = l; clock = c; carried = p }
 -- ---- one clock
 
 module _ {D : Type 0} (g : Counts) where
+  -- [clock field]
   -- where the beam is after this clock
   unfoldable pub turn : (field line clock : ℕ) → Pair D → Scan D
   turn field line clock p =
@@ -78,6 +79,7 @@ module _ {D : Type 0} (g : Counts) where
       (scan ((field + 1) % 256) 0 0 p))
 
 module _ {D : Type 0} (g : Counts) (m : Carrier D) where
+  -- [fetch load]
   -- on column 0 of a visible line what is carried is loaded: the first line of a row begins the row, the later lines load its start again
   unfoldable pub loaded : (line clock : ℕ) → Pair D → Pair D
   loaded line clock p =

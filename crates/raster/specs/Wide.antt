@@ -13,6 +13,7 @@ use Rattle.raster.specs.declared.Code.{Code}
 use Rattle.raster.specs.declared.Code.the-variants.{Plain, Wide, Top, Bottom}
 use Rattle.raster.specs.Raster.{HACT}
 
+-- [R-4 code]
 -- of a code byte two bits count: 00 plain, 01 double width, 10 double width and top half, 11 double width and bottom half
 abbrev pub codeOf : ℕ → Code
 codeOf byte = pick (eqb (byte % 4) 0) Plain (pick (eqb (byte % 4) 1) Wide (pick (eqb (byte % 4) 2) Top Bottom))
@@ -35,26 +36,32 @@ isBottom Wide = false
 isBottom Top = false
 isBottom Bottom = true
 
+-- [R-4 step]
 -- an odd column of a double width row shows the cell of the column before it again
 abbrev pub againAt : Code → (c : ℕ) → Bool
 againAt k c = isWide k && eqb (c % 2) 1
 
+-- [R-4 step] the stepper fetches on even columns, shows that again on the odd one, and moves on after a cell's last column
 -- every other active clock fetches
 abbrev pub fetchesAt : Counts → Code → (c : ℕ) → Bool
 fetchesAt g k c = ltb c (HACT g) && not (againAt k c)
 
+-- [R-4 step]
 -- a cell's last column
 abbrev pub endsAt : Counts → Code → (c : ℕ) → Bool
 endsAt g k c = not (isWide k) || (eqb (c % 2) 1 || eqb (c + 1) (HACT g))
 
+-- [R-4 step]
 -- after it the beam moves on
 abbrev pub movesAt : Counts → Code → (c : ℕ) → Bool
 movesAt g k c = ltb c (HACT g) && endsAt g k c
 
+-- [R-4 run] its first run counts the cells fetched, half of HACT rounded up
 -- the cells that a row fetches: half of HACT, rounded up, where it is of double width
 abbrev pub fetchedIn : Counts → Code → ℕ
 fetchedIn g k = pick (isWide k) ((HACT g + 1) / 2) (HACT g)
 
+-- [R-4 width]
 -- how often it has moved on by a column
 abbrev pub movedAt : Counts → Code → (c : ℕ) → ℕ
 movedAt g k c = pick (ltb c (HACT g)) (pick (isWide k) (c / 2) c) (fetchedIn g k)

@@ -23,17 +23,21 @@ none = record { language = 0; number = 0; first = 0; length = 0 }
 abbrev pub pastOf : Phrase → ℕ
 pastOf r = r .first + r .length
 
+-- [R-6 refusals] the page's and row's own, then 20 for a record of length 0 or passing 16383, with its position
 -- refused 20: of length 0, or with a cell past 16383
 unfoldable pub badRecord : Phrase → Bool
 badRecord r = eqb (r .length) 0 || ltb 16384 (pastOf r)
 
+-- [R-6 row] the record whose cells hold the whole of what the row fetches
 unfoldable pub holdsCell : Phrase → (address : ℕ) → Bool
 holdsCell r a = leb (r .first) a && ltb a (pastOf r)
 
+-- [R-6 row]
 -- each cell that the row fetches is one of the record's
 unfoldable pub holdsRow : Page → (chars : List ℕ) → (row : ℕ) → Phrase → Bool
 holdsRow p chars row r = not (anyBelow (λ i. not (holdsCell r (fetchAt p chars row i))) (fetchedOf p chars row))
 
+-- [R-6 pair] the first two records with the same language and number that differ in first cell or length
 -- the same language and number, and another first cell or length
 unfoldable pub disagrees : Phrase → Phrase → Bool
 disagrees r s = (eqb (r .language) (s .language) && eqb (r .number) (s .number)) && (not (eqb (r .first) (s .first)) || not (eqb (r .length) (s .length)))
@@ -42,6 +46,7 @@ disagrees r s = (eqb (r .language) (s .language) && eqb (r .number) (s .number))
 abbrev pub at : List Phrase → (t : Phrase → Bool) → (i : ℕ) → Bool
 at rs t i = t (getD rs i none)
 
+-- [R-6 lowest] the lowest in the list if several do, none exactly if none does
 -- of n positions the first bad one is refused; else the first good one is found, where there is one
 unfoldable pub among : {A : Type 0} → (refused found : ℕ → A) → (nothing : A) → (bad good : ℕ → Bool) → (n : ℕ) → A
 among refused found nothing bad good n = firstOf ((anyBelow bad n, refused (firstBelow bad n)) ∷ (anyBelow good n, found (firstBelow good n)) ∷ []) nothing
@@ -51,6 +56,7 @@ among refused found nothing bad good n = firstOf ((anyBelow bad n, refused (firs
 abbrev pub phraseAnswer : (refusal beside found position : ℕ) → PhraseAnswer
 phraseAnswer r b f i = record { refusal = r; beside = b; found = f; position = i }
 
+-- [R-6 row]
 -- the page's and the row's own refusals, then 20 for the first bad record; else the lowest that holds the row
 unfoldable pub phraseOfRow : Board → (chars : List ℕ) → List Phrase → (row : ℕ) → PhraseAnswer
 phraseOfRow b chars rs row =
@@ -63,10 +69,12 @@ phraseOfRow b chars rs row =
 abbrev pub pairAnswer : (refusal beside found earlier later : ℕ) → PairAnswer
 pairAnswer r b f i j = record { refusal = r; beside = b; found = f; earlier = i; later = j }
 
+-- [R-6 pair]
 -- the record at j stands after the one at i and disagrees with it
 unfoldable pub laterDiffers : List Phrase → (i j : ℕ) → Bool
 laterDiffers rs i j = ltb i j && disagrees (getD rs i none) (getD rs j none)
 
+-- [R-6 pair]
 -- 20 for the first bad record; else the first that a later one disagrees with, and the first such
 unfoldable pub phrasesDiffer : List Phrase → PairAnswer
 phrasesDiffer rs =

@@ -5,6 +5,7 @@ use mathlib.Core.Bool.{Bool}
 use Rattle.refusal.specs.declared.Refusal.{Refusal}
 use Rattle.refusal.specs.declared.Refusal.the-variants.{Done, Version, Length, Size, Reserved, BackPorch, LineShort, FrontPorch, Width, Range, Room, Register, Command, Address, Kind, Stretch, Apart, Coded}
 
+-- [refusal numbers] each refusal number when, and only when, its fact holds
 abbrev pub numberOf : Refusal → ℕ
 numberOf Done = 0
 numberOf Version = 1
@@ -25,6 +26,7 @@ numberOf Stretch = 17
 numberOf Apart = 18
 numberOf Coded = 19
 
+-- [R-2 missing]
 -- by how many clocks the front porch misses 2; no other refusal has a number beside it
 abbrev pub besideOf : Refusal → ℕ
 besideOf Done = 0

@@ -14,9 +14,11 @@ use Rattle.registers.specs.Write.{registerCheck}
 abbrev pub lowerShown : ℕ → ℕ
 lowerShown x = x % 256
 
+-- [register upper]
 abbrev pub upperShown : ℕ → ℕ
 upperShown x = x / 256 % 64
 
+-- [register reads] reads at 0 and 1 give 0, and reads answer on an inactive board as on an active one
 -- addresses 2 to 7: screen start 1, cursor, screen start 2, lower then upper
 unfoldable pub shownAt : Starts → ℕ → ℕ
 shownAt s a =
@@ -34,5 +36,6 @@ readAt s a =
     (pick (within 2 7 a) (byteRead Done (shownAt s a))
     (byteRead Register 0))
 
+-- [register reads]
 unfoldable pub readOf : Board → ℕ → ByteRead
 readOf b a = pick (doneOf (registerCheck b)) (readAt (b .page .starts) a) (byteRead (registerCheck b) 0)

@@ -15,6 +15,7 @@ use Rattle.timing.specs.Check.{widthRefused}
 use Rattle.registers.specs.declared.Written.{Written}
 use Rattle.registers.specs.Parts.{withSwitches, withVideo, withPage, answer}
 
+-- [register video] a call of its own sets dots, strike line, BKGND and RBLANK, refusing 12, then 6
 unfoldable pub videoCheck : Starts → (version switches : ℕ) → Dots → ℕ → Refusal
 videoCheck s version switches dots strike =
     firstOf ((startsRefused s || switchesRefused version switches || ltb 15 strike, Address) ∷ (widthRefused dots, Width) ∷ []) Done
@@ -29,6 +30,7 @@ videoSet b dots strike bkgnd rblank =
     (withVideo (withSwitches (b .page) (switchesSet (b .page .switches) bkgnd rblank))
     (record { dots = dots; strike = strike }))
 
+-- [register video]
 unfoldable pub setVideoOf : Board → Dots → ℕ → Bool → Bool → Written
 setVideoOf b dots strike bkgnd rblank =
     pick (doneOf (videoCheck (b .page .starts) (b .page .version) (b .page .switches) dots strike))

@@ -15,16 +15,19 @@ use Rattle.board.specs.Range.{addressRefused, pointerRefused}
 use Rattle.registers.specs.declared.Written.{Written}
 use Rattle.registers.specs.Parts.{withIrs, withStarts, withSwitches, withPage, withPointer, withResets, answer}
 
+-- [refusal kinds] which numbers each kind of call gives; after 9 an inactive board answers 0
 -- register calls give 12, then 7 for the pointer
 unfoldable pub registerCheck : Board → Refusal
 registerCheck b = firstOf ((addressRefused (b .page), Address) ∷ (pointerRefused (b .pointer), Range) ∷ []) Done
 
 -- ---- the commands
 
+-- [register inactive]
 -- a write that is no reset ends the run of resets
 abbrev pub brokenOf : Board → Board
 brokenOf b = withResets b 0
 
+-- [register reset] every reset sets pointer, place and counts, display and cursor off, and keeps all else
 -- pointer at IR0, place at clock 0, display and cursor off, all else kept; a reset makes 0 resets in a row to 1 and all else to 2
 abbrev pub resetOf : Board → Board
 resetOf b = record {
@@ -34,17 +37,21 @@ resetOf b = record {
   resets = pick (eqb (b .resets) 0) 1 2;
 }
 
+-- [register commands]
 abbrev pub pointedOf : Board → ℕ → Board
 pointedOf b n = withPointer b n
 
+-- [register commands]
 -- bit 3 names the display, bit 4 the cursor, bit 0 says on
 abbrev pub switchesAfter : ℕ → ℕ → ℕ
 switchesAfter s v =
     s / 4 * 4 + 2 * pick (eqb (v / 16 % 2) 1) (v % 2) (s / 2 % 2) + pick (eqb (v / 8 % 2) 1) (v % 2) (s % 2)
 
+-- [register at-once] on and off act at once; an inactive board steps and draws with its display off
 abbrev pub switchedOf : Board → ℕ → Board
 switchedOf b v = withPage b (withSwitches (b .page) (switchesAfter (b .page .switches) v))
 
+-- [register commands] the six commands; a byte that combines display and cursor does both, with any other it is not carried
 -- 003 Table 6: 00 is master reset, 10 to 1E load the pointer; of 20 to 3F those that name display or cursor and not graphics
 unfoldable pub commandOf : Board → ℕ → Written
 commandOf b v =
@@ -56,10 +63,13 @@ commandOf b v =
 
 -- ---- the registers
 
+-- [register pointer]
 -- the pointer moves on and stays at IR14
 abbrev pub nextPointer : ℕ → ℕ
 nextPointer n = pick (ltb n 14) (n + 1) 14
 
+-- [register pointer] writes at 0 go to the pointed register; the pointer moves on and stays at IR14
+-- [register kept] IR10 to IR14 are kept and unused; all other bits are ignored
 -- the pointed register takes the byte
 abbrev pub loadedOf : Board → ℕ → Board
 loadedOf b v = withPointer (withPage b (withIrs (b .page) (set (b .page .irs) (b .pointer) v))) (nextPointer (b .pointer))
@@ -68,9 +78,11 @@ loadedOf b v = withPointer (withPage b (withIrs (b .page) (set (b .page .irs) (b
 abbrev pub lowerOf : ℕ → ℕ → ℕ
 lowerOf x v = x / 256 * 256 + v
 
+-- [register upper] upper registers keep six bits; bits 7 and 6 read 0
 abbrev pub upperOf : ℕ → ℕ → ℕ
 upperOf x v = v % 64 * 256 + x % 256
 
+-- [register addresses]
 -- addresses 2 to 7: screen start 1, cursor, screen start 2, lower then upper
 unfoldable pub startsAfter : Starts → ℕ → ℕ → Starts
 startsAfter s a v =
@@ -86,6 +98,7 @@ startedOf b a v = withPage b (withStarts (b .page) (startsAfter (b .page .starts
 
 -- ---- the call
 
+-- [register addresses] address 1 is the command; 2 to 7 are screen start 1, cursor, screen start 2, lower then upper
 -- address 0 is the pointed register, 1 the command
 unfoldable pub activeOf : Board → ℕ → ℕ → Written
 activeOf b a v =
@@ -94,6 +107,7 @@ activeOf b a v =
     (pick (within 2 7 a) (answer Done (startedOf b a v))
     (answer Register b)))
 
+-- [register inactive] inactive until two master resets in a row; until then another write answers 0 and breaks that run
 -- until two resets in a row any other write answers 0 and only breaks that run
 unfoldable pub inactiveOf : Board → ℕ → ℕ → Written
 inactiveOf b a v =
@@ -101,6 +115,7 @@ inactiveOf b a v =
     (pick (eqb a 1 && eqb v 0) (answer Done (resetOf b)) (answer Done (brokenOf b)))
     (answer Register b)
 
+-- [refusal kinds]
 -- 2 resets in a row, or more, and the board is active
 unfoldable pub writeOf : Board → ℕ → ℕ → Written
 writeOf b a v =

@@ -35,26 +35,31 @@ pub record Whole (f : Font) : Type 0 where
   pub unshifted-all : length (f .unshifted) ≡ 9
   pub shifted-all : length (f .shifted) ≡ 9
 
+-- [board font]
 -- 3: a font part of wrong size
 abbrev pub fontRefused : Font → Bool
 fontRefused f =
     not (eqb (length (f .words)) 1152) || not (eqb (length (f .flags)) 128) || not (eqb (length (f .unshifted)) 9)
     || not (eqb (length (f .shifted)) 9)
 
+-- [board font]
 -- the first position in a list that equals the scan line (low four bits count), or the list's length where none does
 unfoldable pub positionOf : List ℕ → ℕ → ℕ
 positionOf [] scan = 0
 positionOf (x ∷ xs) scan = pick (eqb (x % 16) scan) 0 (suc (positionOf xs scan))
 
+-- [board font] the font: words of which ten bits count, shift flags, two lists of which four bits count
 -- the font word of a character at a position of nine (low ten bits count); zeros past the nine
 unfoldable pub fontWord : List ℕ → ℕ → ℕ → ℕ
 fontWord words character position = pick (ltb position 9) (getD words (character * 9 + position) 0 % 1024) 0
 
+-- [dots shape] CA7 = 0 gives zeros; else the flag chooses a list, and the first position of the scan line gives the word
 -- CA7 = 0 gives zeros; a shift flag that is not 0 is shifted
 unfoldable pub wordBy : List ℕ → List ℕ → ℕ → ℕ → ℕ → ℕ
 wordBy words flags plain moved code =
     pick (ltb code 128) 0 (fontWord words (code % 128) (pick (eqb (getD flags (code % 128) 0) 0) plain moved))
 
+-- [dots shape]
 -- the shift flag chooses a list; the first position in it that equals the scan line gives the font word
 unfoldable pub wordOf : Font → ℕ → ℕ → ℕ
 wordOf f code scan = wordBy (f .words) (f .flags) (positionOf (f .unshifted) scan) (positionOf (f .shifted) scan) code

@@ -20,13 +20,16 @@ use Rattle.step.specs.declared.Signals.{Signals}
 abbrev pub scanIn : Board → (row : ℕ) → ℕ
 scanIn b k = scanAt (b .page) (codeOf k) (b .place .line .0)
 
+-- [clock parts] a line runs active, front porch, sync, back porch, and a frame likewise in lines
 -- a line runs active, front porch, sync, back porch; a frame likewise in lines
 abbrev pub hsyncIn : Board → Bool
 hsyncIn b = during (hactOf (b .page) + hfpOf (b .page)) (hsyncOf (b .page)) (b .place .clock .0)
 
+-- [clock parts]
 abbrev pub vsyncIn : Board → Bool
 vsyncIn b = during (visibleOf (b .page) .0 + vfpOf (b .page)) (vsyncOf (b .page)) (b .place .line .0)
 
+-- [clock blank] BLANK is high off the active clocks of visible lines, and always when the display is off
 unfoldable pub signalsOf : Board → (row address : ℕ) → Signals
 signalsOf b k address = record {
   hsync = hsyncIn b;
@@ -36,6 +39,7 @@ signalsOf b k address = record {
   blink = blinkAt (blinkOf (b .page)) (b .place .field);
 }
 
+-- [dots step]
 -- of twelve dot places those past the cell's d dots are 0
 abbrev pub padded : List ℕ → ℕ → List ℕ
 padded dots d = dots ++ replicate (12 - d) 0

@@ -20,6 +20,7 @@ use Rattle.place.specs.Place.{loadedIn, nextPlace}
 use Rattle.place.specs.State.{withPlace}
 use Rattle.step.specs.Signals.{signalsOf, clockDots}
 
+-- [dots step]
 -- the address fetched, or off the active clocks the one held
 abbrev pub addressOf : Board → (chars : List ℕ) → ℕ
 addressOf b chars = loadedIn (b .page) chars (b .place) .beam .address
@@ -42,6 +43,7 @@ steppedOf b chars attrs f = record {
   board = withPlace b (nextPlace (b .page) chars attrs (b .place));
 }
 
+-- [refusal kinds]
 -- 3, 12, 4, 13, 14, 15, 6, 7
 abbrev pub stepCheck : Board → (chars attrs : List ℕ) → Font → Refusal
 stepCheck b chars attrs f = callCheck b (lentRefused chars attrs f) false false
@@ -49,10 +51,12 @@ stepCheck b chars attrs f = callCheck b (lentRefused chars attrs f) false false
 abbrev pub noSignals : Signals
 noSignals = record { hsync = false; vsync = false; blank = false; cursor = false; blink = false }
 
+-- [refusal zeros] a refusal returns zeros beside its number, except for 14 and 15, and the old state
 -- a refusal returns zeros beside its number, and the old board
 abbrev pub stepRefused : Refusal → Board → Stepped
 stepRefused r b = record { refusal = r; signals = noSignals; address = 0; dots = replicate 12 0; board = b }
 
+-- [dots step] the stepping call gives signals, address and dots, and the next state; twelve places, 0 past the cell's dots
 unfoldable pub stepOf : Board → (chars attrs : List ℕ) → Font → Stepped
 stepOf b chars attrs f =
     pick (doneOf (stepCheck b chars attrs f)) (steppedOf b chars attrs f) (stepRefused (stepCheck b chars attrs f) b)

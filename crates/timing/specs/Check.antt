@@ -17,30 +17,37 @@ use Rattle.board.specs.Range.{addressRefused, cellsRefused, pointerRefused}
 use Rattle.timing.specs.declared.PageSize.{PageSize}
 use Rattle.timing.specs.Fields.{ir, codedOf, tableOf, restOf, hfpOf, hactOf, htOf, vtOf, visibleOf}
 
+-- [register reserved] IR1[7] must be 0, and IR0[7] needs the row table (02, R-4)
 -- 4: interlace (IR1[7]), or IR0[7] without the row table
 abbrev pub reservedRefused : Page → Bool
 reservedRefused p = eqb (ir p 1 / 128 % 2) 1 || (codedOf p && not (tableOf p))
 
+-- [R-2 porches] 13 a back porch code of 0; 14 a line too short for its other parts; 15 a front porch of 0 or 1
 -- 13: HBP code 0
 abbrev pub backPorchRefused : Page → Bool
 backPorchRefused p = eqb (ir p 2 % 8) 0
 
+-- [R-2 porches]
 -- 14: the line is too short for its active, sync and back porch clocks
 abbrev pub lineShort : Page → Bool
 lineShort p = ltb (htOf p) (restOf p)
 
+-- [R-2 porches]
 -- 15: HFP 0 or 1
 abbrev pub frontPorchRefused : Page → Bool
 frontPorchRefused p = ltb (hfpOf p) 2
 
+-- [R-2 missing] 14 and 15 give by how many clocks the front porch misses 2, exactly
 -- by how many clocks the front porch misses 2: HACT + HSYNC + HBP + 2 - HT
 abbrev pub missing : Page → Clocks
 missing p = clocks (restOf p + 2 - htOf p)
 
+-- [refusal numbers]
 -- 6: dots not 6 to 12
 abbrev pub widthRefused : Dots → Bool
 widthRefused d = ltb (d .0) 6 || ltb 12 (d .0)
 
+-- [refusal order] lowest number first, except that 12 precedes 4, and 13, 14 and 15 stand in 5's place
 -- 12, 4, 13, 14, 15, 6
 unfoldable pub pageCheck : Page → Refusal
 pageCheck p =
@@ -57,6 +64,7 @@ pageCheck p =
 abbrev pub sized : Refusal → Lines → Dots → PageSize
 sized r l d = record { refusal = r; lines = l; dots = d }
 
+-- [refusal zeros]
 -- rows x lines visible lines of HACT x dots; zeros on a refusal
 unfoldable pub sizeOf : Page → PageSize
 sizeOf p =
@@ -64,6 +72,7 @@ sizeOf p =
     (sized (pageCheck p) (visibleOf p) (dotsOf (clocks (hactOf p)) (p .video .dots)))
     (sized (pageCheck p) (lines 0) (dots 0))
 
+-- [refusal numbers]
 -- 7: a state's line, clock in the line, address, row start or IR pointer out of range
 unfoldable pub stateRefused : Board → Bool
 stateRefused b =
@@ -72,6 +81,7 @@ stateRefused b =
     || cellsRefused (b .place)
     || pointerRefused (b .pointer)
 
+-- [refusal order]
 -- drawing, stepping, states and runs give 3, then the page's own 12, 4, 13, 14, 15, 6, then 7 for the state and for what is asked, then 8
 unfoldable pub callCheck : Board → (size asked room : Bool) → Refusal
 callCheck b size asked room =

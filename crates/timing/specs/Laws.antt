@@ -67,12 +67,15 @@ vsync-bound p = go (ir p 7 / 64 % 4)
         pick-le 7 (eqb n 0) 3 _ (omega arith)
         (pick-le 7 (eqb n 1) 1 _ (omega arith) (pick-le 7 (eqb n 2) 5 7 (omega arith) (omega arith)))
 
+-- [clock bounds] HT is at most 384, a frame at most 826,752 clocks
+-- a line has at most 384 clocks
 pub ht-bound : (p : Page) → htOf p ≤ 384
 ht-bound p = omega arith
 
 pub vt-bound : (p : Page) → vtOf p ≤ 2153
 vt-bound p = omega (arith, visible-bound p, vsync-bound p)
 
+-- [clock bounds]
 -- a frame has at most 826,752 clocks
 pub frame-bound : (p : Page) → (clocksOf (countsOf p .vt) (countsOf p .ht)) .0 ≤ 826752
 unfolding countsOf

@@ -19,6 +19,7 @@ dots n = record { 0 = n }
 abbrev pub during : (lo n x : ℕ) → Bool
 during lo n x = leb lo x && ltb x (lo + n)
 
+-- [board units] clocks, lines and dots are three units, and a count of one is never added to a count of another
 -- the clocks of n lines, where a line has so many
 abbrev pub clocksOf : Lines → Clocks → Clocks
 clocksOf n line = clocks (n .0 * line .0)
@@ -27,6 +28,7 @@ clocksOf n line = clocks (n .0 * line .0)
 abbrev pub wholeLines : Clocks → Clocks → Lines
 wholeLines n line = lines (n .0 / line .0)
 
+-- [board units]
 -- the dots of n clocks, where a clock has so many
 abbrev pub dotsOf : Clocks → Dots → Dots
 dotsOf n clock = dots (n .0 * clock .0)

@@ -19,10 +19,12 @@ use Rattle.video.specs.Scene.{sceneOf}
 use Rattle.video.specs.Look.{lookOf}
 use Rattle.video.specs.Cell.{cellDots}
 
+-- [board memory]
 -- 3: a lent memory or font part of wrong size
 abbrev pub lentRefused : (chars attrs : List ℕ) → Font → Bool
 lentRefused chars attrs f = memoriesRefused (length chars) (length attrs) || fontRefused f
 
+-- [R-4 halves] top halves use scan line floor(l/2), bottom halves floor((L+l)/2), for font, cursor, underline and strike
 -- the scan line that line l of a row of L lines shows: a top half has each of the upper scan lines twice, a bottom half each of the lower ones (02, R-4)
 abbrev pub scanOf : Code → (L l : ℕ) → ℕ
 scanOf k L l = pick (isTop k) (l / 2) (pick (isBottom k) ((L + l) / 2) l)
@@ -41,14 +43,17 @@ pub record Content : Type 0 where
 abbrev pub readingOf : Page → Reading
 readingOf p = record { cursor = p .starts .cursor; runs = fieldMode p; hidden = settersHidden p }
 
+-- [R-1 ACD]
 -- where a cell that sets attributes has zero dots, it is shown as code 0, which has none
 abbrev pub shownCode : (hidden : Bool) → (code byte : ℕ) → ℕ
 shownCode hidden code byte = pick (hidden && leb 128 byte) 0 code
 
+-- [R-4 latch]
 -- what a cell's attribute byte sets at a column: in field mode nothing where the column shows a cell again, since the cell is latched by then
 abbrev pub countedByte : Reading → (again : Bool) → (byte : ℕ) → ℕ
 countedByte k again byte = pick (again && k .runs) 0 byte
 
+-- [dots attributes]
 -- the cell at an address, where held is valid before the column: nothing, in character mode
 abbrev pub contentAt : Reading → (chars attrs : List ℕ) → (again : Bool) → (held address : ℕ) → Content
 contentAt k chars attrs again held a = record {

@@ -16,10 +16,12 @@ bits (suc n) w = (w % 2) ∷ bits n (w / 2)
 unfoldable pub lead : ℕ → List ℕ
 lead d = pick (ltb 10 d) (0 ∷ []) []
 
+-- [dots width] six to twelve dots, D0 first; with 11 or 12 a zero before D0, with 12 a zero after D9
 -- d dots: D0 first, with 11 or 12 a zero before it, and with 12 a zero after D9
 unfoldable pub cellBits : ℕ → ℕ → List ℕ
 cellBits word d = take d (lead d ++ (bits 10 word ++ (0 ∷ [])))
 
+-- [dots lines]
 -- underline and strike light all dots of the cell, fillers too
 unfoldable pub litBits : Bool → ℕ → ℕ → List ℕ
 litBits lit word d = pick lit (replicate d 1) (cellBits word d)
@@ -32,11 +34,13 @@ cellDots look word d = map (shadeOf (look .symbol) (look .surround)) (litBits (l
 
 -- ---- double width (02, R-4)
 
+-- [R-4 width]
 -- each dot comes twice
 unfoldable pub twice : List ℕ → List ℕ
 twice [] = []
 twice (x ∷ xs) = x ∷ x ∷ twice xs
 
+-- [R-4 width]
 -- what a column shows of its cell's dots: all of them, or of each twice the left half, and on an odd column the right one
 unfoldable pub columnOf : (wide odd : Bool) → List ℕ → List ℕ
 columnOf wide odd dots = pick wide (pick odd (drop (length dots) (twice dots)) (take (length dots) (twice dots))) dots

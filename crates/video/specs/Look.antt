@@ -6,14 +6,17 @@ use Rattle.video.specs.declared.Scene.{Scene}
 use Rattle.video.specs.declared.Look.{Look}
 use Rattle.video.specs.Levels.{symbolLevel, surroundLevel}
 
+-- [dots levels] non-display, reverse, and the levels of 000's Table 1
 -- ABLANK, or ABLINK with BLINK
 abbrev pub nonDisplay : Scene → ℕ → Bool
 nonDisplay s a = hasBit a 2 || (hasBit a 4 && s .blink)
 
+-- [dots levels]
 -- reverse is ARVID xor CURSOR, and E is BKGND xor reverse
 abbrev pub reversed : Scene → ℕ → Bool → Bool
 reversed s a cursor = xor (s .bkgnd) (xor (hasBit a 1) cursor)
 
+-- [dots lines] underline and strike light all dots of the cell, fillers too
 -- underline on the underline line, and strike on the strike line
 abbrev pub litOf : Scene → ℕ → Bool
 litOf s a = (hasBit a 8 && s .underline) || (hasBit a 32 && s .strike)

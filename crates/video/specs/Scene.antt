@@ -9,14 +9,17 @@ use Rattle.timing.specs.Fields.{cursorOf, underlineOf, blinkOf}
 use Rattle.video.specs.declared.Scene.{Scene}
 use Rattle.video.specs.Levels.{blankLevel}
 
+-- [register at-once]
 -- the display counts as off where its switch is off or the board is not active
 abbrev pub displayed : Board → Bool
 displayed b = hasBit (b .page .switches) 1 && leb 2 (b .resets)
 
+-- [dots blink] BLINK is high in the fourth quarter of its period
 -- BLINK is high in the fourth quarter of its period
 abbrev pub blinkAt : (period field : ℕ) → Bool
 blinkAt period field = leb (3 * (period / 4)) (field % period)
 
+-- [dots cursor] the cursor gate; the same cell shown twice has two cursors
 -- cursor on, scan line from first to last cursor line, and, if it blinks, the first half of its period
 abbrev pub cursorGate : CursorLook → Bool → (scan field : ℕ) → Bool
 cursorGate k on scan field =
@@ -34,6 +37,7 @@ sceneOf b scan field = record {
   cursor = b .page .starts .cursor;
 }
 
+-- [dots cursor]
 -- the cursor gate is open, and the fetched address equals the cursor address
 abbrev pub cursorAt : Scene → ℕ → Bool
 cursorAt s address = s .gate && eqb address (s .cursor)

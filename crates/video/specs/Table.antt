@@ -39,6 +39,7 @@ line blank rblank bkgnd reverse ahilt nondisplay symbol surround = record {
   surround = surround;
 }
 
+-- [R-3 table] the level decision is made visibly from the table's sixteen unblanked lines and three blanked ones
 -- BLANK, RBLANK, BKGND, REVERSE, AHILT, NON-DISPLAY, then SYMBOL (underline and strike-through too) and SURROUND
 unfoldable pub table1 : List TableLine
 table1 =
@@ -88,6 +89,7 @@ abbrev standing : Case → TableLine → List TableLine → TableLine
 standing k last [] = last
 standing k last (l ∷ ls) = pick (standsIn k l) l (standing k last ls)
 
+-- [R-3 table]
 unfoldable pub decided : Case → TableLine
 decided k = standing k (line d d d d d d B B) table1
 
@@ -162,12 +164,18 @@ in-each true true c r h n = (refl, (refl, refl), refl)
 fine : (k : Case) → Fine k
 fine k = in-each (k .blank) (k .rblank) (k .bkgnd) (k .reverse) (k .ahilt) (k .nondisplay)
 
+-- [R-3 table]
+-- every case of the six inputs stands in exactly one line, don't-cares included
 pub one-line : (k : Case) → countIn k table1 ≡ 1
 one-line k = fine k .0
 
+-- [R-3 table]
+-- what the line gives are the levels of the rule
 pub by-rule : (k : Case) → (decided k .symbol ≡ symbolBy k) × (decided k .surround ≡ surroundBy k)
 by-rule k = fine k .1
 
+-- [R-3 table]
+-- the code's reading, column by column, comes to that line
 pub by-columns : (k : Case) → byColumns k ≡ decided k
 by-columns k = fine k .2
 

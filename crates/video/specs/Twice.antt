@@ -27,6 +27,7 @@ twice-at (x ∷ xs) (suc (suc i)) =
     let e : suc (suc i) / 2 ≡ suc (i / 2) = omega arith in
     rw e (twice-at xs i)
 
+-- [R-4 width]
 -- a cell's even and odd column
 pub both-columns : (xs : List ℕ) → columnOf true false xs ++ columnOf true true xs ≡ twice xs
 unfolding columnOf

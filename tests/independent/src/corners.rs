@@ -25,27 +25,42 @@ pub fn all() -> Vec<Maker> {
     for resets in POWERS {
         // 63 is a page of version 2, with field mode and ACD
         for switches in [0, 15, 63] {
+            // [register addresses] [register commands] [register reset]
             let name = format!("commands-{}-{}", resets, switches);
             all.push(named(name, move |script, _| commands(script, resets, switches)));
         }
+        // [register pointer] [register kept] [register addresses] [register upper] [register reads]
         all.push(named(format!("registers-{}", resets), move |script, dice| registers(script, dice, resets)));
+        // [register at-once] [clock blank] [fetch hold] [dots blank]
         all.push(named(format!("off-{}", resets), move |script, dice| off(script, dice, resets)));
     }
     all.extend(pages());
     for hact in [1, 2, 7, 256] {
+        // [fetch move] [fetch run] [more cells]
         all.push(named(format!("wraps-{}", hact), move |script, dice| wraps(script, dice, hact)));
     }
     all.extend([
+        // [register blink] [register cursor] [clock field] [dots cursor] [dots blink]
         named("fields", fields),
+        // [clock zero]
         named("last-clocks", last_clocks),
+        // [dots stretch] [more picture]
         named("picture-rooms", picture_rooms),
+        // [more cells]
         named("cells-rooms", cells_rooms),
+        // [more numbers]
         named("saved", saved),
+        // [register inactive] [register reset]
         named("resets", resets_in_a_row),
+        // [file page] [file beyond]
         named("page-files", |script, dice| page_files(script, dice, in_version_1)),
+        // [R-1 version]
         named("page-files-in-field-mode", |script, dice| page_files(script, dice, |page| in_field_mode(page, false))),
+        // [file font]
         named("font-files", font_files),
+        // [R-2 porches] [R-2 missing] [R-2 accepted]
         named("porches", porches),
+        // [demand takes] [register power]
         named("nothing", nothing),
     ]);
     all.extend(latches::boards());
@@ -57,19 +72,28 @@ pub fn all() -> Vec<Maker> {
 pub fn pages() -> Vec<Maker> {
     let mut all = Vec::new();
     for dots in 6..=12 {
+        // [demand line] [clock parts] [fetch load] [dots width] [dots step]
         all.push(named(format!("sheet-of-{}", dots), move |script, dice| width(script, dice, dots, false)));
+        // [register table] [fetch start]
         all.push(named(format!("catalogue-of-{}", dots), move |script, dice| width(script, dice, dots, true)));
     }
     for (hact, rows, lines) in sizes() {
+        // [register counts]
         let name = format!("size-{}-{}-{}", hact, rows, lines);
         all.push(named(name, move |script, dice| extreme(script, dice, hact, rows, lines)));
     }
     all.extend([
+        // [demand frame] [clock bounds]
         named("longest-frame", longest_frame),
+        // [register counts] [clock HT] [clock VT] [case A1-A10] [R-2 accepted]
         named("A1-to-A5", timing_cases),
+        // [register buffer] [fetch move] [case A1-A10]
         named("A6-to-A8", address_cases),
+        // [register cursor] [dots shape] [dots width] [dots attributes] [dots lines] [dots levels] [case A1-A10]
         named("A9-and-A10", dot_cases),
+        // [register buffer] [fetch run] [dots cursor]
         named("phrases", phrases),
+        // [fetch entry]
         named("table-at-16383", table_at_the_end),
     ]);
     all.extend(latches::pages());

@@ -523,9 +523,12 @@ pub fn all() -> Vec<Maker> {
     };
     let mut all = Vec::new();
     for &(call, resets) in &cases {
+        // [demand takes] [register reserved] [register video] [refusal numbers] [refusal order] [refusal kinds]
+        // [refusal zeros]
         all.push(maker(format!("faults-{}-{}", call, resets), call, resets, Base { version: 1, codes: false }));
     }
     // a font file has one version and no codes, and a list of phrases no page
+    // [R-1 refusals]
     let bases = [("field-faults-", 2, false), ("codes-faults-", 1, true), ("field-codes-faults-", 2, true)];
     for (name, version, codes) in bases {
         for &(call, resets) in cases.iter().filter(|(call, _)| !["font_read", "phrases_differ"].contains(call)) {

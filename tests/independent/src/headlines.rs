@@ -28,22 +28,31 @@ fn named(name: impl Into<String>, write: impl Fn(&mut Script, &mut Dice) + 'stat
 pub fn pages() -> Vec<Maker> {
     let mut all = Vec::new();
     for dots in 6..=12 {
+        // [R-4 width]
         all.push(named(format!("codes-of-{}", dots), move |script, dice| width(script, dice, dots)));
     }
     for hact in [1, 2, 3, 4, 255, 256] {
+        // [R-4 width]
         all.push(named(format!("codes-columns-{}", hact), move |script, dice| columns(script, dice, hact)));
     }
     for lines in [1, 2, 3, 5, 8, 9, 15, 16] {
+        // [R-4 halves]
         all.push(named(format!("codes-lines-{}", lines), move |script, dice| scan_lines(script, dice, lines)));
     }
     for hact in [1, 2, 7, 8] {
+        // [R-4 run]
         all.push(named(format!("codes-wraps-{}", hact), move |script, dice| wraps(script, dice, hact)));
     }
     all.extend([
+        // [R-4 halves]
         named("headline", headline),
+        // [R-4 halves]
         named("codes-cursor", cursors),
+        // [R-4 latch]
         named("codes-latch", latches),
+        // [R-4 code]
         named("codes-or-none", codes_or_none),
+        // [R-4 code]
         named("codes-at-16383", table_at_the_end),
     ]);
     all
@@ -52,9 +61,13 @@ pub fn pages() -> Vec<Maker> {
 /// The scripts that are about boards.
 pub fn boards() -> Vec<Maker> {
     let mut all = vec![
+        // [R-4 code]
         named("codes-places", places),
+        // [R-4 counted]
         named("codes-bytes", every_byte),
+        // [R-4 step]
         named("codes-middle", from_the_middle),
+        // [R-4 counted]
         named("codes-refused", refused),
         named("codes-written", written),
         named("codes-saved", saved),

@@ -12,15 +12,20 @@ pub type Kind = fn(&mut Script, &mut Dice);
 pub const KINDS: [(&str, Kind); 15] = [
     ("sheet", sheet),
     ("catalogue", catalogue),
+    // [register vsync] [register kept] [clock zero]
     ("boards", boards),
     ("registers", by_registers),
     ("sheet", sheet),
     ("wide", wide),
+    // [file page]
     ("files", files),
     ("catalogue", catalogue),
+    // [register at-once]
     ("inactive", inactive),
     ("tall", tall),
+    // [board memory]
     ("sizes", sizes),
+    // [register at-once] [fetch start]
     ("live", live),
     ("screen", screen),
     ("follow", follow),

@@ -12,11 +12,17 @@ type Writer = fn(&mut Script, &mut Dice, bool);
 /// The scripts that are about what a page shows, each without and with ACD.
 pub fn pages() -> Vec<Maker> {
     let writers: [(&str, Writer); 6] = [
+        // [R-1 latch]
         ("latch-none", none_set),
+        // [R-1 latch]
         ("latch-each-row", one_in_each_row),
+        // [R-1 latch]
         ("latch-last-cell", the_last_cell),
+        // [R-1 latch]
         ("latch-phrases", phrases),
+        // [R-1 latch]
         ("latch-wraps", wraps),
+        // [R-1 ACD]
         ("latch-modes", modes),
     ];
     let mut all: Vec<Maker> = Vec::new();
@@ -32,14 +38,20 @@ pub fn pages() -> Vec<Maker> {
 /// The scripts that are about boards.
 pub fn boards() -> Vec<Maker> {
     let mut all: Vec<Maker> = vec![
+        // [R-1 counted]
         ("latch-places".to_string(), Box::new(places)),
+        // [R-1 counted]
         ("latch-bytes".to_string(), Box::new(every_byte)),
+        // [R-1 lines]
         ("latch-middle".to_string(), Box::new(from_the_middle)),
+        // [R-1 frame]
         ("latch-past-255".to_string(), Box::new(past_255)),
+        // [R-1 version]
         ("versions".to_string(), Box::new(versions)),
     ];
     for resets in [0, 1, 2, 200] {
         let maker = move |script: &mut Script, dice: &mut Dice| off(script, dice, resets);
+        // [R-1 off]
         all.push((format!("latch-off-{}", resets), Box::new(maker)));
     }
     all

@@ -15,10 +15,12 @@ type Room = (&'static str, (u32, u32), (u16, u16, u16), Option<usize>);
 
 const ROOMS: [Room; 33] = [
     // one stretch, of 225 cells where 226 are needed
+    // [R-5 refusals]
     ("moves-too-few-at-0", (113, 143), (0, 16383, 225), None),
     ("moves-too-few-between", (113, 143), (0, 16383, 300), None),
     ("moves-too-few-to-16383", (113, 143), (0, 16383, 0), None),
     // one stretch that is just long enough
+    // [R-5 lowest]
     ("moves-enough-at-0", (128, 126), (0, 16383, 256), Some(0)),
     ("moves-enough-at-1", (128, 126), (0, 16383, 257), Some(1)),
     ("moves-enough-between", (128, 126), (0, 16383, 300), Some(44)),
@@ -29,10 +31,12 @@ const ROOMS: [Room; 33] = [
     ("moves-one-more-at-0", (127, 127), (0, 16383, 255), Some(0)),
     ("moves-one-more-to-16383", (127, 127), (0, 16383, 0), Some(16129)),
     // long enough only where 16383 is passed
+    // [R-5 lowest]
     ("moves-passing-by-1", (128, 126), (0, 16383, 1), None),
     ("moves-passing-by-half", (128, 126), (0, 16383, 128), None),
     ("moves-passing-but-for-1", (128, 126), (0, 16383, 255), None),
     // two stretches, before the buffer and before screen start 1
+    // [R-5 lowest]
     ("moves-two-too-short", (128, 126), (100, 16383, 1000), None),
     ("moves-two-first-1-short", (113, 142), (225, 16383, 1000), None),
     ("moves-two-second-1-short", (113, 142), (113, 16383, 1000), None),
@@ -49,6 +53,7 @@ const ROOMS: [Room; 33] = [
     ("moves-three-first-enough", (128, 60), (4095, 1023, 256), Some(0)),
     ("moves-three-second-enough", (128, 60), (1280, 1023, 255), Some(1024)),
     ("moves-three-second-longer", (128, 60), (4095, 1023, 255), Some(1024)),
+    // [R-5 lowest]
     ("moves-three-third", (128, 60), (1279, 1023, 255), Some(8190)),
     ("moves-three-too-short", (128, 123), (1279, 1023, 255), None),
     // from outside the buffer, and no cell at all
@@ -83,24 +88,35 @@ pub fn all() -> Vec<Maker> {
         all.push(named(room.0, move |script, dice| leaving(script, dice, room)));
     }
     for mode in 0..MODES.len() {
+        // [R-5 table] [R-5 both]
         all.push(named(format!("moves-buffers-{}", mode), move |script, dice| buffers(script, dice, mode)));
+        // [R-5 back] [R-5 sheet]
         all.push(named(format!("moves-tables-{}", mode), move |script, dice| tables(script, dice, mode)));
     }
     for rows in [1, 128] {
+        // [R-5 table]
         all.push(named(format!("moves-rows-{}", rows), move |script, dice| so_many_rows(script, dice, rows)));
     }
     for rows in [2, 5, 128] {
+        // [R-5 back]
         all.push(named(format!("moves-apart-{}", rows), move |script, dice| apart(script, dice, rows)));
     }
     for acd in [false, true] {
+        // [R-5 same]
         all.push(named(format!("moves-latch-{}", u8::from(acd)), move |script, dice| latch(script, dice, acd)));
     }
     all.extend([
+        // [R-5 back]
         named("moves-any-entry", any_entry),
+        // [R-5 back]
         named("moves-own-cells", own_cells),
+        // [R-5 lowest]
         named("moves-cursor", cursor),
+        // [R-5 same]
         named("moves-fields", fields),
+        // [R-5 same]
         named("moves-off", off),
+        // [R-5 refusals]
         named("moves-kinds", kinds),
     ]);
     all

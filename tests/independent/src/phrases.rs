@@ -79,24 +79,33 @@ fn named(name: impl Into<String>, write: impl Fn(&mut Script, &mut Dice) + 'stat
 pub fn all() -> Vec<Maker> {
     let mut all = Vec::new();
     for (name, kind) in KINDS {
+        // [R-6 row]
         all.push(named(format!("index-ends-{}", name), move |script, dice| ends(script, dice, kind)));
     }
     for hact in [1, 2, 3, 80, 255, 256] {
+        // [R-6 row]
         all.push(named(format!("index-of-{}", hact), move |script, dice| width(script, dice, hact)));
     }
     all.extend([
+        // [R-6 lowest]
         named("index-lists", short_lists),
         named("index-none", no_list),
         named("index-stretches", stretches),
+        // [R-6 lowest]
         named("index-many", many),
+        // [R-6 refusals]
         named("index-refused", refused),
+        // [R-6 refusals]
         named("index-just-not-refused", just_not_refused),
         named("index-any-numbers", any_numbers),
         named("index-differ-lists", differ_lists),
+        // [R-6 pair]
         named("index-differ-pairs", differ_pairs),
+        // [R-6 pair]
         named("index-differ-triples", differ_triples),
         named("index-differ-names", differ_names),
         named("index-differ-cells", differ_cells),
+        // [R-6 pair]
         named("index-differ-many", differ_many),
     ]);
     all
