@@ -115,9 +115,9 @@ def declarations(sentences, complaints):  # those of specs; a tag's words go int
                 tags, comment = [], []
             else:
                 comment = []
-                if tags:
-                    complaints.append(f'{path}:{number}: a tag above no definition')
+                complaints += [f'{path}:{number}: [{tag}] above no definition' for tag in tags]
                 tags = []
+        complaints += [f'{path}: [{tag}] above no definition' for tag in tags]
 
 
 def tell(sentences, tags, words, place, complaints):  # the words behind a tag, which stand once

@@ -153,7 +153,7 @@ def printed(tree):
     yield from promises(tree)
     yield '\n## Laws that carry a sentence\n'
     for d in (d for d in tree.declared if d.kind == 'law' and d.tags):
-        yield item(f'`{d.crate}.{d.module}.{d.name}`: {d.comment or tree.sentences[d.tags[0]]}.')
+        yield item(f'`{d.crate}.{d.module}.{d.name}`: {d.comment or tree.sentences.get(d.tags[0])}.')
     yield '\n## Wrong programs\n'
     for e in tree.edits:
         yield item(f'`{e.label}` (`{e.crate}`, in `{e.alters}`): {e.text}.')
