@@ -518,7 +518,7 @@ WRONG(feldrime_step_answer, feldrime_step, (feldrime_board *board, CHARS, ATTRS,
 WRONG(feldrime_step_answer, feldrime_step, (feldrime_board *board, CHARS, ATTRS, FONT))
 {
     feldrime_step_answer answer = __real_feldrime_step(board, C, A, F);
-    if (answer.refusal == 0 && board->page.dots < 12)
+    if (answer.refusal == 0 && board->page.video.dots < 12)
         answer.dots[11] = answer.dots[0];
     return answer;
 }
