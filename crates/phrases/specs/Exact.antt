@@ -96,19 +96,19 @@ module _ (b : Board) (chars : List ℕ) (rs : List Phrase) (row : ℕ) (done : r
   holding = holdsRow (b .page) chars row
 
   -- [R-6 refusals]
-  -- 20 comes with the first bad record
+  -- if k is the first bad record the answer is 20, with k
   pub phrase-bad : (k : ℕ) → First (at rs badRecord) (length rs) k → phraseOfRow b chars rs row ≡ phraseAnswer 20 0 0 k
   unfolding phraseOfRow holding
   phrase-bad k f = rw done (among-bad _ _ _ _ (at rs holding) _ k f)
 
   -- [R-6 lowest]
-  -- a record that is found holds the row, and no lower one does
+  -- if no record is bad and k is the lowest that holds the row, the answer is k
   pub phrase-found : (k : ℕ) → None (at rs badRecord) (length rs) → First (at rs (holdsRow (b .page) chars row)) (length rs) k → phraseOfRow b chars rs row ≡ phraseAnswer 0 0 1 k
   unfolding phraseOfRow
   phrase-found k o f = rw done (among-found _ _ _ _ _ _ k o f)
 
   -- [R-6 lowest]
-  -- none is found exactly if none holds the row
+  -- if no record is bad and none holds the row, the answer is none
   pub phrase-none : None (at rs badRecord) (length rs) → None (at rs (holdsRow (b .page) chars row)) (length rs) → phraseOfRow b chars rs row ≡ phraseAnswer 0 0 0 0
   unfolding phraseOfRow
   phrase-none o f = rw done (among-none _ _ _ _ _ _ o f)
@@ -130,13 +130,13 @@ module _ (rs : List Phrase) where
   pairOf i = pairAnswer 0 0 1 i (firstBelow (laterDiffers rs i) (length rs))
 
   -- [R-6 refusals]
-  -- 20 comes with the first bad record
+  -- if k is the first bad record the answer is 20, with k
   pub differ-bad : (k : ℕ) → First (at rs badRecord) (length rs) k → phrasesDiffer rs ≡ pairAnswer 20 0 0 k 0
   unfolding phrasesDiffer
   differ-bad k f = among-bad (λ i. pairAnswer 20 0 0 i 0) pairOf (pairAnswer 0 0 0 0 0) (at rs badRecord) Differs (length rs) k f
 
   -- [R-6 pair]
-  -- two records that are found have the same language and number, and differ
+  -- if no record is bad, i is the first from which a later one differs and j the first such one, the answer is i and j
   pub differ-found : (i j : ℕ) → None (at rs badRecord) (length rs) → First Differs (length rs) i → First (laterDiffers rs i) (length rs) j → phrasesDiffer rs ≡ pairAnswer 0 0 1 i j
   unfolding phrasesDiffer
   differ-found i j o f g =
@@ -144,7 +144,7 @@ module _ (rs : List Phrase) where
       ∙ ap (pairAnswer 0 0 1 i) (first-at (laterDiffers rs i) (length rs) j (g .inside) (g .passes) (g .before))
 
   -- [R-6 pair]
-  -- none are found exactly if no two differ
+  -- if no record is bad and no two differ, the answer is none
   pub differ-none : None (at rs badRecord) (length rs) → ((i j : ℕ) → j < length rs → laterDiffers rs i j ≡ false) → phrasesDiffer rs ≡ pairAnswer 0 0 0 0 0
   unfolding phrasesDiffer
   differ-none o h =
