@@ -12,6 +12,10 @@
 enum { ROOM = FELDRIME_PICTURE + 64, STEPS = 20000 };
 enum { FIELD_MODE = 1 << 4 }; /* of the switches */
 
+/* The rooms that the header names are those of the largest page: 128 rows of 16 lines of 256 cells of 12 dots. */
+typedef char line_has_room[FELDRIME_LINE == 256 * 12 ? 1 : -1];
+typedef char picture_has_room[FELDRIME_PICTURE == 128 * 16 * 256 * 12 ? 1 : -1];
+
 /* What the calls are lent, buffer by buffer. */
 static uint8_t numbers[FELDRIME_NUMBERS], chars[FELDRIME_MEMORY], attrs[FELDRIME_MEMORY];
 static uint16_t words[FELDRIME_WORDS];
