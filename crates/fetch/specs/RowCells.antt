@@ -42,7 +42,7 @@ cellsPut b chars row cells =
     (cellsOf (b .page) chars row ++ drop (fetchedOf (b .page) chars row) cells)
     cells
 
--- [demand untouched]
+-- [demand untouched] [more cells]
 -- the call: the count, and the buffer afterwards
 abbrev pub GivesCells : Board → (chars : List ℕ) → (row : ℕ) → (cells : List ℕ) → RowCells → (left : List ℕ) → Type 0
 GivesCells b chars row cells r left = (r ≡ cellsGiven b chars row (length cells)) × (left ≡ cellsPut b chars row cells)

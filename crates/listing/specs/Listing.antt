@@ -58,9 +58,11 @@ listedIn r bytes out = pick (doneOf r) (bytes ++ drop (length bytes) out) out
 abbrev pub Lists : Refusal → (bytes out : List ℕ) → Listed → (left : List ℕ) → Type 0
 Lists check bytes out r left = (r ≡ listedOf check bytes) × (left ≡ listedIn check bytes out)
 
+-- [case listing]
 abbrev pub ListsHead : Page → (out : List ℕ) → Listed → (left : List ℕ) → Type 0
 ListsHead p out r left = Lists (headCheck p (length out)) (listingHead p) out r left
 
+-- [case listing]
 abbrev pub ListsLine : Board → (chars attrs : List ℕ) → Font → (line field : ℕ) → (out : List ℕ) → Listed → (left : List ℕ) → Type 0
 ListsLine b chars attrs f line field out r left =
     Lists (lineCheck b (lentRefused chars attrs f) line (length out)) (listingLine b chars attrs f line field) out r left

@@ -65,7 +65,7 @@ numbersOfCheck b room = pick (not (eqb room 32)) Size (pageCheck (b .page))
 unfoldable pub numbersOf : Board → List ℕ → List ℕ
 numbersOf b numbers = pick (doneOf (numbersOfCheck b (length numbers))) (pageNumbers (b .page)) numbers
 
--- [demand untouched]
+-- [demand untouched] [more numbers]
 -- the call: the refusal, and the numbers afterwards
 abbrev pub GivesNumbers : Board → (numbers : List ℕ) → Refusal → (left : List ℕ) → Type 0
 GivesNumbers b numbers r left = (r ≡ numbersOfCheck b (length numbers)) × (left ≡ numbersOf b numbers)

@@ -42,7 +42,7 @@ picturedOf b chars attrs f field out =
     (pictureOver b chars attrs f field out)
     out
 
--- [demand untouched]
+-- [demand untouched] [more picture]
 -- the call: the refusal, and the buffer afterwards
 abbrev pub DrawsPicture : Board → (chars attrs : List ℕ) → Font → (field : ℕ) → (out : List ℕ) → Refusal → (left : List ℕ) → Type 0
 DrawsPicture b chars attrs f field out r left =
