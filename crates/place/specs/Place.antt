@@ -102,7 +102,6 @@ unfoldable pub movedIn : Page → (attrs : List ℕ) → Place → Carried → C
 movedIn p attrs q c = pick (activeAt p q) (carried (pastCell p attrs (q .clock .0) (c .beam)) (c .row)) c
 
 -- [clock field] the field counter has eight bits and goes from 255 to 0 at the end of a frame
--- the field counter goes from 255 to 0
 unfoldable pub turnedIn : Page → Place → Carried → Place
 turnedIn p q c =
     pick (ltb (q .clock .0 + 1) (htOf p))
