@@ -20,7 +20,7 @@ static feldrime_font font;
 static void print_page(const char *name)
 {
     printf("%s: a page of %u rows and %u columns, %u x %u dots%s\n", name, (unsigned)page.rows, (unsigned)page.columns,
-           (unsigned)page.dots, (unsigned)page.lines, page.parts.numbers[22] & FIELD_MODE ? ", field mode" : "");
+           (unsigned)page.dots, (unsigned)page.lines, board_of(&page).page.switches & FIELD_MODE ? ", field mode" : "");
 }
 
 int check_word(int count, char **operands)

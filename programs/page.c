@@ -18,6 +18,11 @@ bool judge(feldrime_answer answer, const char *hint, char why[WHY])
     return answer.refusal == FELDRIME_DONE;
 }
 
+feldrime_board board_of(const struct page *page)
+{
+    return feldrime_board_of(page->parts.numbers, FELDRIME_NUMBERS).board;
+}
+
 /* The library counts: rows are there until one is refused. Columns are HACT, since a row may have fewer cells. */
 static void measure(struct page *page)
 {
@@ -26,7 +31,7 @@ static void measure(struct page *page)
 
     page->lines = size.lines;
     page->dots = size.dots;
-    page->columns = page->parts.numbers[1 + 5] + 1U;
+    page->columns = board_of(page).page.irs[5] + 1U;
     page->rows = 0;
     while (feldrime_cells_of(&page->parts, page->rows, cells, FELDRIME_CELLS).refusal == FELDRIME_DONE)
         page->rows++;
@@ -66,20 +71,18 @@ uint32_t cells_of(const struct page *page, uint32_t row, uint16_t cells[FELDRIME
 
 bool has_table(const struct page *page)
 {
-    return page->parts.numbers[1 + 2] >> 7;
+    return board_of(page).page.irs[2] >> 7;
 }
 
 /* A page with IR0[7] was accepted only with the row table. */
 bool has_codes(const struct page *page)
 {
-    return page->parts.numbers[1 + 0] >> 7;
+    return board_of(page).page.irs[0] >> 7;
 }
 
 uint32_t entry_cell(const struct page *page, uint32_t row, uint32_t byte)
 {
-    uint32_t start2 = page->parts.numbers[20] * 256U + page->parts.numbers[21];
-
-    return (start2 + 2 * row + byte) % FELDRIME_MEMORY;
+    return (board_of(page).page.starts.start2 + 2 * row + byte) % FELDRIME_MEMORY;
 }
 
 enum code code_of(const struct page *page, uint32_t row)

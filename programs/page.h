@@ -27,6 +27,9 @@ bool judge(feldrime_answer answer, const char *hint, char why[WHY]);
    page->columns, rounded up. */
 uint32_t cells_of(const struct page *page, uint32_t row, uint16_t cells[FELDRIME_CELLS]);
 
+/* A board with the page's numbers, which has them by name. */
+feldrime_board board_of(const struct page *page);
+
 /* Whether a row table names where each row begins, and whether its entries hold the rows' codes as well. */
 bool has_table(const struct page *page);
 bool has_codes(const struct page *page);

@@ -31,13 +31,14 @@ static uint16_t begin_of(const struct page *page, uint32_t row)
 static void hint_apart(const struct page *page, char text[WHY])
 {
     static struct page sheet;
+    feldrime_board board = board_of(page);
     uint16_t first = begin_of(page, 0);
     uint32_t row = 1;
 
     sheet = *page;
-    sheet.parts.numbers[1 + 2] &= 0x7F;
-    sheet.parts.numbers[16] = (uint8_t)(first / 256);
-    sheet.parts.numbers[17] = (uint8_t)(first % 256);
+    board.page.irs[2] &= 0x7F;
+    board.page.starts.start1 = first;
+    feldrime_numbers_of(board, sheet.parts.numbers, FELDRIME_NUMBERS);
     while (row + 1 < page->rows && begin_of(page, row) == begin_of(&sheet, row))
         row++;
     snprintf(text, WHY, ": row %u begins at cell %u, not at cell %u, where row %u ended", (unsigned)row,
