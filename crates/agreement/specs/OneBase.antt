@@ -25,7 +25,7 @@ use Rattle.board.specs.declared.Board.{Board}
 use Rattle.board.specs.State.{clockZero, powerOf}
 use Rattle.board.specs.Modes.{versionOf, fieldMode, settersHidden}
 use Rattle.board.specs.Range.{memoriesRefused, startsRefused, switchesRefused, addressRefused, cellsRefused, pointerRefused}
-use Rattle.timing.specs.Fields.{linesOf, timingOf, visibleOf, bufferOf, codedOf, tableOf, cursorOf, underlineOf, blinkOf}
+use Rattle.timing.specs.Fields.{scansOf, linesOf, timingOf, visibleOf, bufferOf, codedOf, tableOf, cursorOf, underlineOf, blinkOf}
 use Rattle.timing.specs.Check.{widthRefused, pageCheck, sizeOf, stateRefused, callCheck}
 use Rattle.registers.specs.Write.{writeOf}
 use Rattle.registers.specs.Read.{readOf}
@@ -229,6 +229,9 @@ blink-of-one p = only _
 
 pub width-refused-one : (d : Dots) → OneAnswer (λ r. r ≡ widthRefused d)
 width-refused-one d = only _
+
+pub scans-of-one : (p : Page) → OneAnswer (λ r. r ≡ lines (scansOf p))
+scans-of-one p = only _
 
 pub visible-of-one : (p : Page) → OneAnswer (λ r. r ≡ visibleOf p)
 visible-of-one p = only _

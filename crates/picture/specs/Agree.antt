@@ -14,13 +14,14 @@ use Rattle.lists.specs.Join.{joined, same-joined, join-all}
 use Rattle.lists.specs.Tab.{tab}
 use Rattle.refusal.specs.declared.Refusal.the-variants.{Done}
 use Rattle.refusal.specs.Number.{doneOf}
+use Rattle.raster.specs.declared.Code.{Code}
 use Rattle.raster.specs.Wide.{codeOf, isWide}
 use Rattle.board.specs.declared.Board.{Board}
 use Rattle.board.specs.declared.Page.{Page}
 use Rattle.board.specs.Range.{memoriesRefused}
 use Rattle.board.specs.Laws.{memories-all}
-use Rattle.timing.specs.Fields.{hactOf, linesOf, rowsOf}
-use Rattle.timing.specs.Laws.{Accepted, call-passed, buffer-bounded, dots-bound, lines-le, rows-le, hact-le, row-shown, visible-bound}
+use Rattle.timing.specs.Fields.{scansOf, hactOf, linesOf, rowsOf}
+use Rattle.timing.specs.Laws.{Accepted, call-passed, buffer-bounded, dots-bound, lines-le, scans-le, lines-scans, rows-le, hact-le, row-shown, visible-bound}
 use Rattle.fetch.specs.Rows.{codeAt, rowStart, fetchAt}
 use Rattle.latch.specs.Held.{heldAt}
 use Rattle.shape.specs.Font.{Font, Whole, fontRefused}
@@ -75,9 +76,13 @@ module _ (b : Board) (chars attrs : List ℕ) (f : Font) (field : ℕ) (out₀ :
 
 pub record Made (b : Board) (f : Font) (field : ℕ) (shown looks : List ℕ) : Type 0 where
   pub beyond : List ℕ
-  pub shown-is : shown ≡ joined 0 (linesOf (b .page)) (wordsAt f (b .page .video .dots .0)) ++ beyond
+  pub shown-is : shown ≡ joined 0 (scansOf (b .page)) (wordsAt f (b .page .video .dots .0)) ++ beyond
   pub rest : List ℕ
-  pub looks-is : looks ≡ joined 0 (linesOf (b .page)) (levelsAt b field) ++ rest
+  pub looks-is : looks ≡ joined 0 (scansOf (b .page)) (levelsAt b field) ++ rest
+
+-- a line of a row shows one of its scan lines, whatever the row's code
+scan-shown : (p : Page) (k : Code) (s : ℕ) → s < linesOf p → scanOf k (linesOf p) s < scansOf p
+scan-shown p k s h = rw (sym (lines-scans p)) (scan-lt k (linesOf p) s h)
 
 -- ---- a cell, a line, the picture
 
@@ -89,12 +94,12 @@ module _ (b : Board) (chars attrs : List ℕ) (f : Font) (field : ℕ) (shown lo
   abbrev n : ℕ
   n = linesOf (b .page)
 
-  same-cell : (s : ℕ) (k : Content) → s < n → k .code < 256 → cellDotsOf shown looks d s (numberFor k) ≡ scanDots b f s field k
+  same-cell : (s : ℕ) (k : Content) → s < scansOf (b .page) → k .code < 256 → cellDotsOf shown looks d s (numberFor k) ≡ scanDots b f s field k
   unfolding cellDotsOf shownWord
   same-cell s k h l =
-      rw (code-of k l, mark-of k l, word-at f d shown (made .beyond) n s (k .code) (made .shown-is) h l)
+      rw (code-of k l, mark-of k l, word-at f d shown (made .beyond) (scansOf (b .page)) s (k .code) (made .shown-is) h l)
       (by-word b f s field page k (getD looks (s * 128 + markOf (k .attributes) (k .here)) 0)
-      (levels-at b field looks (made .rest) n s (markOf (k .attributes) (k .here)) (made .looks-is) h (mark-lt (k .attributes) (k .here))))
+      (levels-at b field looks (made .rest) (scansOf (b .page)) s (markOf (k .attributes) (k .here)) (made .looks-is) h (mark-lt (k .attributes) (k .here))))
 
   same-line : (r s : ℕ) → s < n
       → rowLine (planOf (b .page)) (codeOf (codeAt (b .page) chars r)) chars attrs shown looks (heldAt (b .page) chars attrs r 0) (rowStart (b .page) chars r) s ≡ lineDots b chars attrs f (r * n + s) field
@@ -106,7 +111,7 @@ module _ (b : Board) (chars attrs : List ℕ) (f : Font) (field : ℕ) (shown lo
       let scan = scanOf k n s in
       same-joined 0 (hactOf (b .page)) _ _ (λ c l u.
       same-shown (isWide k) _ (λ (i : ℕ). scanDots b f scan field (contentBy (b .page) chars attrs r i)) (hactOf (b .page))
-      (λ i v. same-cell scan (contentBy (b .page) chars attrs r i) (scan-lt k n s h) (shown-lt (readingOf (b .page)) chars attrs (validBy (b .page) chars attrs r i) (fetchAt (b .page) chars r i) bytes)) c (omega arith)
+      (λ i v. same-cell scan (contentBy (b .page) chars attrs r i) (scan-shown (b .page) k s h) (shown-lt (readingOf (b .page)) chars attrs (validBy (b .page) chars attrs r i) (fetchAt (b .page) chars r i) bytes)) c (omega arith)
       ∙ (rw (q, m) at (column-content b chars attrs f (r * n + s) field c (omega arith))))
 
   same-row : (r : ℕ) → rowDrawn (planOf (b .page)) (b .page) chars attrs shown looks r ≡ joined 0 n (λ (s : ℕ). lineDots b chars attrs f (r * n + s) field)
@@ -138,7 +143,9 @@ sheet-of b f field shown looks inks page made ls lk ink p q = rw q (record {
   most = page .most;
   some = omega arith;
   few = omega arith;
-  short = lines-le (b .page);
+  short = omega (arith, lines-le (b .page));
+  tabled = scans-le (b .page);
+  scanned = scan-shown (b .page);
   width-is = refl;
   size-is = refl;
   bounded = buffer-bounded (b .page);
@@ -155,9 +162,9 @@ module _ (p : Plan) (page : Page) (q : p ≡ planOf page) where
   unfolding planOf
   plan-dots a = rw q (a .least, a .most)
 
-  pub plan-lines : p .lines .0 ≤ 16
+  pub plan-scans : p .scans .0 ≤ 16
   unfolding planOf
-  plan-lines = rw q (lines-le page)
+  plan-scans = rw q (scans-le page)
 
   pub plan-rows : p .rows ≤ 128
   unfolding planOf
@@ -178,7 +185,7 @@ module _ (p : Plan) (page : Page) (q : p ≡ planOf page) where
       (mul-le-mul (rows-le page) (mul-le-mul (lines-le page) (dots-bound page a)), visible-bound page, mul-le-mul (rows-le page) (hact-le page))
 
 pub made-of : (b : Board) (f : Font) (field : ℕ) (shown looks beyond rest : List ℕ) (p : Plan) → p ≡ planOf (b .page)
-    → shown ≡ joined 0 (p .lines .0) (wordsAt f (p .dots .0)) ++ beyond → looks ≡ joined 0 (p .lines .0) (levelsAt b field) ++ rest → Made b f field shown looks
+    → shown ≡ joined 0 (p .scans .0) (wordsAt f (p .dots .0)) ++ beyond → looks ≡ joined 0 (p .scans .0) (levelsAt b field) ++ rest → Made b f field shown looks
 unfolding planOf
 made-of b f field shown looks beyond rest p q e1 e2 = record { beyond = beyond; shown-is = rw q at e1; rest = rest; looks-is = rw q at e2 }
 

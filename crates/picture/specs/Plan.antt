@@ -16,7 +16,7 @@ use Rattle.raster.specs.declared.Code.{Code}
 use Rattle.raster.specs.Moves.{cell, Bounded}
 use Rattle.raster.specs.Wide.{codeOf, isWide, isTop, isBottom}
 use Rattle.board.specs.declared.Page.{Page}
-use Rattle.timing.specs.Fields.{hactOf, linesOf, rowsOf, bufferOf, countsOf}
+use Rattle.timing.specs.Fields.{hactOf, scansOf, linesOf, rowsOf, bufferOf, countsOf}
 use Rattle.fetch.specs.Rows.{codeAt, rowStart, fetchedOf}
 use Rattle.fetch.specs.Laws.{begun-all}
 use Rattle.latch.specs.Held.{heldAt}
@@ -46,13 +46,15 @@ pub record Sheet (p : Plan) (shown looks inks : List ℕ) : Type 0 where
   pub most : p .dots .0 ≤ 12
   pub some : 0 < p .columns .0
   pub few : p .columns .0 ≤ 256
-  pub short : p .lines .0 ≤ 16
+  pub short : p .lines .0 ≤ 32
+  pub tabled : p .scans .0 ≤ 16
+  pub scanned : (k : Code) (s : ℕ) → s < p .lines .0 → scanOf k (p .lines .0) s < p .scans .0
   pub width-is : p .width ≡ p .columns .0 * p .dots .0
   pub size-is : p .size ≡ p .lines .0 * p .width
   pub bounded : Bounded (p .buffer)
   pub shown-all : length shown ≡ 4096
   pub looks-all : length looks ≡ 2048
-  pub looks-few : (s i : ℕ) → s < p .lines .0 → i < 128 → getD looks (s * 128 + i) 0 < 16
+  pub looks-few : (s i : ℕ) → s < p .scans .0 → i < 128 → getD looks (s * 128 + i) 0 < 16
   pub inks-are : inks ≡ tab 288 inkOf
 
 -- the numbers of the cells that a row fetches
@@ -161,6 +163,7 @@ planOf p = record {
   columns = clocks (hactOf p);
   dots = p .video .dots;
   lines = lines (linesOf p);
+  scans = lines (scansOf p);
   rows = rowsOf p;
   width = hactOf p * p .video .dots .0;
   size = linesOf p * (hactOf p * p .video .dots .0);

@@ -17,11 +17,12 @@ ghost use Rattle.picture.specs.Picture.{pictureCheck, pictureLength, pic
 ghost use Rattle.picture.specs.Plan.{planOf, cellDotsOf, cellFrom, lineFrom, rowFrom, rowDrawn, Sheet, Numbered};
 ghost use Rattle.picture.specs.Agree.{Pictured};
 
-// What is the same for all rows: columns, dots a cell, lines a row, rows, the bytes of a line and of a row, the buffer, how cells are read.
+// What is the same for all rows: columns, dots a cell, lines a row, its scan lines, rows, the bytes of a line and of a row, the buffer, how cells are read.
 pub struct Plan {
     pub columns: units::Clocks,
     pub dots: units::Dots,
     pub lines: units::Lines,
+    pub scans: units::Lines,
     pub rows: u32,
     pub width: usize,
     pub size: usize,
@@ -40,7 +41,7 @@ fn put(
     number: u16,
     tight: bool,
 )
-    requires { ⌜ Sheet p (now shown) (now looks) (now inks) × (scan .0 < p .lines .0) × (number < 32768) ⌝ }
+    requires { ⌜ Sheet p (now shown) (now looks) (now inks) × (scan .0 < p .scans .0) × (number < 32768) ⌝ }
     requires { ⌜ reachOf tight (p .dots .0) ≤ length (now out) ⌝ }
     ensures { λ _. ⌜ now (out .exit)
         ≡ cellDotsOf (now (shown .entry)) (now (looks .entry)) (reachOf tight (p .dots .0)) (scan .0) number
@@ -64,7 +65,7 @@ fn draw_cells(
     n: usize,
 )
     requires { ⌜ Sheet p (now shown) (now looks) (now inks) × (length (now cells) ≡ 256) × ((i : ℕ) → i < n → getD (now cells) i 0 < 32768) ⌝ }
-    requires { ⌜ (scan .0 < p .lines .0) × (0 < n) × (n ≤ 256) × (n * p .dots .0 ≤ length (now out)) ⌝ }
+    requires { ⌜ (scan .0 < p .scans .0) × (0 < n) × (n ≤ 256) × (n * p .dots .0 ≤ length (now out)) ⌝ }
     ensures { λ _. ⌜ now (out .exit)
         ≡ joined 0 n (cellFrom (now (cells .entry)) (now (shown .entry)) (now (looks .entry)) (p .dots .0) (scan .0))
         ++ drop (n * p .dots .0) (now (out .entry)) ⌝ }
@@ -102,7 +103,7 @@ fn draw_columns(
     scan: units::Lines,
 )
     requires { ⌜ Sheet p (now shown) (now looks) (now inks) × (length (now cells) ≡ 256) × Numbered wide p (now cells) ⌝ }
-    requires { ⌜ (scan .0 < p .lines .0) × (p .width ≤ length (now out)) ⌝ }
+    requires { ⌜ (scan .0 < p .scans .0) × (p .width ≤ length (now out)) ⌝ }
     ensures { λ _. ⌜ now (out .exit)
         ≡ joined 0 (p .columns .0) (shownOf wide (cellFrom (now (cells .entry)) (now (shown .entry)) (now (looks .entry)) (p .dots .0) (scan .0)))
         ++ drop (p .width) (now (out .entry)) ⌝ }
@@ -241,6 +242,7 @@ fn plan_of(p: board::Page) -> Plan
         columns: columns,
         dots: dots,
         lines: lines,
+        scans: timing::scans_of(p),
         rows: t.counts.rows,
         width: width,
         size: size,
@@ -289,13 +291,13 @@ fn by_rows(
         field (now (out .entry)) ⌝ }
 {
     let page = b.page;
-    let lines = p.lines;
+    let scans = p.scans;
     let d = p.dots.places();
     let mut shown = [0u16; 4096];
     let mut looks = [0u8; 2048];
     let mut inks = [0u64; 288];
-    tables::fill_words(&mut shown, words, flags, unshifted, shifted, lines, d);
-    tables::fill_looks(&mut looks, b, field, lines);
+    tables::fill_words(&mut shown, words, flags, unshifted, shifted, scans, d);
+    tables::fill_looks(&mut looks, b, field, scans);
     dots::inks(&mut inks);
     draw_rows(out, p, page, chars, attrs, &shown, &looks, &inks);
 }

@@ -22,8 +22,12 @@ codedOf p = eqb (ir p 0 / 128 % 2) 1
 
 -- [register counts] lines, EC, HSYNC, HBP, VFP, VBP, rows and HACT by their codes
 -- IR0[6:3]: scan lines per row
+abbrev pub scansOf : Page → ℕ
+scansOf p = ir p 0 / 8 % 16 + 1
+
+-- lines a row: one for each of its scan lines
 unfoldable pub linesOf : Page → ℕ
-linesOf p = ir p 0 / 8 % 16 + 1
+linesOf p = scansOf p
 
 -- [register counts]
 -- IR1[6:0]
@@ -83,7 +87,7 @@ abbrev pub vsyncBy : ℕ → ℕ
 vsyncBy n = pick (eqb n 0) 3 (pick (eqb n 1) 1 (pick (eqb n 2) 5 7))
 
 -- [register vsync] VSYNC 3, 1, 5, 7
-abbrev pub vsyncOf : Page → ℕ
+unfoldable pub vsyncOf : Page → ℕ
 vsyncOf p = vsyncBy (ir p 7 / 64 % 4)
 
 -- [register cursor]

@@ -19,7 +19,7 @@ use Rattle.raster.specs.Raster.{Good}
 use Rattle.board.specs.declared.Page.{Page}
 use Rattle.board.specs.declared.Board.{Board}
 use Rattle.board.specs.Range.{startsRefused, switchesRefused, addressRefused, cellsRefused, pointerRefused}
-use Rattle.timing.specs.Fields.{ir, codedOf, linesOf, tableOf, hbpOf, blinkOf, rowsOf, hactOf, cursorOf, htOf, hfpOf, vsyncBy, vsyncOf, visibleOf, vtOf, bufferOf, countsOf}
+use Rattle.timing.specs.Fields.{ir, codedOf, scansOf, linesOf, tableOf, hbpOf, blinkOf, rowsOf, hactOf, cursorOf, htOf, hfpOf, vsyncBy, vsyncOf, visibleOf, vtOf, bufferOf, countsOf}
 use Rattle.timing.specs.Check.{reservedRefused, backPorchRefused, lineShort, frontPorchRefused, missing, widthRefused, pageCheck, sized, sizeOf, stateRefused, callCheck}
 
 -- ---- any registers
@@ -31,6 +31,14 @@ lines-some p = omega arith
 pub lines-le : (p : Page) → linesOf p ≤ 16
 unfolding linesOf
 lines-le p = omega arith
+
+pub scans-le : (p : Page) → scansOf p ≤ 16
+scans-le p = omega arith
+
+-- every line of a row has a scan line of its own
+pub lines-scans : (p : Page) → linesOf p ≡ scansOf p
+unfolding linesOf
+lines-scans p = refl
 
 pub rows-le : (p : Page) → rowsOf p ≤ 128
 rows-le p = omega arith

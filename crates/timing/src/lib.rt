@@ -5,7 +5,7 @@ ghost use Prim.Native.Nat.{_/_, _%_};
 ghost use Rattle.lists.specs.Choice.{firstOf};
 ghost use Rattle.units.specs.Units.{clocks, lines};
 ghost use Rattle.refusal.specs.declared.Refusal.{Refusal};
-ghost use Rattle.timing.specs.Fields.{codedOf, linesOf, ecOf, tableOf, hsyncOf, hbpOf, vfpOf, vbpOf, blinkOf, rowsOf, hactOf, cursorOf, vsyncOf, underlineOf, bufferOf, htOf, restOf, hfpOf, visibleOf, vtOf, countsOf, timingOf};
+ghost use Rattle.timing.specs.Fields.{codedOf, scansOf, linesOf, ecOf, tableOf, hsyncOf, hbpOf, vfpOf, vbpOf, blinkOf, rowsOf, hactOf, cursorOf, vsyncOf, underlineOf, bufferOf, htOf, restOf, hfpOf, visibleOf, vtOf, countsOf, timingOf};
 ghost use Rattle.timing.specs.Check.{reservedRefused, backPorchRefused, lineShort, frontPorchRefused, missing, widthRefused, pageCheck, sizeOf, stateRefused, callCheck};
 
 // A line's and a frame's front porch and sync, and the counts that the beam goes by.
@@ -34,10 +34,16 @@ pub struct PageSize {
 
 // Each count is decoded by a function of its own: one function for them all is costly to prove.
 
+pub fn scans_of(p: board::Page) -> units::Lines
+    ensures { λ r. ⌜ r ≡ lines (scansOf p) ⌝ }
+{
+    units::Lines(p.irs[0] as u32 / 8 % 16 + 1)
+}
+
 fn lines_of(p: board::Page) -> units::Lines
     ensures { λ r. ⌜ r ≡ lines (linesOf p) ⌝ }
 {
-    units::Lines(p.irs[0] as u32 / 8 % 16 + 1)
+    scans_of(p)
 }
 
 fn ec_of(p: board::Page) -> units::Clocks

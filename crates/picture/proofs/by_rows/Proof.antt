@@ -2,7 +2,7 @@
 use native.Mathlib.Omega.{arith}
 use borrow.Author.Needs.{needs}
 use Rattle.shape.specs.Font.{Font, fontOf}
-use Rattle.picture.specs.Agree.{plan-lines, plan-size, made-of, sheet-of, pictured}
+use Rattle.picture.specs.Agree.{plan-scans, plan-size, made-of, sheet-of, pictured}
 use Rattle.picture.proofs.by_rows.Statement.{statement}
 use Rattle.picture.proofs.by_rows.Tie as tie
 
@@ -12,13 +12,13 @@ font c = fontOf (c .args .words .now) (c .args .flags .now) (c .args .unshifted 
 fill-words-requires : tie.Need-fill-words-requires
 fill-words-requires c κs =
     let k = c .before .before .before .before .before .before .before .before .before .before .before in
-    let l = plan-lines _ _ (k .pre .1) in
+    let l = plan-scans _ _ (k .pre .1) in
     (k .pre .0 .font .words-all, k .pre .0 .font .flags-all, l, omega (arith, l))
 
 fill-looks-requires : tie.Need-fill-looks-requires
 fill-looks-requires c κs =
     let k = c .before .before .before .before .before .before .before .before .before .before .before .before .before .before in
-    let l = plan-lines _ _ (k .pre .1) in
+    let l = plan-scans _ _ (k .pre .1) in
     (l, omega (arith, l))
 
 draw-rows-requires : tie.Need-draw-rows-requires

@@ -8,7 +8,7 @@ use lib.ListN.{drop, length, length-take, length-drop}
 use Rattle.lists.specs.Fill.{Filling}
 use Rattle.lists.specs.Join.{joined, stretch-inside, join-begins, join-turn, join-ends}
 use Rattle.dots.specs.Half.{cells-same}
-use Rattle.picture.specs.Plan.{scan-lt, lineFrom, length-line, as-line}
+use Rattle.picture.specs.Plan.{lineFrom, length-line, as-line}
 use Rattle.picture.proofs.draw_lines.Statement.{statement}
 use Rattle.picture.proofs.draw_lines.Tie as tie
 
@@ -63,7 +63,7 @@ draw-columns-requires c κs =
     let pre = start i .pre in
     let wide = i .before .before .is-wide .ensures in (
       (pre .0 .0, pre .0 .1, (λ j h. pre .0 .2 j (cells-same wide j (start i .args .p .columns .0) h))),
-      (rw (scan .scan-of .ensures) (scan-lt (start i .args .k) _ _ (few i)), simp (length-take, length-drop) (omega (arith, room i))),
+      (rw (scan .scan-of .ensures) (pre .0 .0 .scanned (start i .args .k) _ (few i)), simp (length-take, length-drop) (omega (arith, room i))),
     )
 
 loop-again : tie.Need-loop-again Inv-loop μ-loop

@@ -28,10 +28,11 @@ mul-size c =
 returns : tie.Need-returns
 unfolding planOf timingOf countsOf
 returns c =
-    let sized = c .before .before in
+    let sized = c .before .before .before in
     rw (
       c .reading-of .ensures,
       c .before .buffer-of .ensures,
+      c .before .before .scans-of .ensures,
       sized .places2 .ensures,
       sized .before .places .ensures,
       sized .before .before .dots-of .ensures,
@@ -47,6 +48,7 @@ plan-of-spec =
     (λ c κs. search needs)
     (λ c κs. search needs)
     mul-size
+    (λ c κs. search needs)
     (λ c κs. search needs)
     (λ c κs. search needs)
     returns)

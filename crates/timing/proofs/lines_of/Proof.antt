@@ -1,4 +1,3 @@
-use mathlib.Core.Path.{refl}
 use borrow.Author.Needs.{needs}
 use Rattle.timing.specs.Fields.{linesOf}
 use Rattle.timing.proofs.lines_of.Statement.{statement}
@@ -6,7 +5,7 @@ use Rattle.timing.proofs.lines_of.Tie as tie
 
 returns : tie.Need-returns
 unfolding linesOf
-returns c = refl
+returns c = c .scans-of .ensures
 
 pub lines-of-spec : {M : Type 1} → statement M
-lines-of-spec = tie.close (tie.spec (λ c. search needs) (λ c. search needs) (λ c. search needs) returns)
+lines-of-spec = tie.close (tie.spec (λ c κs. search needs) returns)
