@@ -9,8 +9,8 @@ use mathlib.Core.Bool.{Bool, true, false}
 use mathlib.Core.List.{List, [], _∷_, _++_, append-assoc}
 use native.Mathlib.Nat.{zero-add, suc-add}
 use native.Mathlib.Omega.{arith}
-use lib.ListN.{length, getD, set, drop, length-set}
-use lib.Seq.{drop-cons, getD-take, getD-drop}
+use lib.ListN.{length, getD, set, take, drop, length-set}
+use lib.Seq.{length-take-le, drop-cons}
 use Rattle.lists.specs.Choice.{pick}
 use Rattle.refusal.specs.declared.Refusal.{Refusal}
 use Rattle.refusal.specs.declared.Refusal.the-variants.{Done, Size}
@@ -19,11 +19,12 @@ use Rattle.refusal.specs.Laws.{done-is, passed}
 use Rattle.board.specs.declared.Page.{Page}
 use Rattle.board.specs.declared.Board.{Board}
 use Rattle.board.specs.State.{boardOf}
+use Rattle.board.specs.Layout.{layoutOf, pageLength}
 use Rattle.board.specs.Modes.{versionOf}
 use Rattle.board.specs.Range.{memoryRefused}
+use Rattle.board.specs.Laws.{layout-fits}
 use Rattle.timing.specs.Fields.{ir}
 use Rattle.timing.specs.Check.{callCheck}
-use Rattle.copies.specs.Put.{length-part}
 use Rattle.shape.specs.Font.{Font, fontOf}
 use Rattle.video.specs.At.{lentRefused}
 use Rattle.step.specs.declared.Stepped.{Stepped}
@@ -32,10 +33,11 @@ use Rattle.catalogue.specs.declared.Moved.{Moved}
 use Rattle.catalogue.specs.There.{tablePlace, tableSize, therePage, thereChars, ownCheck, thereCheck, movedTo, thereOf, thereLeft}
 use Rattle.catalogue.specs.Back.{backPage, backCheck, backOf}
 use Rattle.catalogue.specs.Marks.{there-passed, back-passed}
-use Rattle.files.specs.Page.{pageAt, tailOf}
-use Rattle.files.specs.Round.{Bytes, bytes-again, version-again, on}
-use Rattle.numbers.specs.Numbers.{numbersRefused, numbersBoard, numbersCheck, numbersFront, pageIn}
-use Rattle.numbers.specs.Laws.{numbers-all, numbers-passed, numbers-version, put-fine, put-page, put-rest}
+use Rattle.files.specs.Page.{versionIn, irsIn, pageAt, tailOf}
+use Rattle.files.specs.Laws.{page-irs}
+use Rattle.files.specs.Round.{Bytes, bytes-again, ir-byte, version-again, on}
+use Rattle.numbers.specs.Numbers.{numbersRefused, numbersBoard, numbersCheck, counted, numbersFront, pageIn}
+use Rattle.numbers.specs.Laws.{numbers-passed, numbers-room, numbers-version, put-fine, put-page, put-rest}
 use Rattle.feldrime.specs.PictureDraw.{pictureDrawCheck, pictureDrawn}
 use Rattle.feldrime.specs.Catalogue.{movedNumbers, toTableCheck, toTableNumbers, toTableChars, toSheetCheck, toSheetNumbers}
 use Rattle.feldrime.specs.Step.{numbered}
@@ -164,47 +166,60 @@ module _ (numbers : List ℕ) (fine : numbersRefused numbers ≡ false) (m : Mov
   moved-fine : numbersRefused (movedNumbers m numbers) ≡ false
   moved-fine = rw numbers-are (put-fine numbers fine q n)
 
--- numbers with another screen start 2: bytes 20 and 21
+-- numbers with another screen start 2: the two bytes that follow version, IRs, screen start 1 and cursor
 abbrev pub withStart2 : (numbers : List ℕ) → (start2 : ℕ) → List ℕ
-withStart2 numbers x = set (set numbers 20 (x / 256)) 21 (x % 256)
+withStart2 numbers x = set (set numbers (irsIn numbers + 5) (x / 256)) (irsIn numbers + 6) (x % 256)
 
 set-behind : (xs ys : List ℕ) (i v : ℕ) → set (xs ++ ys) (length xs + i) v ≡ xs ++ set ys i v
 set-behind [] ys i v = ap (λ (k : ℕ). set ys k v) (zero-add i)
 set-behind (x ∷ xs) ys i v = ap (λ (k : ℕ). set (x ∷ (xs ++ ys)) k v) (suc-add (length xs) i) ∙ ap (λ (l : List ℕ). x ∷ l) (set-behind xs ys i v)
 
--- behind a version and fifteen registers
-start-set : (irs : List ℕ) → length irs ≡ 15 → (v a b c d e f high low : ℕ) (rest : List ℕ)
-    → set (set (v ∷ (irs ++ (a ∷ b ∷ c ∷ d ∷ e ∷ f ∷ rest))) 20 high) 21 low ≡ v ∷ (irs ++ (a ∷ b ∷ c ∷ d ∷ high ∷ low ∷ rest))
-start-set irs n v a b c d e f high low rest =
-    let four : 19 ≡ length irs + 4 = omega (arith, n) in
-    let five : 20 ≡ length irs + 5 = omega (arith, n) in
-    let first = ap (λ (k : ℕ). set (irs ++ (a ∷ b ∷ c ∷ d ∷ e ∷ f ∷ rest)) k high) four ∙ set-behind irs (a ∷ b ∷ c ∷ d ∷ e ∷ f ∷ rest) 4 high in
-    let second = ap (λ (k : ℕ). set (irs ++ (a ∷ b ∷ c ∷ d ∷ high ∷ f ∷ rest)) k low) five ∙ set-behind irs (a ∷ b ∷ c ∷ d ∷ high ∷ f ∷ rest) 5 low in
-    ap (λ (l : List ℕ). v ∷ l) (ap (λ (l : List ℕ). set l 20 low) first ∙ second)
+-- behind a version and the IRs
+start-set : (irs : List ℕ) (n : ℕ) → length irs ≡ n → (v a b c d e f high low : ℕ) (rest : List ℕ)
+    → set (set (v ∷ (irs ++ (a ∷ b ∷ c ∷ d ∷ e ∷ f ∷ rest))) (n + 5) high) (n + 6) low ≡ v ∷ (irs ++ (a ∷ b ∷ c ∷ d ∷ high ∷ low ∷ rest))
+start-set irs n q v a b c d e f high low rest =
+    let four : n + 5 ≡ length (v ∷ irs) + 4 = omega (arith, q) in
+    let five : n + 6 ≡ length (v ∷ irs) + 5 = omega (arith, q) in
+    let first = ap (λ (k : ℕ). set (v ∷ (irs ++ (a ∷ b ∷ c ∷ d ∷ e ∷ f ∷ rest))) k high) four ∙ set-behind (v ∷ irs) (a ∷ b ∷ c ∷ d ∷ e ∷ f ∷ rest) 4 high in
+    let second = ap (λ (k : ℕ). set (v ∷ (irs ++ (a ∷ b ∷ c ∷ d ∷ high ∷ f ∷ rest))) k low) five ∙ set-behind (v ∷ irs) (a ∷ b ∷ c ∷ d ∷ high ∷ f ∷ rest) 5 low in
+    ap (λ (l : List ℕ). set l (n + 6) low) first ∙ second
 
 irs-all : (numbers : List ℕ) → numbersRefused numbers ≡ false → length (pageAt numbers 1 .irs) ≡ 15
-unfolding pageAt
-irs-all numbers fine = length-part numbers 1 15 (omega (arith, numbers-all numbers fine))
+irs-all numbers fine = page-irs numbers 1 (numbers-room numbers fine)
 
 -- which are the numbers of their page with that screen start 2
 module _ (numbers : List ℕ) (fits : Bytes numbers) (fine : numbersRefused numbers ≡ false) (x : ℕ) where
   abbrev own : Page
   own = pageAt numbers 1
 
+  abbrev v : ℕ
+  v = versionIn numbers
+
+  -- the IRs that their version has
+  abbrev irs : List ℕ
+  irs = take (layoutOf v .irs) (own .irs)
+
   own-back : pageIn own numbers ≡ numbers
+  unfolding pageAt
   own-back =
-      let all = numbers-all numbers fine in
-      ap₂ (λ (v : ℕ) (l : List ℕ). numbersFront v l (drop 25 numbers)) (version-again numbers 1 (numbers-version numbers fine)) (bytes-again numbers fits 1 (omega (arith, all)))
-      ∙ ap (λ (l : List ℕ). getD numbers 0 0 ∷ l) (on numbers 1 24)
-      ∙ sym (drop-cons numbers 0 0 (omega (arith, all)))
+      ap₂ (λ (k : ℕ) (l : List ℕ). numbersFront k l (drop (counted v) numbers)) (version-again numbers 1 (numbers-version numbers fine)) (bytes-again numbers fits 1 (numbers-room numbers fine))
+      ∙ ap (λ (l : List ℕ). v ∷ l) (on numbers 1 (pageLength v))
+      ∙ sym (drop-cons numbers 0 0 (omega (arith, numbers-room numbers fine)))
+
+  own-version : own .version ≡ v
+  unfolding pageAt
+  own-version = refl
+
+  irs-long : length irs ≡ layoutOf v .irs
+  irs-long = length-take-le (layoutOf v .irs) (own .irs) (omega (arith, irs-all numbers fine, layout-fits v .irs-most))
 
   start-put : pageIn (changed own (own .irs) (own .starts .start1) x) numbers ≡ withStart2 numbers x
-  unfolding tailOf
+  unfolding tailOf pageAt
   start-put =
-      ap (λ (l : List ℕ). versionOf own ∷ l) (append-assoc (own .irs) _ (drop 25 numbers))
-      ∙ sym (start-set (own .irs) (irs-all numbers fine) (versionOf own) _ _ _ _ _ _ (x / 256) (x % 256) _)
-      ∙ ap (λ (l : List ℕ). withStart2 (versionOf own ∷ l) x) (sym (append-assoc (own .irs) _ (drop 25 numbers)))
-      ∙ ap (λ (l : List ℕ). withStart2 l x) own-back
+      ap (λ (l : List ℕ). versionOf own ∷ l) (append-assoc irs _ (drop (counted v) numbers))
+      ∙ sym (start-set irs (layoutOf v .irs) irs-long (versionOf own) _ _ _ _ _ _ (x / 256) (x % 256) _)
+      ∙ ap (λ (l : List ℕ). set (set (versionOf own ∷ l) (irsIn numbers + 5) (x / 256)) (irsIn numbers + 6) (x % 256)) (sym (append-assoc irs _ (drop (counted v) numbers)))
+      ∙ ap (λ (l : List ℕ). set (set l (irsIn numbers + 5) (x / 256)) (irsIn numbers + 6) (x % 256)) own-back
 
 -- what the page's own refusals passed
 own-ok : (numbers chars : List ℕ) → numbersRefused numbers ≡ false → ownCheck (numbersBoard numbers) (length chars) ≡ Done → numbersCheck numbers ≡ Done
@@ -278,14 +293,15 @@ module _ (numbers chars : List ℕ) (done : toTableCheck numbers chars ≡ Done)
   module _ (fits : Bytes numbers) where
     there-back : backOf (m .board) (thereLeft b chars) ≡ movedTo Done (boardOf (changed p (p .irs) (p .starts .start1) place))
     unfolding pageAt
-    there-back = there-and-back b chars (omega (arith, long)) (rw (getD-take 15 (drop 1 numbers) 2 0 (omega arith), getD-drop 1 numbers 2 0) (fits 3)) (taken .1)
+    there-back = there-and-back b chars (omega (arith, long)) (ir-byte numbers fits 1 2 (numbers-room numbers (taken .0))) (taken .1)
 
     back-left : backOf (numbersBoard (toTableNumbers numbers chars)) (toTableChars numbers chars) ≡ movedTo Done (boardOf (changed p (p .irs) (p .starts .start1) place))
     back-left = ap₂ backOf table-board chars-left ∙ there-back
 
-    rest-left : drop 25 (toTableNumbers numbers chars) ≡ drop 25 numbers
+    rest-left : drop (counted (p .version)) (toTableNumbers numbers chars) ≡ drop (counted (p .version)) numbers
+    unfolding therePage
     rest-left =
-        ap (drop 25) (numbers-left ∙ numbers-are numbers (taken .0) m m-done (therePage p place) moved long′ version)
+        ap (drop (counted (p .version))) (numbers-left ∙ numbers-are numbers (taken .0) m m-done (therePage p place) moved long′ version)
         ∙ put-rest numbers (taken .0) (therePage p place) long′
 
     -- [R-5 both]

@@ -7,9 +7,11 @@ use mathlib.Core.List.{List, _++_}
 use lib.ListN.{length, drop}
 use Rattle.refusal.specs.declared.Refusal.the-variants.{Done}
 use Rattle.refusal.specs.Number.{numberOf}
+use Rattle.board.specs.Layout.{fileSize}
 use Rattle.shape.specs.Font.{Font, fontOf, fontRefused}
 use Rattle.video.specs.At.{lentRefused}
 use Rattle.step.specs.Step.{stepCheck}
+use Rattle.files.specs.Page.{versionIn}
 use Rattle.files.specs.File.{readCheck, charsRead, attrsRead}
 use Rattle.files.specs.FontFile.{fontCheck, fontRead}
 use Rattle.files.specs.Round.{Bytes}
@@ -42,9 +44,9 @@ module _ (file numbers chars attrs : List ℕ)
 
   -- [demand round]
   -- given to feldrime_page_write, it answers 0 and the buffer begins with the file; bytes beyond stay
-  pub page-same-from-c : Bytes file → (out : List ℕ) → 32797 ≤ length out
+  pub page-same-from-c : Bytes file → (out : List ℕ) → fileSize (versionIn file) ≤ length out
       → (answerOf (pageWriteCheck numbersC (length charsC) (length attrsC) (length out)) .refusal ≡ 0)
-      × (pageWritten numbersC charsC attrsC out ≡ file ++ drop 32797 out)
+      × (pageWritten numbersC charsC attrsC out ≡ file ++ drop (fileSize (versionIn file)) out)
   unfolding pageWriteCheck pageWritten
   page-same-from-c bytes out room =
       let same = again file bytes size read-ok chars attrs out room in

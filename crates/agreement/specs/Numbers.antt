@@ -2,17 +2,17 @@
 use Prim.Native.Nat.{ℕ}
 use mathlib.Core.Path.{_≡_, refl, ap, _∙_}
 use mathlib.Core.Bool.{not}
-use mathlib.Core.List.{List, _++_}
+use mathlib.Core.List.{List}
 use lib.Dec.{eqb}
-use lib.ListN.{length, take, replicate}
+use lib.ListN.{length}
 use Rattle.refusal.specs.declared.Refusal.the-variants.{Done, Size}
 use Rattle.refusal.specs.Laws.{passed}
 use Rattle.board.specs.declared.Board.{Board}
 use Rattle.board.specs.State.{boardOf}
 use Rattle.files.specs.Page.{keptPage}
 use Rattle.files.specs.Round.{Bytes, kept-check}
-use Rattle.numbers.specs.Numbers.{numbersRefused, numbersCheck, numbersBoard, numbersOfCheck, numbersOf}
-use Rattle.numbers.specs.Laws.{numbers-all, numbers-passed, numbers-version, saved-fine, saved-page, saved-numbers}
+use Rattle.numbers.specs.Numbers.{numbersRefused, numbersCheck, numbersBoard, cleared, numbersOfCheck, numbersOf}
+use Rattle.numbers.specs.Laws.{numbers-passed, saved-fine, saved-page, saved-numbers}
 use Rattle.feldrime.specs.Answers.{answerOf, boardAnswer}
 use Rattle.feldrime.specs.Pages.{boardFor}
 use Rattle.agreement.specs.FromC.{zero-done}
@@ -38,16 +38,16 @@ module _ (numbers : List ℕ) (fits : Bytes numbers) (out : List ℕ) (room : le
   -- [more numbers]
   -- of their board they come back the same in all bytes that count, and zeros in the others
   pub numbers-back : numbersCheck numbers ≡ Done
-      → (numbersOfCheck (numbersBoard numbers) (length out) ≡ Done) × (numbersOf (numbersBoard numbers) out ≡ take 25 numbers ++ replicate 7 0)
+      → (numbersOfCheck (numbersBoard numbers) (length out) ≡ Done) × (numbersOf (numbersBoard numbers) out ≡ cleared numbers)
   unfolding numbersOf numbersOfCheck numbersCheck
   numbers-back ok =
       let fine = numbers-passed numbers ok in
       let page = passed (numbersRefused numbers) Size _ refl ok .1 in
-      rw (room, page) (refl, saved-numbers numbers fits (numbers-all numbers fine) (numbers-version numbers fine))
+      rw (room, page) (refl, saved-numbers numbers fits fine)
 
   -- so too where feldrime_board_of answers 0
   pub numbers-back-from-c : boardFor numbers .refusal ≡ 0
-      → (answerOf (numbersOfCheck (boardFor numbers .board) (length out)) ≡ answerOf Done) × (numbersOf (boardFor numbers .board) out ≡ take 25 numbers ++ replicate 7 0)
+      → (answerOf (numbersOfCheck (boardFor numbers .board) (length out)) ≡ answerOf Done) × (numbersOf (boardFor numbers .board) out ≡ cleared numbers)
   unfolding boardFor
   numbers-back-from-c e =
       let ok = zero-done (numbersCheck numbers) e in

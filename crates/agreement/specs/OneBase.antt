@@ -23,6 +23,7 @@ use Rattle.board.specs.declared.Page.{Page}
 use Rattle.board.specs.declared.Place.{Place}
 use Rattle.board.specs.declared.Board.{Board}
 use Rattle.board.specs.State.{clockZero, powerOf}
+use Rattle.board.specs.Layout.{layoutOf, lastIr, pageLength}
 use Rattle.board.specs.Modes.{versionOf, fieldMode, settersHidden}
 use Rattle.board.specs.Range.{memoriesRefused, startsRefused, switchesRefused, addressRefused, cellsRefused, pointerRefused}
 use Rattle.timing.specs.Fields.{scansOf, linesOf, timingOf, visibleOf, bufferOf, codedOf, tableOf, cursorOf, underlineOf, blinkOf}
@@ -177,6 +178,18 @@ switches-refused-one version switches = only _
 pub version-of-one : (p : Page) → OneAnswer (λ r. r ≡ versionOf p)
 version-of-one p = only _
 
+pub layout-of-one : (version : ℕ) → OneAnswer (λ r. r ≡ layoutOf version)
+layout-of-one version = only _
+
+pub irs-of-one : (version : ℕ) → OneAnswer (λ r. r ≡ layoutOf version .irs)
+irs-of-one version = only _
+
+pub last-ir-one : (version : ℕ) → OneAnswer (λ r. r ≡ lastIr version)
+last-ir-one version = only _
+
+pub page-length-one : (version : ℕ) → OneAnswer (λ r. r ≡ pageLength version)
+page-length-one version = only _
+
 pub field-mode-one : (p : Page) → OneAnswer (λ r. r ≡ fieldMode p)
 field-mode-one p = only _
 
@@ -189,8 +202,8 @@ address-refused-one p = only _
 pub cells-refused-one : (p : Place) → OneAnswer (λ r. r ≡ cellsRefused p)
 cells-refused-one p = only _
 
-pub pointer-refused-one : (n : ℕ) → OneAnswer (λ r. r ≡ pointerRefused n)
-pointer-refused-one n = only _
+pub pointer-refused-one : (p : Page) (n : ℕ) → OneAnswer (λ r. r ≡ pointerRefused p n)
+pointer-refused-one p n = only _
 
 -- ---- `timing`
 

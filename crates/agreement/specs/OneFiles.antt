@@ -7,6 +7,7 @@ use Rattle.lists.specs.Answer.{OneAnswer, only, only-both, only-three, only-fou
 use Rattle.refusal.specs.declared.Refusal.{Refusal}
 use Rattle.board.specs.declared.Page.{Page}
 use Rattle.board.specs.declared.Board.{Board}
+use Rattle.board.specs.Layout.{charsPlace}
 use Rattle.shape.specs.Font.{Font}
 use Rattle.copies.specs.Put.{putAt, takenFrom}
 use Rattle.files.specs.declared.PageRead.{PageRead}
@@ -55,8 +56,12 @@ page-at-one bytes at = only _
 pub board-at-one : (bytes : List ℕ) (at : ℕ) → OneAnswer (λ r. r ≡ boardAt bytes at)
 board-at-one bytes at = only _
 
-pub page-bytes-one : (p : Page) → OneAnswer (λ r. r ≡ pageBytes p)
-page-bytes-one p = only _
+pub chars-place-one : (version : ℕ) → OneAnswer (λ r. r ≡ charsPlace version)
+chars-place-one version = only _
+
+-- the buffer
+pub put-bytes-one : (p : Page) (at : ℕ) (out : List ℕ) → OneAnswer (λ r. r ≡ putAt at (pageBytes p) out)
+put-bytes-one p at out = only _
 
 -- ---- `numbers`
 

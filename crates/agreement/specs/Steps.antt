@@ -18,6 +18,7 @@ use Rattle.board.specs.declared.Page.{Page}
 use Rattle.board.specs.declared.Place.{Place}
 use Rattle.board.specs.declared.Board.{Board}
 use Rattle.board.specs.State.{clockZero}
+use Rattle.board.specs.Layout.{lastIr}
 use Rattle.board.specs.Modes.{fieldMode}
 use Rattle.board.specs.Range.{memoriesRefused}
 use Rattle.timing.specs.Fields.{htOf, vtOf, countsOf}
@@ -46,7 +47,7 @@ range-ok b i =
     let clock = lt-leb (htOf (b .page)) (b .place .clock .0) (i .clock-lt) in
     let beam = le-ltb 16383 (b .place .beam .address) (i .beam-le) in
     let row = le-ltb 16383 (b .place .row .address) (i .row-le) in
-    rw (line, clock, beam, row, le-ltb 14 (b .pointer) (i .pointer-le))
+    rw (line, clock, beam, row, le-ltb (lastIr (b .page .version)) (b .pointer) (i .pointer-le))
 
 pub call-ok : (b : Board) (size : Bool) → size ≡ false → pageCheck (b .page) ≡ Done → stateRefused b ≡ false → callCheck b size false false ≡ Done
 unfolding callCheck

@@ -13,6 +13,7 @@ use Rattle.raster.specs.Latch.{lastSet}
 use Rattle.board.specs.declared.Page.{Page}
 use Rattle.board.specs.declared.Board.{Board}
 use Rattle.board.specs.State.{boardOf}
+use Rattle.board.specs.Layout.{layoutOf}
 use Rattle.board.specs.Range.{addressRefused}
 use Rattle.fetch.specs.Rows.{codeAt, entryOf, rowStart, cellAt, fetchedOf, fetchAt, movedOf}
 use Rattle.latch.specs.Held.{heldAt}
@@ -46,7 +47,7 @@ pub font : Font
 font = fontOf (replicate 1152 0) (replicate 128 0) (replicate 9 0) (replicate 9 0)
 
 pub sheet-taken : stepCheck sheet memory memory font ≡ Done
-unfolding sheet memory font page callCheck pageCheck addressRefused codedOf linesOf tableOf hbpOf vsyncOf stateRefused
+unfolding sheet memory font page callCheck pageCheck addressRefused codedOf linesOf tableOf hbpOf vsyncOf stateRefused layoutOf
 sheet-taken = refl
 
 -- its numbers are given, so `board-back` and `numbers-back` speak of something
@@ -73,7 +74,7 @@ pub low : Board
 low = boardOf (page 35 80 2048 3071 0 0)
 
 pub low-taken : stepCheck low memory memory font ≡ Done
-unfolding low memory font page callCheck pageCheck addressRefused codedOf linesOf tableOf hbpOf vsyncOf stateRefused
+unfolding low memory font page callCheck pageCheck addressRefused codedOf linesOf tableOf hbpOf vsyncOf stateRefused layoutOf
 low-taken = refl
 
 pub outside : Inside (bufferOf (low .page)) (addressAt low memory memory font 0 0 0) → ⊥
@@ -94,7 +95,7 @@ abbrev pub numbers : List ℕ
 numbers = replicate 32 0
 
 pub page-taken : answerOf (readCheck file (pageReadSize (length numbers) (length memory) (length memory))) .refusal ≡ 0
-unfolding sheet memory page readCheck fileCheck lengthRefused longAt wordAt tailOf headOf fileOf pageAt pageCheck addressRefused codedOf tableOf hbpOf
+unfolding sheet memory page readCheck fileCheck lengthRefused longAt wordAt tailOf headOf fileOf pageAt pageCheck addressRefused codedOf tableOf hbpOf layoutOf
 page-taken = refl
 
 pub font-taken : answerOf (fontCheck fontFile (fontRefused (fontOf (font .words) (font .flags) (font .unshifted) (font .shifted)))) .refusal ≡ 0
@@ -128,7 +129,7 @@ pub reversed : List ℕ
 reversed = replicate 16384 129
 
 pub coded-taken : stepCheck coded entries reversed font ≡ Done
-unfolding coded entries reversed font callCheck pageCheck addressRefused codedOf linesOf tableOf hbpOf vsyncOf stateRefused
+unfolding coded entries reversed font callCheck pageCheck addressRefused codedOf linesOf tableOf hbpOf vsyncOf stateRefused layoutOf
 coded-taken = refl
 
 -- so the promise on rows speaks of cell 64 and of double width in row 5, and attributes run on
@@ -149,7 +150,7 @@ pub small : Board
 small = boardOf (catalogued 1 1 0 0 1 1)
 
 small-own : ownCheck small (length memory) ≡ Done
-unfolding small memory ownCheck callCheck pageCheck addressRefused codedOf linesOf tableOf hbpOf vsyncOf stateRefused
+unfolding small memory ownCheck callCheck pageCheck addressRefused codedOf linesOf tableOf hbpOf vsyncOf stateRefused layoutOf
 small-own = refl
 
 room-at-1 : unfetchedAt (small .page) memory 1 ≡ true
@@ -170,5 +171,5 @@ pub follow-entries : List ℕ
 follow-entries = 0 ∷ 0 ∷ 1 ∷ replicate 16381 0
 
 pub back-taken : backCheck follows-on follow-entries ≡ Done
-unfolding follows-on follow-entries backCheck ownCheck callCheck pageCheck addressRefused codedOf linesOf tableOf hbpOf vsyncOf stateRefused rowsApart followsRow anyBelow entryOf advanceBy toLast bufferOf
+unfolding follows-on follow-entries backCheck ownCheck callCheck pageCheck addressRefused codedOf linesOf tableOf hbpOf vsyncOf stateRefused layoutOf rowsApart followsRow anyBelow entryOf advanceBy toLast bufferOf
 back-taken = refl

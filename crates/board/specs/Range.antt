@@ -5,6 +5,7 @@ use lib.Dec.{eqb, ltb}
 use Rattle.board.specs.declared.Starts.{Starts}
 use Rattle.board.specs.declared.Page.{Page}
 use Rattle.board.specs.declared.Place.{Place}
+use Rattle.board.specs.Layout.{lastIr}
 
 -- 3: a lent memory of wrong size
 abbrev pub memoryRefused : ℕ → Bool
@@ -33,6 +34,6 @@ abbrev pub cellsRefused : Place → Bool
 cellsRefused p = ltb 16383 (p .beam .address) || ltb 16383 (p .row .address)
 
 -- [refusal numbers]
--- 7: a state's IR pointer out of range
-abbrev pub pointerRefused : ℕ → Bool
-pointerRefused n = ltb 14 n
+-- 7: a state's IR pointer out of range, above the last IR of its page
+abbrev pub pointerRefused : Page → ℕ → Bool
+pointerRefused p n = ltb (lastIr (p .version)) n

@@ -1,6 +1,7 @@
 // The board's whole state, by value. It holds numbers only and is laid out as C lays it out, so that every bit pattern is a value.
 ghost use mathlib.Core.Path.{_≡_};
 ghost use Rattle.board.specs.State.{clockZero, powerOf};
+ghost use Rattle.board.specs.Layout.{layoutOf, lastIr, pageLength};
 ghost use Rattle.board.specs.Modes.{versionOf, fieldMode, settersHidden};
 ghost use Rattle.board.specs.Range.{memoriesRefused, startsRefused, switchesRefused, addressRefused, cellsRefused, pointerRefused};
 
@@ -15,6 +16,12 @@ pub struct Starts {
 pub struct Video {
     pub dots: units::Dots,
     pub strike: u8,
+}
+
+// How many IRs a page has, and how many bytes stand behind them in its file.
+pub struct Layout {
+    pub irs: usize,
+    pub rest: usize,
 }
 
 // What a page file holds beside the memories. The switches are the file's byte: bit 0 display, 1 cursor, 2 BKGND, 3 RBLANK, and in version 2 bit 4
@@ -90,6 +97,38 @@ pub fn power() -> Board
     }
 }
 
+// Versions from 1 to the newest are known.
+pub const NEWEST_VERSION: u8 = 2;
+
+// A page's layout by its version: versions 1 and 2 have the same.
+pub fn layout_of(version: u8) -> Layout
+    ensures { λ r. ⌜ r ≡ layoutOf version ⌝ }
+{
+    Layout { irs: 15, rest: 9 }
+}
+
+// How many IRs a page has.
+pub fn irs_of(version: u8) -> usize
+    ensures { λ r. ⌜ r ≡ layoutOf version .irs ⌝ }
+{
+    layout_of(version).irs
+}
+
+// The last IR of a page, where the pointer stays.
+pub fn last_ir(version: u8) -> u8
+    ensures { λ r. ⌜ r ≡ lastIr version ⌝ }
+{
+    (irs_of(version) - 1) as u8
+}
+
+// The bytes between a page file's length and its character memory.
+pub fn page_length(version: u8) -> usize
+    ensures { λ r. ⌜ r ≡ pageLength version ⌝ }
+{
+    let l = layout_of(version);
+    l.irs + l.rest
+}
+
 // 3, for the lengths of the two memories.
 pub fn memories_refused(chars: usize, attrs: usize) -> bool
     ensures { λ r. ⌜ r ≡ memoriesRefused chars attrs ⌝ }
@@ -147,8 +186,8 @@ pub fn cells_refused(p: Place) -> bool
 }
 
 // 7, for the IR pointer.
-pub fn pointer_refused(pointer: u8) -> bool
-    ensures { λ r. ⌜ r ≡ pointerRefused pointer ⌝ }
+pub fn pointer_refused(p: Page, pointer: u8) -> bool
+    ensures { λ r. ⌜ r ≡ pointerRefused p pointer ⌝ }
 {
-    14 < pointer
+    last_ir(p.version) < pointer
 }

@@ -6,11 +6,13 @@
 --     Laid           what stands at the front so far
 --     put-on         one part more, behind it
 --     laid-all       the parts fill the buffer
+--     put-both       two parts put one behind the other are one part
+--     drop-same      what is left of a list of one number
 use Prim.Native.Nat.{ℕ, _+_, _-_, _≤_}
-use mathlib.Core.Path.{_≡_, refl, sym, _∙_}
+use mathlib.Core.Path.{_≡_, refl, sym, ap, _∙_}
 use mathlib.Core.List.{List, [], _++_, append-nil, append-assoc}
 use native.Mathlib.Omega.{arith}
-use lib.ListN.{length, take, drop, length-drop, length-append, drop-of-length-le}
+use lib.ListN.{length, take, drop, replicate, length-drop, length-append, length-replicate, replicate-append-replicate, take-append-drop, drop-of-length-le}
 use lib.Seq.{take-at, drop-at, drop-drop, take-length, drop-length, length-take-le}
 
 pub whole : (s d x : List ℕ) → length s ≡ length d → x ≡ take (length s) s ++ drop (length s) d → x ≡ s
@@ -53,3 +55,16 @@ put-on front part out₀ at k l n e = (length-append front part ∙ rw (l .0, n)
 
 pub laid-all : (front out₀ : List ℕ) (n : ℕ) {out : List ℕ} → Laid front n out₀ out → length out₀ ≡ n → out ≡ front
 laid-all front out₀ n l e = l .1 ∙ rw (drop-of-length-le out₀ {i = n} (omega (arith, e))) (append-nil front)
+
+pub put-both : (a b out : List ℕ) (at k : ℕ) {one two : List ℕ} → at ≤ length out → length a ≡ k → one ≡ putAt at a out → two ≡ putAt (at + k) b one
+    → two ≡ putAt at (a ++ b) out
+put-both a b out at k room n e₁ e₂ =
+    let l₁ = put-on (take at out) a out at k (length-take-le at out room, sym (take-append-drop at out)) n e₁ in
+    let l₂ = put-on (take at out ++ a) b out (at + k) (length b) l₁ refl e₂ in
+    let far : at + length (a ++ b) ≡ at + k + length b = omega (arith, length-append a b, n) in
+    l₂ .1 ∙ rw far (ap (λ (l : List ℕ). l ++ drop (at + k + length b) out) (append-assoc (take at out) a b) ∙ append-assoc (take at out) (a ++ b) (drop (at + k + length b) out))
+
+pub drop-same : (n k x : ℕ) → n ≤ k → drop n (replicate k x) ≡ replicate (k - n) x
+drop-same n k x l =
+    let all : k ≡ n + (k - n) = omega arith in
+    ap (λ (m : ℕ). drop n (replicate m x)) all ∙ ap (drop n) (sym (replicate-append-replicate n (k - n) x)) ∙ drop-at (replicate n x) (replicate (k - n) x) n (length-replicate n x)

@@ -87,4 +87,4 @@ font-again f fits n v e =
     let last : take 9 (drop 2446 f) ≡ drop 2446 f = take-all 9 (drop 2446 f) (rw (length-drop 2446 f) (omega (arith, n))) in
     let words = bytes-again (take 2304 (drop 5 f)) (part-bytes f 5 2304 fits) (length-part f 5 2304 (omega (arith, n))) in
     rw (words, last, on f 2437 9, on f 2309 128, on f 5 2304)
-    (ap (λ (x : List ℕ). x ++ drop 5 f) (rw one at (sym (front-again f fits 2450 (omega arith) n e))) ∙ take-append-drop 5 f)
+    (ap (λ (x : List ℕ). x ++ drop 5 f) (rw one at (sym (front-again f fits 2450 n e))) ∙ take-append-drop 5 f)

@@ -1,12 +1,13 @@
 -- What the proofs of the file calls use. Assumes nothing.
-use Prim.Native.Nat.{ℕ, _+_, _≤_}
-use mathlib.Core.Path.{_≡_, refl, ap, _∙_}
+use Prim.Native.Nat.{ℕ, _+_, _-_, _/_, _%_, _≤_, _<_}
+use mathlib.Core.Path.{_≡_, refl, sym, ap, ap₂, _∙_}
 use mathlib.Core.Bool.{Bool, true, false, _||_, not, true≢false}
-use mathlib.Core.List.{List, [], _∷_, _++_, append-assoc}
+use mathlib.Core.List.{List, [], _∷_, _++_, append-assoc, append-nil}
 use native.Mathlib.Omega.{arith}
 use borrow.Author.Tests.{eqb-true, leb-true, ltb-false, not-false}
 use lib.Dec.{eqb, leb, ltb}
-use lib.ListN.{length, getD, take, drop, length-append}
+use lib.ListN.{length, take, drop, replicate, length-append, length-replicate}
+use lib.Seq.{take-all, length-take-le}
 use Rattle.lists.specs.Choice.{firstOf, both, neither}
 use Rattle.refusal.specs.declared.Refusal.{Refusal}
 use Rattle.refusal.specs.declared.Refusal.the-variants.{Done, Version, Length, Size}
@@ -15,12 +16,14 @@ use Rattle.refusal.specs.Laws.{done-is, passed}
 use Rattle.board.specs.declared.Page.{Page}
 use Rattle.board.specs.declared.Board.{Board}
 use Rattle.board.specs.State.{powerOf}
+use Rattle.board.specs.Layout.{newestVersion, layoutOf, pageLength, lengthField, charsPlace, attrsPlace, fileSize}
+use Rattle.board.specs.Modes.{versionOf}
 use Rattle.board.specs.Range.{memoriesRefused}
-use Rattle.board.specs.Laws.{memories-all}
+use Rattle.board.specs.Laws.{memories-all, layout-fits}
 use Rattle.timing.specs.Check.{pageCheck}
 use Rattle.timing.specs.Laws.{call-passed}
-use Rattle.files.specs.Page.{pageAt, boardAt, tailOf, pageBytes}
-use Rattle.copies.specs.Put.{putAt, laid-none, put-on, laid-all}
+use Rattle.files.specs.Page.{versionIn, irsIn, irsAt, pageAt, boardAt, longBytes, tailOf, pageBytes}
+use Rattle.copies.specs.Put.{length-part, takenFrom, putAt, laid-none, put-on, put-both, drop-same}
 use Rattle.files.specs.File.{longAt, versionRefused, lengthRefused, fileCheck, readCheck, pageRead, readPageOf, charsRead, attrsRead, pageHead, headOf, fileOf, writeCheck, written}
 
 -- an empty file has no version
@@ -28,10 +31,14 @@ pub no-version : (file : List ℕ) (newest : ℕ) → length file ≡ 0 → true
 no-version [] newest e = refl
 no-version (x ∷ file) newest e = absurd (omega arith)
 
+pub empty-version : (file : List ℕ) → length file ≡ 0 → 0 ≡ versionIn file
+empty-version [] e = refl
+empty-version (x ∷ file) e = absurd (omega arith)
+
 -- a version that is known
-pub version-known : (file : List ℕ) (newest : ℕ) → versionRefused file newest ≡ false → (1 ≤ getD file 0 0) × (getD file 0 0 ≤ newest)
+pub version-known : (file : List ℕ) (newest : ℕ) → versionRefused file newest ≡ false → (1 ≤ versionIn file) × (versionIn file ≤ newest)
 version-known file newest e =
-    let k = both (leb 1 (getD file 0 0)) (leb (getD file 0 0) newest) (not-false _ e) in
+    let k = both (leb 1 (versionIn file)) (leb (versionIn file) newest) (not-false _ e) in
     (leb-true _ _ (k .0), leb-true _ _ (k .1))
 
 -- a file of the right length
@@ -77,21 +84,21 @@ module _ (file : List ℕ) (newest n : ℕ) (size : Bool) (rest : Refusal) where
 
 -- a page file that nothing refuses, and the memories that it goes to
 pub record Taken (file : List ℕ) (chars attrs : ℕ) : Type 0 where
-  pub file-all : length file ≡ 32797
+  pub file-all : length file ≡ fileSize (versionIn file)
   pub chars-all : chars ≡ 16384
   pub attrs-all : attrs ≡ 16384
 
 pub read-passed : (file : List ℕ) (chars attrs : ℕ) → readCheck file (memoriesRefused chars attrs) ≡ Done → Taken file chars attrs
 unfolding readCheck
 read-passed file chars attrs e =
-    let p = file-passed file 2 32792 (memoriesRefused chars attrs) (pageCheck (pageAt file 5)) e in
+    let p = file-passed file newestVersion (lengthField (versionIn file)) (memoriesRefused chars attrs) (pageCheck (pageAt file 5)) e in
     let m = memories-all chars attrs (p .size-ok) in
-    record { file-all = file-sized file 32792 (p .length-ok); chars-all = m .0; attrs-all = m .1 }
+    record { file-all = file-sized file (lengthField (versionIn file)) (p .length-ok); chars-all = m .0; attrs-all = m .1 }
 
 -- what a read gives and leaves
 module _ (file : List ℕ) (size : Bool) (chars attrs : List ℕ) (x : Refusal) (e : x ≡ readCheck file size) where
   pub read-done : doneOf (readCheck file size) ≡ true → (b : Board) → b ≡ boardAt file 5 → (c a : List ℕ)
-      → c ≡ take 16384 (drop 29 file) → a ≡ take 16384 (drop 16413 file)
+      → c ≡ take 16384 (drop (charsPlace (versionIn file)) file) → a ≡ take 16384 (drop (attrsPlace (versionIn file)) file)
       → (pageRead x b ≡ readPageOf file size) × (c ≡ charsRead file size chars) × (a ≡ attrsRead file size attrs)
   unfolding readPageOf charsRead attrsRead
   read-done t b eb c a ec ea = (rw (t, e, eb), rw t ec, rw t ea)
@@ -101,52 +108,92 @@ module _ (file : List ℕ) (size : Bool) (chars attrs : List ℕ) (x : Refusal) 
   unfolding readPageOf charsRead attrsRead
   read-refused t b eb = (rw (t, e, eb), rw t, rw t)
 
-tail-all : (p : Page) → length (tailOf p) ≡ 9
+-- ---- a page's bytes
+
+-- today's layouts have nine bytes behind the IRs, and fifteen IRs
+pub rest-is : (version : ℕ) → layoutOf version .rest ≡ 9
+unfolding layoutOf
+rest-is version = refl
+
+tail-all : (p : Page) → length (tailOf p) ≡ layoutOf (p .version) .rest
 unfolding tailOf
-tail-all p = refl
+tail-all p = sym (rest-is (p .version))
 
--- the IRs and what stands behind them, put into 24 bytes
-pub bytes-put : (p : Page) → length (p .irs) ≡ 15 → (out : List ℕ) → length out ≡ 24
-    → {tail one two : List ℕ} → tail ≡ tailOf p → one ≡ putAt 0 (p .irs) out → two ≡ putAt 15 tail one → two ≡ pageBytes p
-bytes-put p n out all t e₁ e₂ =
-    let l₁ = put-on [] (p .irs) out 0 15 (laid-none out) n e₁ in
-    let l₂ = put-on (p .irs) (tailOf p) out 15 9 l₁ (tail-all p) (rw t at e₂) in
-    laid-all (pageBytes p) out 24 l₂ all
+pub irs-whole : (version : ℕ) (irs : List ℕ) → length irs ≡ 15 → irsAt (layoutOf version .irs) irs 0 ≡ irs
+unfolding layoutOf
+irs-whole version irs n = append-nil (take 15 irs) ∙ take-all 15 irs (omega (arith, n))
 
-pub bytes-all : (p : Page) → length (p .irs) ≡ 15 → length (pageBytes p) ≡ 24
-bytes-all p n = length-append (p .irs) (tailOf p) ∙ rw (n, tail-all p)
+-- IRs taken into a record of zeros
+pub irs-taken : (n : ℕ) (bytes : List ℕ) (at : ℕ) → n ≤ 15 → {ys : List ℕ} → ys ≡ takenFrom at bytes (take n (replicate 15 0)) → ys ++ drop n (replicate 15 0) ≡ irsAt n bytes at
+irs-taken n bytes at l e =
+    ap₂ (λ (x y : List ℕ). x ++ y) (e ∙ ap (λ (k : ℕ). take k (drop at bytes)) (length-take-le n (replicate 15 0) l)) (drop-same n 15 0 l)
 
-pub head-all : (p : Page) → length (p .irs) ≡ 15 → length (headOf p) ≡ 29
+-- they are as many as a record has
+pub irs-at-all : (n : ℕ) (bytes : List ℕ) (at : ℕ) → n ≤ 15 → at + n ≤ length bytes → length (irsAt n bytes at) ≡ 15
+irs-at-all n bytes at l room =
+    length-append (take n (drop at bytes)) (replicate (15 - n) 0) ∙ rw (length-part bytes at n room, length-replicate {A = ℕ} (15 - n) 0) (omega arith)
+
+pub page-irs : (bytes : List ℕ) (at : ℕ) → at + pageLength (versionIn bytes) ≤ length bytes → length (pageAt bytes at .irs) ≡ 15
+unfolding pageAt
+page-irs bytes at room = irs-at-all (irsIn bytes) bytes at (layout-fits (versionIn bytes) .irs-most) (omega (arith, room))
+
+-- the IRs that a page's version has
+pub front-all : (p : Page) → length (p .irs) ≡ 15 → length (take (layoutOf (p .version) .irs) (p .irs)) ≡ layoutOf (p .version) .irs
+front-all p n = length-take-le (layoutOf (p .version) .irs) (p .irs) (omega (arith, n, layout-fits (p .version) .irs-most))
+
+pub bytes-all : (p : Page) → length (p .irs) ≡ 15 → length (pageBytes p) ≡ pageLength (p .version)
+bytes-all p n = length-append (take (layoutOf (p .version) .irs) (p .irs)) (tailOf p) ∙ rw (front-all p n, tail-all p)
+
+-- the IRs and what stands behind them, put one behind the other
+pub bytes-put : (p : Page) → length (p .irs) ≡ 15 → (out : List ℕ) (at : ℕ) → at ≤ length out → (n : ℕ) → n ≡ layoutOf (p .version) .irs
+    → {tail one two : List ℕ} → tail ≡ tailOf p → one ≡ putAt at (take n (p .irs)) out → two ≡ putAt (at + n) tail one → two ≡ putAt at (pageBytes p) out
+bytes-put p all out at room n e t e₁ e₂ =
+    put-both (take (layoutOf (p .version) .irs) (p .irs)) (tailOf p) out at (layoutOf (p .version) .irs) room (front-all p all) (rw e at e₁) (rw (e, t) at e₂)
+
+pub head-all : (p : Page) → length (p .irs) ≡ 15 → length (headOf p) ≡ charsPlace (p .version)
 unfolding headOf
-head-all p n = length-append (pageHead p) (pageBytes p) ∙ rw (bytes-all p n)
+head-all p n = length-append (pageHead p) (pageBytes p) ∙ rw (bytes-all p n) (omega arith)
+
+-- a length in four bytes, of which the upper two are zeros
+pub long-small : (n : ℕ) → n < 65536 → longBytes n ≡ 0 ∷ 0 ∷ n / 256 ∷ n % 256 ∷ []
+long-small n l =
+    let upper : n / 65536 ≡ 0 = omega (arith, l) in
+    let lower : n % 65536 ≡ n = omega (arith, l) in
+    rw (upper, lower)
+
+pub head-is : (p : Page) (n : ℕ) {v h l : ℕ} → n ≡ lengthField (p .version) → n < 65536 → v ≡ versionOf p → h ≡ n / 256 → l ≡ n % 256 → v ∷ 0 ∷ 0 ∷ h ∷ l ∷ [] ≡ pageHead p
+head-is p n e small ev eh el =
+    rw (ev, eh, el) (ap (λ (t : List ℕ). versionOf p ∷ t) (sym (long-small n small)) ∙ ap (λ (k : ℕ). versionOf p ∷ longBytes k) e)
 
 -- a page file put into a buffer part by part
 pub page-put : (p : Page) → length (p .irs) ≡ 15 → (chars attrs out : List ℕ) → length chars ≡ 16384 → length attrs ≡ 16384
-    → {head page one two three four : List ℕ} → head ≡ pageHead p → page ≡ pageBytes p
-    → one ≡ putAt 0 head out → two ≡ putAt 5 page one → three ≡ putAt 29 chars two → four ≡ putAt 16413 attrs three
-    → four ≡ fileOf p chars attrs ++ drop 32797 out
+    → (place : ℕ) → place ≡ charsPlace (p .version) → {head one two three four : List ℕ} → head ≡ pageHead p
+    → one ≡ putAt 0 head out → two ≡ putAt 5 (pageBytes p) one → three ≡ putAt place chars two → four ≡ putAt (place + 16384) attrs three
+    → four ≡ fileOf p chars attrs ++ drop (fileSize (p .version)) out
 unfolding fileOf headOf
-page-put p n chars attrs out nc na v h e₁ e₂ e₃ e₄ =
+page-put p n chars attrs out nc na place q v e₁ e₂ e₃ e₄ =
+    let at : 5 + pageLength (p .version) ≡ charsPlace (p .version) = omega arith in
+    let end : attrsPlace (p .version) + 16384 ≡ fileSize (p .version) = omega arith in
     let l₁ = put-on [] (pageHead p) out 0 5 (laid-none out) refl (rw v at e₁) in
-    let l₂ = put-on (pageHead p) (pageBytes p) out 5 24 l₁ (bytes-all p n) (rw h at e₂) in
-    let l₃ = put-on (pageHead p ++ pageBytes p) chars out 29 16384 l₂ nc e₃ in
-    put-on ((pageHead p ++ pageBytes p) ++ chars) attrs out 16413 16384 l₃ na e₄ .1
-    ∙ ap (λ (x : List ℕ). x ++ drop 32797 out) (append-assoc (pageHead p ++ pageBytes p) chars attrs)
+    let l₂ = put-on (pageHead p) (pageBytes p) out 5 (pageLength (p .version)) l₁ (bytes-all p n) e₂ in
+    let l₃ = put-on (pageHead p ++ pageBytes p) chars out (charsPlace (p .version)) 16384 (rw at at l₂) nc (rw q at e₃) in
+    let l₄ = put-on ((pageHead p ++ pageBytes p) ++ chars) attrs out (attrsPlace (p .version)) 16384 l₃ na (rw q at e₄) in
+    rw end at (l₄ .1) ∙ ap (λ (x : List ℕ). x ++ drop (fileSize (p .version)) out) (append-assoc (pageHead p ++ pageBytes p) chars attrs)
 
 -- a write that nothing refuses
 pub write-passed : (b : Board) (chars attrs out : ℕ) → writeCheck b chars attrs out ≡ Done
-    → (b .page .video .dots .0 ≤ 12) × (chars ≡ 16384) × (attrs ≡ 16384) × (32797 ≤ out)
+    → (b .page .video .dots .0 ≤ 12) × (chars ≡ 16384) × (attrs ≡ 16384) × (fileSize (b .page .version) ≤ out)
 unfolding writeCheck
 write-passed b chars attrs out e =
-    let q = call-passed b (memoriesRefused chars attrs || ltb out 32797) false false e in
-    let s = neither (memoriesRefused chars attrs) (ltb out 32797) (q .sized) in
+    let q = call-passed b (memoriesRefused chars attrs || ltb out (fileSize (b .page .version))) false false e in
+    let s = neither (memoriesRefused chars attrs) (ltb out (fileSize (b .page .version))) (q .sized) in
     let m = memories-all chars attrs (s .0) in
     (q .page .most, m .0, m .1, ltb-false _ _ (s .1))
 
 -- what a write leaves
 module _ (b : Board) (chars attrs out₀ : List ℕ) where
   pub write-done : doneOf (writeCheck b (length chars) (length attrs) (length out₀)) ≡ true
-      → (out : List ℕ) → out ≡ fileOf (b .page) chars attrs ++ drop 32797 out₀ → out ≡ written b chars attrs out₀
+      → (out : List ℕ) → out ≡ fileOf (b .page) chars attrs ++ drop (fileSize (b .page .version)) out₀ → out ≡ written b chars attrs out₀
   unfolding written
   write-done t out e = rw t e
 

@@ -1,13 +1,14 @@
 -- 01, "Files": what a page file holds before its character memory.
-use Prim.Native.Nat.{ℕ, _+_, _*_, _/_, _%_}
+use Prim.Native.Nat.{ℕ, _+_, _-_, _*_, _/_, _%_}
 use mathlib.Core.List.{List, [], _∷_, _++_}
-use lib.ListN.{getD, take, drop}
+use lib.ListN.{getD, take, drop, replicate}
 use Rattle.units.specs.Units.{dots}
 use Rattle.board.specs.declared.Starts.{Starts}
 use Rattle.board.specs.declared.Video.{Video}
 use Rattle.board.specs.declared.Page.{Page}
 use Rattle.board.specs.declared.Board.{Board}
 use Rattle.board.specs.State.{boardOf}
+use Rattle.board.specs.Layout.{layoutOf}
 use Rattle.board.specs.Modes.{versionOf}
 
 -- two bytes big-endian: the high byte first
@@ -21,15 +22,26 @@ startsAt bytes at = record { start1 = wordAt bytes at; cursor = wordAt bytes (at
 abbrev pub videoOf : (n strike : ℕ) → Video
 videoOf n strike = record { dots = dots n; strike = strike }
 
+-- the version byte stands first, and says how many IRs there are
+abbrev pub versionIn : List ℕ → ℕ
+versionIn bytes = getD bytes 0 0
+
+abbrev pub irsIn : List ℕ → ℕ
+irsIn bytes = layoutOf (versionIn bytes) .irs
+
+-- n IRs from a place on, and zeros for those of the record's fifteen that are left
+abbrev pub irsAt : (n : ℕ) → List ℕ → ℕ → List ℕ
+irsAt n bytes at = take n (drop at bytes) ++ replicate (15 - n) 0
+
 -- [file page] the page file, byte by byte; a page read gives an active board at clock 0, pointer at IR0
--- the version stands first; from a place on 15 IRs, the three addresses, switches, dots, strike line
+-- from a place on the IRs, the three addresses, switches, dots, strike line
 unfoldable pub pageAt : List ℕ → ℕ → Page
 pageAt bytes at = record {
-  version = getD bytes 0 0;
-  irs = take 15 (drop at bytes);
-  starts = startsAt bytes (at + 15);
-  switches = getD bytes (at + 21) 0;
-  video = videoOf (getD bytes (at + 22) 0) (getD bytes (at + 23) 0);
+  version = versionIn bytes;
+  irs = irsAt (irsIn bytes) bytes at;
+  starts = startsAt bytes (at + irsIn bytes);
+  switches = getD bytes (at + irsIn bytes + 6) 0;
+  video = videoOf (getD bytes (at + irsIn bytes + 7) 0) (getD bytes (at + irsIn bytes + 8) 0);
 }
 
 -- [file page]
@@ -39,9 +51,12 @@ boardAt bytes at = boardOf (pageAt bytes at)
 
 -- ---- writing
 
--- two bytes big-endian
+-- two bytes big-endian, and four
 abbrev pub bytesOf : ℕ → List ℕ
 bytesOf x = (x / 256) ∷ (x % 256) ∷ []
+
+abbrev pub longBytes : ℕ → List ℕ
+longBytes x = bytesOf (x / 65536) ++ bytesOf (x % 65536)
 
 -- what stands behind the IRs: the three addresses, switches, dots, strike line
 unfoldable pub tailOf : Page → List ℕ
@@ -54,7 +69,7 @@ tailOf p =
 -- [file page]
 -- the page as it is written, but for its version
 abbrev pub pageBytes : Page → List ℕ
-pageBytes p = p .irs ++ tailOf p
+pageBytes p = take (layoutOf (p .version) .irs) (p .irs) ++ tailOf p
 
 -- the page that is kept: a version that is not known is written as 1
 abbrev pub keptPage : Page → Page

@@ -5,41 +5,36 @@
 --     page-kept      a page that is written, read again, is that page with its version as it counts
 --     kept-same      which is the page itself where its version is known
 --     kept-check     and which is refused as the page is
-use Prim.Native.Nat.{ℕ, _+_, _*_, _/_, _%_, _<_, _≤_}
+use Prim.Native.Nat.{ℕ, _+_, _-_, _*_, _/_, _%_, _<_, _≤_}
 use mathlib.Core.Path.{_≡_, refl, sym, ap, _∙_}
 use mathlib.Core.Bool.{Bool, true, false, not}
-use mathlib.Core.List.{List, [], _∷_, _++_, append-assoc}
+use mathlib.Core.List.{List, _∷_, _++_, append-assoc}
+use native.Mathlib.Decide.{decLt}
 use native.Mathlib.Omega.{arith}
 use borrow.Author.Tests.{eqb-true, eqb-false}
 use lib.Dec.{eqb}
-use lib.ListN.{length, getD, take, drop, length-drop, take-append-drop}
-use lib.Seq.{drop-drop, take-add, take-all, take-at, drop-at, getD-drop}
+use lib.ListN.{length, getD, take, drop, replicate, length-drop, length-replicate, take-append-drop, getD-replicate, List·getD-append, List·getD-eq-default}
+use lib.Seq.{drop-drop, take-add, take-all, take-at, drop-at, getD-take, getD-drop, getD-append-add}
 use Rattle.lists.specs.Choice.{pick, within}
 use Rattle.lists.specs.Tab.{tab, tab-part}
 use Rattle.units.specs.Units.{dots}
 use Rattle.board.specs.declared.Page.{Page}
+use Rattle.board.specs.declared.Layout.{Layout}
+use Rattle.board.specs.Layout.{newestVersion, layoutOf, pageLength, lengthField, charsPlace, attrsPlace, fileSize}
 use Rattle.board.specs.Modes.{versionOf}
 use Rattle.board.specs.Range.{addressRefused}
+use Rattle.board.specs.Laws.{layout-kept}
 use Rattle.timing.specs.Fields.{codedOf, tableOf, hbpOf}
 use Rattle.timing.specs.Check.{pageCheck}
-use Rattle.files.specs.Page.{wordAt, pageAt, tailOf, pageBytes, keptPage}
+use Rattle.files.specs.Page.{wordAt, versionIn, irsIn, irsAt, pageAt, longBytes, tailOf, pageBytes, keptPage}
 use Rattle.files.specs.File.{longAt, versionRefused, headOf, fileOf}
-use Rattle.files.specs.Laws.{version-known}
+use Rattle.copies.specs.Put.{length-part}
+use Rattle.files.specs.Laws.{version-known, rest-is, irs-whole, front-all}
 
+-- a byte from a place on, or of what is left
 module _ (f : List ℕ) (at : ℕ) where
-  byte : (k j : ℕ) → j ≡ at + k → getD f j 0 ≡ getD (drop at f) k 0
+  pub byte : (k j : ℕ) → j ≡ at + k → getD f j 0 ≡ getD (drop at f) k 0
   byte k j e = rw e (sym (getD-drop at f k 0))
-
-  word : (k j : ℕ) → j ≡ at + k → wordAt f j ≡ wordAt (drop at f) k
-  unfolding wordAt
-  word k j e = rw (byte k j e, byte (k + 1) (j + 1) (omega (arith, e)))
-
-  -- from a place on, or at the front of what is left
-  bytes-from : pageBytes (pageAt f at) ≡ pageBytes (pageAt (drop at f) 0)
-  unfolding tailOf pageAt
-  bytes-from =
-      rw (word 15 (at + 15) (omega arith), word 17 (at + 15 + 2) (omega arith), word 19 (at + 15 + 4) (omega arith))
-      (rw (byte 21 (at + 21) (omega arith), byte 22 (at + 22) (omega arith), byte 23 (at + 23) (omega arith)))
 
 -- a list of bytes
 abbrev pub Bytes : List ℕ → Type 0
@@ -55,33 +50,77 @@ module _ (f : List ℕ) (fits : Bytes f) where
   word-low i = omega (arith, fits (i + 1))
 
   -- the four bytes of a length
-  length-bytes : (n : ℕ) → n < 65536 → longAt f 1 ≡ n → (getD f 1 0 ≡ 0) × (getD f 2 0 ≡ 0) × (getD f 3 0 ≡ n / 256) × (getD f 4 0 ≡ n % 256)
+  length-bytes : (longAt f 1 / 65536 / 256 ≡ getD f 1 0) × (longAt f 1 / 65536 % 256 ≡ getD f 2 0)
+      × (longAt f 1 % 65536 / 256 ≡ getD f 3 0) × (longAt f 1 % 65536 % 256 ≡ getD f 4 0)
   unfolding longAt wordAt
-  length-bytes n l e =
-      (omega (arith, e, l, fits 2, fits 3, fits 4), omega (arith, e, l, fits 2, fits 3, fits 4), omega (arith, e, l, fits 2, fits 3, fits 4), omega (arith, e, l, fits 2, fits 3, fits 4))
+  length-bytes =
+      (omega (arith, fits 1, fits 2, fits 3, fits 4), omega (arith, fits 1, fits 2, fits 3, fits 4), omega (arith, fits 1, fits 2, fits 3, fits 4), omega (arith, fits 1, fits 2, fits 3, fits 4))
 
   -- version and length
-  pub front-again : (n : ℕ) → n < 65536 → length f ≡ n + 5 → longAt f 1 ≡ n → take 5 f ≡ getD f 0 0 ∷ 0 ∷ 0 ∷ n / 256 ∷ n % 256 ∷ []
+  pub front-again : (n : ℕ) → length f ≡ n + 5 → longAt f 1 ≡ n → take 5 f ≡ versionIn f ∷ longBytes n
   unfolding tab
-  front-again n l a e =
-      let b = length-bytes n l e in
+  front-again n a e =
+      let b = length-bytes in
       let front : take 5 f ≡ tab 5 (λ i. getD f (0 + i) 0) = sym (tab-part f 0 5 (omega (arith, a))) in
-      rw (front, b .0, b .1, b .2, b .3)
+      rw (front, sym e, b .0, b .1, b .2, b .3)
 
-  tail-again : 24 ≤ length f → tailOf (pageAt f 0) ≡ take 9 (drop 15 f)
+  -- what stands behind the IRs
+  tail-again : (at : ℕ) → at + pageLength (versionIn f) ≤ length f → tailOf (pageAt f at) ≡ take (layoutOf (versionIn f) .rest) (drop (at + irsIn f) f)
   unfolding tailOf pageAt tab
-  tail-again l =
-      let tail : take 9 (drop 15 f) ≡ tab 9 (λ i. getD f (15 + i) 0) = sym (tab-part f 15 9 (omega (arith, l))) in
-      rw (tail, word-high 15, word-low 15, word-high 17, word-low 17, word-high 19, word-low 19)
+  tail-again at l =
+      let start = at + irsIn f in
+      let rest : List ℕ = drop start f in
+      let room : 9 ≤ length rest = rw (length-drop start f) (omega (arith, l, rest-is (versionIn f))) in
+      let tail : take 9 rest ≡ tab 9 (λ i. getD rest (0 + i) 0) = sym (tab-part rest 0 9 room) in
+      rw (rest-is (versionIn f), tail, word-high start, word-low start, word-high (start + 2), word-low (start + 2), word-high (start + 4), word-low (start + 4))
+      (rw (
+        byte f start 0 start (omega arith),
+        byte f start 1 (start + 1) (omega arith),
+        byte f start 2 (start + 2) (omega arith),
+        byte f start 3 (start + 2 + 1) (omega arith),
+        byte f start 4 (start + 4) (omega arith),
+        byte f start 5 (start + 4 + 1) (omega arith),
+        byte f start 6 (start + 6) (omega arith),
+        byte f start 7 (start + 7) (omega arith),
+        byte f start 8 (start + 8) (omega arith),
+      ))
 
-  bytes-at-front : 24 ≤ length f → pageBytes (pageAt f 0) ≡ take 24 f
+  -- a page that is read, written again, is the same bytes
+  pub bytes-again : (at : ℕ) → at + pageLength (versionIn f) ≤ length f → pageBytes (pageAt f at) ≡ take (pageLength (versionIn f)) (drop at f)
   unfolding pageAt
-  bytes-at-front l = ap (λ (t : List ℕ). take 15 f ++ t) (tail-again l) ∙ sym (take-add 15 9 f)
+  bytes-again at l =
+      let n = irsIn f in
+      let irs = take-at (take n (drop at f)) (replicate (15 - n) 0) n (length-part f at n (omega (arith, l))) in
+      rw irs
+      (ap (λ (t : List ℕ). take n (drop at f) ++ t) (tail-again at l ∙ ap (take (layoutOf (versionIn f) .rest)) (sym (drop-drop n at f)))
+      ∙ sym (take-add n (layoutOf (versionIn f) .rest) (drop at f)))
 
--- a page that is read, written again, is the same bytes
-pub bytes-again : (f : List ℕ) → Bytes f → (at : ℕ) → at + 24 ≤ length f → pageBytes (pageAt f at) ≡ take 24 (drop at f)
-bytes-again f fits at l =
-    rw (bytes-from f at) (bytes-at-front (drop at f) (λ i. rw (getD-drop at f i 0) (fits (at + i))) (rw (length-drop at f) (omega (arith, l))))
+-- each IR of a page that is read is a byte
+pub ir-byte : (f : List ℕ) → Bytes f → (at i : ℕ) → at + pageLength (versionIn f) ≤ length f → getD (pageAt f at .irs) i 0 < 256
+unfolding pageAt
+ir-byte f fits at i l = go (decLt i (irsIn f))
+  where
+    n : ℕ
+    n = irsIn f
+
+    front : List ℕ
+    front = take n (drop at f)
+
+    zeros : List ℕ
+    zeros = replicate (15 - n) 0
+
+    all : length front ≡ n
+    all = length-part f at n (omega (arith, l))
+
+    zero : (k m : ℕ) → Dec (m < k) → getD (replicate {A = ℕ} k 0) m 0 ≡ 0
+    zero k m (yes h) = getD-replicate k m 0 0 h
+    zero k m (no h) = List·getD-eq-default (replicate k 0) 0 (omega (arith, h, length-replicate {A = ℕ} k 0))
+
+    go : Dec (i < n) → getD (front ++ zeros) i 0 < 256
+    go (yes h) = rw (List·getD-append front zeros 0 i (rw all h), getD-take n (drop at f) i 0 h, getD-drop at f i 0) (fits (at + i))
+    go (no h) =
+        let k : i ≡ length front + (i - n) = omega (arith, all, h) in
+        rw (k, getD-append-add front zeros (i - n) 0, zero (15 - n) (i - n) (decLt (i - n) (15 - n))) (omega arith)
 
 -- a part of a file and what follows it
 pub on : (f : List ℕ) (a n : ℕ) → take n (drop a f) ++ drop (a + n) f ≡ drop a f
@@ -89,7 +128,7 @@ on f a n = rw (sym (drop-drop n a f)) (take-append-drop n (drop a f))
 
 -- ---- versions
 
-version-same : (v : ℕ) → 1 ≤ v → v ≤ 2 → pick (eqb v 2) 2 1 ≡ v
+version-same : (v : ℕ) → 1 ≤ v → v ≤ newestVersion → pick (eqb v 2) 2 1 ≡ v
 version-same v a b = go (eqb v 2) refl
   where
     go : (t : Bool) → eqb v 2 ≡ t → pick t 2 1 ≡ v
@@ -97,18 +136,18 @@ version-same v a b = go (eqb v 2) refl
     go false e = omega (arith, a, b, eqb-false v 2 e)
 
 -- the version of a page that is read, written again
-pub version-again : (f : List ℕ) (at : ℕ) → versionRefused f 2 ≡ false → versionOf (pageAt f at) ≡ getD f 0 0
+pub version-again : (f : List ℕ) (at : ℕ) → versionRefused f newestVersion ≡ false → versionOf (pageAt f at) ≡ versionIn f
 unfolding pageAt
-version-again f at e = let k = version-known f 2 e in version-same (getD f 0 0) (k .0) (k .1)
+version-again f at e = let k = version-known f newestVersion e in version-same (versionIn f) (k .0) (k .1)
 
-pub kept-same : (p : Page) → 1 ≤ p .version → p .version ≤ 2 → keptPage p ≡ p
+pub kept-same : (p : Page) → 1 ≤ p .version → p .version ≤ newestVersion → keptPage p ≡ p
 kept-same p a b = λ i. record { version = version-same (p .version) a b i; irs = p .irs; starts = p .starts; switches = p .switches; video = p .video }
 
 -- what is written is known, and is 2 where the version is
-pub written-known : (p : Page) → not (within 1 2 (versionOf p)) ≡ false
+pub written-known : (p : Page) → not (within 1 newestVersion (versionOf p)) ≡ false
 written-known p = go (eqb (p .version) 2)
   where
-    go : (t : Bool) → not (within 1 2 (pick t 2 1)) ≡ false
+    go : (t : Bool) → not (within 1 newestVersion (pick t 2 1)) ≡ false
     go true = refl
     go false = refl
 
@@ -126,44 +165,60 @@ kept-check p = rw (kept-two p)
 -- ---- the whole file
 
 -- a page file's parts, written again, are the same bytes
-pub page-again : (f : List ℕ) → Bytes f → length f ≡ 32797 → versionRefused f 2 ≡ false → longAt f 1 ≡ 32792
-    → fileOf (pageAt f 5) (take 16384 (drop 29 f)) (take 16384 (drop 16413 f)) ≡ f
-unfolding fileOf headOf
+pub page-again : (f : List ℕ) → Bytes f → length f ≡ fileSize (versionIn f) → versionRefused f newestVersion ≡ false → longAt f 1 ≡ lengthField (versionIn f)
+    → fileOf (pageAt f 5) (take 16384 (drop (charsPlace (versionIn f)) f)) (take 16384 (drop (attrsPlace (versionIn f)) f)) ≡ f
+unfolding fileOf headOf pageAt
 page-again f fits n v e =
-    let last : take 16384 (drop 16413 f) ≡ drop 16413 f = take-all 16384 (drop 16413 f) (rw (length-drop 16413 f) (omega (arith, n))) in
-    rw (version-again f 5 v, bytes-again f fits 5 (omega (arith, n)), last, on f 29 16384, on f 5 24)
-    (ap (λ (x : List ℕ). x ++ drop 5 f) (sym (front-again f fits 32792 (omega arith) n e)) ∙ take-append-drop 5 f)
+    let attrs = attrsPlace (versionIn f) in
+    let chars = charsPlace (versionIn f) in
+    let last : take 16384 (drop attrs f) ≡ drop attrs f = take-all 16384 (drop attrs f) (rw (length-drop attrs f) (omega (arith, n))) in
+    let behind : 5 + pageLength (versionIn f) ≡ chars = omega arith in
+    let page : take (pageLength (versionIn f)) (drop 5 f) ++ drop chars f ≡ drop 5 f = rw (sym behind) (on f 5 (pageLength (versionIn f))) in
+    rw (version-again f 5 v, bytes-again f fits 5 (omega (arith, n)), last, on f chars 16384, page)
+    (ap (λ (x : List ℕ). x ++ drop 5 f) (sym (front-again f fits (lengthField (versionIn f)) n e)) ∙ take-append-drop 5 f)
 
 pub word-kept : (x : ℕ) → x / 256 * 256 + x % 256 ≡ x
 word-kept x = omega arith
 
 -- a page that is written, read again, is the page that is kept
 pub page-kept : (p : Page) (rest : List ℕ) → length (p .irs) ≡ 15
-    → (f : List ℕ) (at : ℕ) → getD f 0 0 ≡ versionOf p → drop at f ≡ pageBytes p ++ rest → pageAt f at ≡ keptPage p
+    → (f : List ℕ) (at : ℕ) → versionIn f ≡ versionOf p → drop at f ≡ pageBytes p ++ rest → pageAt f at ≡ keptPage p
 unfolding tailOf pageAt wordAt
 page-kept p rest n f at v e = λ i. record {
   version = v i;
   irs = irs-kept i;
   starts = record {
-    start1 = (both 0 (at + 15) (omega arith) ∙ word-kept (p .starts .start1)) i;
-    cursor = (both 2 (at + 15 + 2) (omega arith) ∙ word-kept (p .starts .cursor)) i;
-    start2 = (both 4 (at + 15 + 4) (omega arith) ∙ word-kept (p .starts .start2)) i;
+    start1 = (both 0 (at + irsIn f) (omega (arith, as-many)) ∙ word-kept (p .starts .start1)) i;
+    cursor = (both 2 (at + irsIn f + 2) (omega (arith, as-many)) ∙ word-kept (p .starts .cursor)) i;
+    start2 = (both 4 (at + irsIn f + 4) (omega (arith, as-many)) ∙ word-kept (p .starts .start2)) i;
   };
-  switches = past 6 (at + 21) (omega arith) i;
-  video = record { dots = dots (past 7 (at + 22) (omega arith) i); strike = past 8 (at + 23) (omega arith) i };
+  switches = past 6 (at + irsIn f + 6) (omega (arith, as-many)) i;
+  video = record { dots = dots (past 7 (at + irsIn f + 7) (omega (arith, as-many)) i); strike = past 8 (at + irsIn f + 8) (omega (arith, as-many)) i };
 }
   where
+    m : ℕ
+    m = layoutOf (p .version) .irs
+
+    irs : List ℕ
+    irs = take m (p .irs)
+
     tail : List ℕ
     tail = tailOf p
 
-    parts : drop at f ≡ p .irs ++ (tail ++ rest)
-    parts = e ∙ append-assoc (p .irs) tail rest
+    as-many : irsIn f ≡ m
+    as-many = ap (λ (k : ℕ). layoutOf k .irs) v ∙ ap (λ (l : Layout). l .irs) (layout-kept p)
 
-    irs-kept : take 15 (drop at f) ≡ p .irs
-    irs-kept = rw parts (take-at (p .irs) (tail ++ rest) 15 n)
+    parts : drop at f ≡ irs ++ (tail ++ rest)
+    parts = e ∙ append-assoc irs tail rest
 
-    past : (k j : ℕ) → j ≡ at + (15 + k) → getD f j 0 ≡ getD (tail ++ rest) k 0
-    past k j q = byte f at (15 + k) j q ∙ rw parts (sym (getD-drop 15 (p .irs ++ (tail ++ rest)) k 0) ∙ rw (drop-at (p .irs) (tail ++ rest) 15 n))
+    irs-kept : irsAt (irsIn f) f at ≡ p .irs
+    irs-kept =
+        ap (λ (k : ℕ). irsAt k f at) as-many
+        ∙ ap (λ (l : List ℕ). l ++ replicate (15 - m) 0) (ap (take m) parts ∙ take-at irs (tail ++ rest) m (front-all p n))
+        ∙ irs-whole (p .version) (p .irs) n
 
-    both : (k j : ℕ) → j ≡ at + (15 + k) → getD f j 0 * 256 + getD f (j + 1) 0 ≡ getD (tail ++ rest) k 0 * 256 + getD (tail ++ rest) (k + 1) 0
+    past : (k j : ℕ) → j ≡ at + (m + k) → getD f j 0 ≡ getD (tail ++ rest) k 0
+    past k j q = byte f at (m + k) j q ∙ rw parts (sym (getD-drop m (irs ++ (tail ++ rest)) k 0) ∙ rw (drop-at irs (tail ++ rest) m (front-all p n)))
+
+    both : (k j : ℕ) → j ≡ at + (m + k) → getD f j 0 * 256 + getD f (j + 1) 0 ≡ getD (tail ++ rest) k 0 * 256 + getD (tail ++ rest) (k + 1) 0
     both k j q = rw (past k j q, past (k + 1) (j + 1) (omega (arith, q)))

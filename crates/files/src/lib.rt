@@ -1,10 +1,11 @@
 // Page and font files, read and written.
 ghost use mathlib.Core.Path.{_≡_};
-ghost use Prim.Native.Nat.{_+_, _*_, _/_, _%_, _≤_};
+ghost use Prim.Native.Nat.{_+_, _*_, _/_, _%_, _≤_, _<_};
 ghost use mathlib.Core.List.{_++_};
 ghost use lib.ListN.{length, take, drop};
-ghost use Rattle.files.specs.Page.{wordAt, startsAt, videoOf, pageAt, boardAt, tailOf, pageBytes};
-ghost use Rattle.files.specs.File.{longAt, versionRefused, lengthRefused, fileCheck, readCheck, fileOf, writeCheck, ReadsPage, WritesPage};
+ghost use Rattle.board.specs.Layout.{layoutOf, pageLength, lengthField, charsPlace, attrsPlace, fileSize};
+ghost use Rattle.files.specs.Page.{wordAt, startsAt, videoOf, versionIn, irsAt, pageAt, boardAt, longBytes, tailOf, pageBytes};
+ghost use Rattle.files.specs.File.{longAt, versionRefused, lengthRefused, fileCheck, readCheck, pageHead, fileOf, writeCheck, ReadsPage, WritesPage};
 ghost use Rattle.files.specs.FontFile.{wordsOf, byteOf, bytesIn, fontFileOf, ReadsFont, WritesFont};
 ghost use Rattle.copies.specs.Put.{putAt};
 ghost use Rattle.lists.specs.Tab.{tab};
@@ -30,13 +31,13 @@ fn word_at(bytes: &[u8], i: usize) -> u16
     word(bytes[i], bytes[i + 1])
 }
 
-// The fifteen IRs.
-fn irs_at(bytes: &[u8], at: usize) -> [u8; 15]
-    requires { ⌜ at + 15 ≤ length (now bytes) ⌝ }
-    ensures { λ r. ⌜ r ≡ take 15 (drop at (now (bytes .entry))) ⌝ }
+// The first n of a record's fifteen IRs; the others are zeros.
+fn irs_at(bytes: &[u8], at: usize, n: usize) -> [u8; 15]
+    requires { ⌜ (at + n ≤ length (now bytes)) × (n ≤ 15) ⌝ }
+    ensures { λ r. ⌜ r ≡ irsAt n (now (bytes .entry)) at ⌝ }
 {
     let mut irs = [0u8; 15];
-    copies::take_from(bytes, at, &mut irs);
+    copies::take_from(bytes, at, &mut irs[..n]);
     irs
 }
 
@@ -61,23 +62,26 @@ fn video(dots: u8, strike: u8) -> board::Video
     }
 }
 
-// The version, which stands first, and the 24 bytes that stand between a page file's length and its character memory.
+// The version, which stands first, and the bytes that stand between a page file's length and its character memory.
 pub fn page_at(bytes: &[u8], at: usize) -> board::Page
-    requires { ⌜ at + 24 ≤ length (now bytes) ⌝ }
+    requires { ⌜ at + pageLength (versionIn (now bytes)) ≤ length (now bytes) ⌝ }
     ensures { λ r. ⌜ r ≡ pageAt (now (bytes .entry)) at ⌝ }
 {
+    let version = bytes[0];
+    let n = board::irs_of(version);
+    let rest = at + n;
     board::Page {
-        version: bytes[0],
-        irs: irs_at(bytes, at),
-        starts: starts_at(bytes, at + 15),
-        switches: bytes[at + 21],
-        video: video(bytes[at + 22], bytes[at + 23]),
+        version,
+        irs: irs_at(bytes, at, n),
+        starts: starts_at(bytes, rest),
+        switches: bytes[rest + 6],
+        video: video(bytes[rest + 7], bytes[rest + 8]),
     }
 }
 
 // "A page read gives an active board at clock 0, pointer at IR0."
 pub fn board_at(bytes: &[u8], at: usize) -> board::Board
-    requires { ⌜ at + 24 ≤ length (now bytes) ⌝ }
+    requires { ⌜ at + pageLength (versionIn (now bytes)) ≤ length (now bytes) ⌝ }
     ensures { λ r. ⌜ r ≡ boardAt (now (bytes .entry)) at ⌝ }
 {
     board::Board {
@@ -134,11 +138,36 @@ fn file_check(file: &[u8], newest: u8, n: u32, size: bool) -> refusal::Refusal
     refusal::Refusal::Done
 }
 
+// Where a page file's character memory begins.
+pub fn chars_place(version: u8) -> usize
+    ensures { λ r. ⌜ r ≡ charsPlace version ⌝ }
+{
+    board::page_length(version) + 5
+}
+
+// The bytes that follow a page file's length.
+fn length_field(version: u8) -> u32
+    ensures { λ r. ⌜ (r ≡ lengthField version) × (r < 65536) ⌝ }
+{
+    board::page_length(version) as u32 + 32768
+}
+
+// The version byte, which says how long the file is; an empty file has none, which 1 refuses.
+fn version_in(file: &[u8]) -> u8
+    ensures { λ r. ⌜ r ≡ versionIn (now (file .entry)) ⌝ }
+{
+    if file.len() == 0 {
+        return 0;
+    }
+    file[0]
+}
+
 // 1, 2, 3, then the page's own; whether a lent part has a wrong size is the caller's to say.
 pub fn read_check(file: &[u8], size: bool) -> refusal::Refusal
     ensures { λ r. ⌜ r ≡ readCheck (now (file .entry)) size ⌝ }
 {
-    let refused = file_check(file, 2, 32792, size);
+    let n = length_field(version_in(file));
+    let refused = file_check(file, board::NEWEST_VERSION, n, size);
     if refusal::is_done(refused) {
         return timing::page_check(page_at(file, 5));
     }
@@ -152,8 +181,9 @@ pub fn read_page(file: &[u8], chars: &mut [u8], attrs: &mut [u8]) -> PageRead
     let size = board::memories_refused(chars.len(), attrs.len());
     let answer = read_check(file, size);
     if refusal::is_done(answer) {
-        copies::take_from(file, 29, chars);
-        copies::take_from(file, 16413, attrs);
+        let start = chars_place(file[0]);
+        copies::take_from(file, start, chars);
+        copies::take_from(file, start + 16384, attrs);
         return PageRead {
             refusal: answer,
             board: board_at(file, 5),
@@ -196,41 +226,55 @@ fn tail_of(p: board::Page) -> [u8; 9]
     ]
 }
 
-// The 24 bytes that `page_at` reads behind the version.
-pub fn page_bytes(p: board::Page) -> [u8; 24]
-    requires { ⌜ p .video .dots .0 ≤ 12 ⌝ }
-    ensures { λ r. ⌜ r ≡ pageBytes p ⌝ }
+// The bytes that `page_at` reads behind the version, put into out from a place on.
+pub fn put_bytes(p: board::Page, at: usize, out: &mut [u8])
+    requires { ⌜ (p .video .dots .0 ≤ 12) × (at + pageLength (p .version) ≤ length (now out)) ⌝ }
+    ensures { λ _. ⌜ now (out .exit) ≡ putAt at (pageBytes p) (now (out .entry)) ⌝ }
 {
     let irs = p.irs;
     let tail = tail_of(p);
-    let mut bytes = [0u8; 24];
-    copies::put(&irs, 0, &mut bytes);
-    copies::put(&tail, 15, &mut bytes);
-    bytes
+    let n = board::irs_of(p.version);
+    copies::put(&irs[..n], at, out);
+    copies::put(&tail, at + n, out);
+}
+
+// The version and the length in four bytes.
+fn head_of(p: board::Page) -> [u8; 5]
+    ensures { λ r. ⌜ r ≡ pageHead p ⌝ }
+{
+    let n = length_field(p.version) as u16;
+    [board::version_of(p), 0, 0, high(n), low(n)]
 }
 
 // A page's file into the front of out; bytes beyond it stay.
 fn put_file(p: board::Page, chars: &[u8], attrs: &[u8], out: &mut [u8])
     requires { ⌜ (p .video .dots .0 ≤ 12)
-        × (length (now chars) ≡ 16384) × (length (now attrs) ≡ 16384) × (32797 ≤ length (now out)) ⌝ }
-    ensures { λ _. ⌜ now (out .exit) ≡ fileOf p (now (chars .entry)) (now (attrs .entry)) ++ drop 32797 (now (out .entry)) ⌝ }
+        × (length (now chars) ≡ 16384) × (length (now attrs) ≡ 16384) × (fileSize (p .version) ≤ length (now out)) ⌝ }
+    ensures { λ _. ⌜ now (out .exit) ≡ fileOf p (now (chars .entry)) (now (attrs .entry)) ++ drop (fileSize (p .version)) (now (out .entry)) ⌝ }
 {
-    let version = board::version_of(p);
-    let head = [version, 0, 0, 128, 24];
-    let page = page_bytes(p);
+    let head = head_of(p);
+    let start = chars_place(p.version);
     copies::put(&head, 0, out);
-    copies::put(&page, 5, out);
-    copies::put(chars, 29, out);
-    copies::put(attrs, 16413, out);
+    put_bytes(p, 5, out);
+    copies::put(chars, start, out);
+    copies::put(attrs, start + 16384, out);
+}
+
+// How long a page file is.
+fn file_size(version: u8) -> usize
+    ensures { λ r. ⌜ r ≡ fileSize version ⌝ }
+{
+    board::page_length(version) + 32773
 }
 
 // 3, 12, 4, 13, 14, 15, 6, 7.
 fn write_check(b: board::Board, chars: usize, attrs: usize, out: usize) -> refusal::Refusal
     ensures { λ r. ⌜ r ≡ writeCheck b chars attrs out ⌝ }
 {
+    let short = out < file_size(b.page.version);
     timing::call_check(
         b,
-        board::memories_refused(chars, attrs) | (out < 32797),
+        board::memories_refused(chars, attrs) | short,
         false,
         false,
     )

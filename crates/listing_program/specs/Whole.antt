@@ -11,6 +11,7 @@ use Rattle.refusal.specs.declared.Refusal.the-variants.{Done}
 use Rattle.refusal.specs.Number.{doneOf}
 use Rattle.units.specs.Units.{clocks, lines, dots, dotsOf}
 use Rattle.board.specs.declared.Page.{Page}
+use Rattle.board.specs.Layout.{lastIr}
 use Rattle.timing.specs.Fields.{rowsOf, linesOf, hactOf, htOf, vtOf, visibleOf}
 use Rattle.timing.specs.declared.PageSize.{PageSize}
 use Rattle.timing.specs.Check.{pageCheck, sized, sizeOf, stateRefused, callCheck}
@@ -48,4 +49,4 @@ unfolding lineCheck callCheck stateRefused
 line-answers file e line h =
     let p = pageAt file 5 in
     let n = lineLength (boardAt file 5) in
-    rw (e, lt-leb (vtOf p) 0 (omega arith), lt-leb (htOf p) 0 (omega arith), lt-leb (visibleOf p .0) line h, le-ltb 3073 (n + 1) (omega (arith, dots-bound p (accepted p e))))
+    rw (e, lt-leb (vtOf p) 0 (omega arith), lt-leb (htOf p) 0 (omega arith), le-ltb (lastIr (p .version)) 0 (omega arith), lt-leb (visibleOf p .0) line h, le-ltb 3073 (n + 1) (omega (arith, dots-bound p (accepted p e))))

@@ -1,9 +1,9 @@
 -- A page's numbers in one buffer: the version byte, then the bytes of that version's page file between the length and the character memory, then zeros, which are ignored.
 use mathlib.Core.Path.{_≡_}
-use Prim.Native.Nat.{ℕ}
+use Prim.Native.Nat.{ℕ, _+_, _-_}
 use mathlib.Core.Bool.{Bool, _||_, not}
 use mathlib.Core.List.{List, _∷_, _++_}
-use lib.ListN.{length, getD, take, drop, replicate}
+use lib.ListN.{length, take, drop, replicate}
 use lib.Dec.{eqb}
 use Rattle.lists.specs.Choice.{pick}
 use Rattle.refusal.specs.declared.Refusal.{Refusal}
@@ -11,14 +11,15 @@ use Rattle.refusal.specs.declared.Refusal.the-variants.{Size}
 use Rattle.refusal.specs.Number.{doneOf}
 use Rattle.board.specs.declared.Page.{Page}
 use Rattle.board.specs.declared.Board.{Board}
+use Rattle.board.specs.Layout.{newestVersion, pageLength}
 use Rattle.board.specs.Modes.{versionOf}
 use Rattle.timing.specs.Check.{pageCheck}
-use Rattle.files.specs.Page.{pageAt, boardAt, pageBytes}
+use Rattle.files.specs.Page.{versionIn, pageAt, boardAt, pageBytes}
 use Rattle.files.specs.File.{versionRefused}
 
 -- 3: another size than 32 bytes, or a version that pages do not know
 unfoldable pub numbersRefused : List ℕ → Bool
-numbersRefused numbers = not (eqb (length numbers) 32) || versionRefused numbers 2
+numbersRefused numbers = not (eqb (length numbers) 32) || versionRefused numbers newestVersion
 
 -- 3 for the numbers, then the page's own 12, 4, 13, 14, 15, 6
 unfoldable pub numbersCheck : List ℕ → Refusal
@@ -28,26 +29,34 @@ numbersCheck numbers = pick (numbersRefused numbers) Size (pageCheck (pageAt num
 abbrev pub numbersBoard : List ℕ → Board
 numbersBoard numbers = boardAt numbers 1
 
--- the numbers of a version and a page's 24 bytes, with what stands behind them
+-- how many of the numbers count: the version and the page's bytes
+abbrev pub counted : (version : ℕ) → ℕ
+counted version = 1 + pageLength version
+
+-- the others, which are ignored, as they are given
+abbrev pub zerosAfter : (version : ℕ) → List ℕ
+zerosAfter version = replicate (32 - counted version) 0
+
+-- the numbers of a version and a page's bytes, with what stands behind them
 abbrev pub numbersFront : (version : ℕ) → (page rest : List ℕ) → List ℕ
 numbersFront version page rest = version ∷ (page ++ rest)
 
--- which are zeros
-abbrev pub numbersWith : (version : ℕ) → List ℕ → List ℕ
-numbersWith version page = numbersFront version page (replicate 7 0)
-
 -- those of a page file
 abbrev pub numbersIn : List ℕ → List ℕ
-numbersIn file = numbersWith (getD file 0 0) (take 24 (drop 5 file))
+numbersIn file = numbersFront (versionIn file) (take (pageLength (versionIn file)) (drop 5 file)) (zerosAfter (versionIn file))
 
 -- [more numbers]
--- those of a page: its version, IR0 to IR14, screen start 1, cursor and screen start 2 high byte first, switches, dots, strike line, seven zeros
+-- those of a page: its version, its IRs, screen start 1, cursor and screen start 2 high byte first, switches, dots, strike line, zeros
 abbrev pub pageNumbers : Page → List ℕ
-pageNumbers p = numbersWith (versionOf p) (pageBytes p)
+pageNumbers p = numbersFront (versionOf p) (pageBytes p) (zerosAfter (p .version))
 
 -- numbers with a page in the place of their own; the bytes that are ignored stay
 abbrev pub pageIn : Page → List ℕ → List ℕ
-pageIn p numbers = numbersFront (versionOf p) (pageBytes p) (drop 25 numbers)
+pageIn p numbers = numbersFront (versionOf p) (pageBytes p) (drop (counted (p .version)) numbers)
+
+-- the numbers that count, and zeros
+abbrev pub cleared : List ℕ → List ℕ
+cleared numbers = take (counted (versionIn numbers)) numbers ++ zerosAfter (versionIn numbers)
 
 -- only where nothing refuses it
 abbrev pub pageOrOwn : Refusal → Page → List ℕ → List ℕ

@@ -1,17 +1,18 @@
 // A page's numbers as C has them: 32 bytes, the version first.
 ghost use mathlib.Core.Path.{_≡_};
 ghost use mathlib.Core.Bool.{true};
-ghost use Prim.Native.Nat.{_≤_};
-ghost use lib.ListN.{length, drop};
+ghost use Prim.Native.Nat.{_+_, _≤_};
+ghost use lib.ListN.{length, drop, replicate};
 ghost use Rattle.refusal.specs.Number.{doneOf};
-ghost use Rattle.numbers.specs.Numbers.{numbersRefused, numbersCheck, numbersFront, numbersWith, pageOrOwn, GivesNumbers};
+ghost use Rattle.board.specs.Layout.{pageLength};
+ghost use Rattle.numbers.specs.Numbers.{numbersRefused, numbersCheck, zerosAfter, numbersFront, pageIn, pageOrOwn, GivesNumbers};
 ghost use Rattle.numbers.specs.Files.{ReadsFile, WritesFile};
 
 // 3, for a page's numbers.
 pub fn numbers_refused(numbers: &[u8]) -> bool
     ensures { λ r. ⌜ r ≡ numbersRefused (now (numbers .entry)) ⌝ }
 {
-    (numbers.len() != 32) | files::version_refused(numbers, 2)
+    (numbers.len() != 32) | files::version_refused(numbers, board::NEWEST_VERSION)
 }
 
 // The page check: 3, 12, 4, 13, 14, 15, 6.
@@ -24,34 +25,50 @@ pub fn numbers_check(numbers: &[u8]) -> refusal::Refusal
     timing::page_check(files::page_at(numbers, 1))
 }
 
-// The version and a page's 24 bytes; what stands behind them stays.
+// The version and a page's bytes; what stands behind them stays.
 fn put_front(version: u8, page: &[u8], numbers: &mut [u8])
-    requires { ⌜ (length (now page) ≡ 24) × (length (now numbers) ≡ 32) ⌝ }
-    ensures { λ _. ⌜ now (numbers .exit) ≡ numbersFront version (now (page .entry)) (drop 25 (now (numbers .entry))) ⌝ }
+    requires { ⌜ 1 + length (now page) ≤ length (now numbers) ⌝ }
+    ensures { λ _. ⌜ now (numbers .exit) ≡ numbersFront version (now (page .entry)) (drop (1 + length (now (page .entry))) (now (numbers .entry))) ⌝ }
 {
     let front = [version];
     copies::put(&front, 0, numbers);
     copies::put(page, 1, numbers);
 }
 
-// The version, a page's 24 bytes, and zeros.
-fn put_numbers(version: u8, page: &[u8], numbers: &mut [u8])
-    requires { ⌜ (length (now page) ≡ 24) × (length (now numbers) ≡ 32) ⌝ }
-    ensures { λ _. ⌜ now (numbers .exit) ≡ numbersWith version (now (page .entry)) ⌝ }
+fn clear(numbers: &mut [u8])
+    requires { ⌜ length (now numbers) ≡ 32 ⌝ }
+    ensures { λ _. ⌜ now (numbers .exit) ≡ replicate 32 0 ⌝ }
 {
-    let rest = [0u8; 7];
-    put_front(version, page, numbers);
-    copies::put(&rest, 25, numbers);
+    let zeros = [0u8; 32];
+    copies::put(&zeros, 0, numbers);
 }
 
-// Puts a page in the place of the numbers' own where nothing is refused. The bytes that are not looked at stay.
+// The version, a page's bytes, and zeros.
+fn put_numbers(version: u8, page: &[u8], numbers: &mut [u8])
+    requires { ⌜ (length (now page) ≡ pageLength version) × (length (now numbers) ≡ 32) ⌝ }
+    ensures { λ _. ⌜ now (numbers .exit) ≡ numbersFront version (now (page .entry)) (zerosAfter version) ⌝ }
+{
+    clear(numbers);
+    put_front(version, page, numbers);
+}
+
+// A page in the place of the numbers' own. The bytes that are not looked at stay.
+fn put_own(p: board::Page, numbers: &mut [u8])
+    requires { ⌜ (p .video .dots .0 ≤ 12) × (length (now numbers) ≡ 32) ⌝ }
+    ensures { λ _. ⌜ now (numbers .exit) ≡ pageIn p (now (numbers .entry)) ⌝ }
+{
+    let front = [board::version_of(p)];
+    copies::put(&front, 0, numbers);
+    files::put_bytes(p, 1, numbers);
+}
+
+// The same where nothing is refused.
 pub fn put_page(r: refusal::Refusal, p: board::Page, numbers: &mut [u8])
     requires { ⌜ (length (now numbers) ≡ 32) × (doneOf r ≡ true → p .video .dots .0 ≤ 12) ⌝ }
     ensures { λ _. ⌜ now (numbers .exit) ≡ pageOrOwn r p (now (numbers .entry)) ⌝ }
 {
     if refusal::is_done(r) {
-        let bytes = files::page_bytes(p);
-        put_front(board::version_of(p), &bytes, numbers);
+        put_own(p, numbers);
     }
 }
 
@@ -69,7 +86,8 @@ pub fn read_file(
     let judged = files::read_check(file, size);
     if refusal::is_done(judged) {
         files::read_page(file, chars, attrs);
-        put_numbers(file[0], &file[5..29], numbers);
+        let end = files::chars_place(file[0]);
+        put_numbers(file[0], &file[5..end], numbers);
     }
     judged
 }
@@ -93,8 +111,8 @@ pub fn numbers_of(b: board::Board, numbers: &mut [u8]) -> refusal::Refusal
     }
     let refused = timing::page_check(b.page);
     if refusal::is_done(refused) {
-        let bytes = files::page_bytes(b.page);
-        put_numbers(board::version_of(b.page), &bytes, numbers);
+        clear(numbers);
+        put_own(b.page, numbers);
     }
     refused
 }

@@ -12,9 +12,11 @@ use Rattle.refusal.specs.declared.Refusal.the-variants.{Done, Size}
 use Rattle.refusal.specs.Number.{numberOf, besideOf, doneOf}
 use Rattle.refusal.specs.Laws.{done-is}
 use Rattle.board.specs.declared.Board.{Board}
+use Rattle.board.specs.Layout.{fileSize}
 use Rattle.board.specs.Range.{memoriesRefused}
 use Rattle.timing.specs.Check.{callCheck}
 use Rattle.shape.specs.Font.{Font, fontOf, fontRefused}
+use Rattle.files.specs.Page.{versionIn, pageAt}
 use Rattle.files.specs.File.{readCheck, charsRead, attrsRead, writeCheck, written}
 use Rattle.files.specs.FontFile.{fontCheck, fontRead, fontWriteCheck, fontWritten}
 use Rattle.files.specs.Round.{Bytes}
@@ -57,13 +59,13 @@ module _ (n : ℕ) (file out : List ℕ) {r w : Refusal} {a : Answer} {out′ : 
 -- ---- a page
 
 -- a buffer that is too short
-write-short : (b : Board) (c a n : ℕ) → ltb n 32797 ≡ true → writeCheck b c a n ≡ Size
+write-short : (b : Board) (c a n : ℕ) → ltb n (fileSize (b .page .version)) ≡ true → writeCheck b c a n ≡ Size
 unfolding writeCheck callCheck
 write-short b c a n t = rw (t, or-true (memoriesRefused c a))
 
-page-short : (numbers chars attrs out : List ℕ) → ltb (length out) 32797 ≡ true
+page-short : (numbers chars attrs out : List ℕ) → ltb (length out) (fileSize (versionIn numbers)) ≡ true
     → (pageWriteCheck numbers (length chars) (length attrs) (length out) ≡ Size) × (pageWritten numbers chars attrs out ≡ out)
-unfolding pageWriteCheck pageWritten written
+unfolding pageWriteCheck pageWritten written pageAt
 page-short numbers chars attrs out t = rw (write-short (numbersBoard numbers) (length chars) (length attrs) (length out) t) (both (numbersRefused numbers))
   where
     both : (x : Bool) → (pick x Size Size ≡ Size) × (pick x out out ≡ out)
@@ -76,19 +78,23 @@ zeros n = replicate n 0
 
 module _ (file : List ℕ) (bytes : Bytes file) (out : List ℕ) {a : Answer} {numbers chars attrs : List ℕ}
     (read : (a ≡ answerOf (readCheck file false)) × (numbers ≡ numbersRead file false (zeros 32)) × (chars ≡ charsRead file false (zeros 16384)) × (attrs ≡ attrsRead file false (zeros 16384))) where
-  pub page-refused : (a .refusal ≡ 0 → ⊥) → (a ≡ answerOf (againCheck (readCheck file false) 32797 (length out))) × (out ≡ writtenAgain (readCheck file false) 32797 file out)
-  page-refused e = read-stops (readCheck file false) 32797 file out (read .0) e
+  version-read : readCheck file false ≡ Done → versionIn numbers ≡ versionIn file
+  unfolding numbersRead
+  version-read ok = rw (read .1, ok)
+
+  pub page-refused : (a .refusal ≡ 0 → ⊥) → (a ≡ answerOf (againCheck (readCheck file false) (fileSize (versionIn file)) (length out))) × (out ≡ writtenAgain (readCheck file false) (fileSize (versionIn file)) file out)
+  page-refused e = read-stops (readCheck file false) (fileSize (versionIn file)) file out (read .0) e
 
   pub page-wrote : a .refusal ≡ 0 → {w : Answer} {out′ : List ℕ}
       → (w ≡ answerOf (pageWriteCheck numbers (length chars) (length attrs) (length out))) × (out′ ≡ pageWritten numbers chars attrs out)
-      → (w ≡ answerOf (againCheck (readCheck file false) 32797 (length out))) × (out′ ≡ writtenAgain (readCheck file false) 32797 file out)
+      → (w ≡ answerOf (againCheck (readCheck file false) (fileSize (versionIn file)) (length out))) × (out′ ≡ writtenAgain (readCheck file false) (fileSize (versionIn file)) file out)
   page-wrote e {w} {out′} write =
       let ok : readCheck file false ≡ Done = answer-done _ (read .0) e in
-      wrote 32797 file out ok (write .0)
+      wrote (fileSize (versionIn file)) file out ok (write .0)
       (λ l. let s = page-same-from-c file (zeros 32) (zeros 16384) (zeros 16384) (ap numberOf ok) bytes out l in
       let zero : numberOf (pageWriteCheck numbers (length chars) (length attrs) (length out)) ≡ 0 = rw (read .1, read .2, read .3) (s .0) in
       (done-is (pageWriteCheck numbers (length chars) (length attrs) (length out)) (eq-eqb _ _ zero), write .1 ∙ rw (read .1, read .2, read .3) (s .1)))
-      (λ t. let s = page-short numbers chars attrs out t in (s .0, write .1 ∙ s .1))
+      (λ t. let s = page-short numbers chars attrs out (ap (λ (v : ℕ). ltb (length out) (fileSize v)) (version-read ok) ∙ t) in (s .0, write .1 ∙ s .1))
 
 -- ---- a font
 

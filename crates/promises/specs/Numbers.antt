@@ -13,19 +13,20 @@ use Rattle.refusal.specs.declared.Refusal.{Refusal}
 use Rattle.refusal.specs.declared.Refusal.the-variants.{Done, Size}
 use Rattle.refusal.specs.Number.{numberOf, doneOf}
 use Rattle.refusal.specs.Laws.{done-is, passed}
+use Rattle.board.specs.declared.Page.{Page}
+use Rattle.board.specs.Layout.{newestVersion, layoutOf, pageLength, lengthField, fileSize}
 use Rattle.board.specs.Modes.{versionOf}
 use Rattle.board.specs.Range.{memoriesRefused}
-use Rattle.board.specs.Laws.{memories-all}
+use Rattle.board.specs.Laws.{memories-all, layout-kept}
 use Rattle.timing.specs.Check.{pageCheck, stateRefused, callCheck}
-use Rattle.copies.specs.Put.{length-part}
 use Rattle.files.specs.declared.PageRead.{PageRead}
-use Rattle.files.specs.Page.{pageAt, pageBytes}
-use Rattle.files.specs.File.{versionRefused, fileCheck, readCheck, readPageOf, headOf, fileOf, writeCheck, written}
-use Rattle.files.specs.Laws.{file-passed, bytes-all}
+use Rattle.files.specs.Page.{versionIn, pageAt, pageBytes}
+use Rattle.files.specs.File.{fileCheck, readCheck, readPageOf, headOf, fileOf, writeCheck, written}
+use Rattle.files.specs.Laws.{file-passed, page-irs, bytes-all}
 use Rattle.files.specs.Round.{Bytes}
-use Rattle.numbers.specs.Numbers.{numbersRefused, numbersBoard, numbersWith, numbersIn, numbersCheck}
+use Rattle.numbers.specs.Numbers.{numbersRefused, numbersBoard, zerosAfter, numbersFront, numbersIn, cleared, numbersCheck}
 use Rattle.numbers.specs.Files.{pageReadSize, numbersRead}
-use Rattle.numbers.specs.Laws.{numbers-all, numbers-passed, numbers-version, saved-numbers}
+use Rattle.numbers.specs.Laws.{numbers-passed, numbers-room, saved-numbers}
 use Rattle.feldrime.specs.declared.Answer.{Answer}
 use Rattle.feldrime.specs.declared.BoardAnswer.{BoardAnswer}
 use Rattle.feldrime.specs.Answers.{answerOf}
@@ -41,20 +42,23 @@ numbersAgainCheck numbers chars attrs room =
 
 -- version and page as they were, then zeros; on a refusal what stood there
 unfoldable pub numbersAgain : (numbers : List ℕ) (chars attrs : ℕ) (out : List ℕ) → List ℕ
-numbersAgain numbers chars attrs out = pick (doneOf (numbersAgainCheck numbers chars attrs (length out))) (take 25 numbers ++ replicate 7 0) out
+numbersAgain numbers chars attrs out = pick (doneOf (numbersAgainCheck numbers chars attrs (length out))) (cleared numbers) out
 
 -- ---- the numbers of a page's file are the page's numbers
 
-numbers-of : (xs chars attrs : List ℕ) → Bytes xs → length xs ≡ 32 → versionRefused xs 2 ≡ false → numbersIn (fileOf (pageAt xs 1) chars attrs) ≡ take 25 xs ++ replicate 7 0
-unfolding fileOf headOf pageAt
-numbers-of xs chars attrs fits n v = ap (numbersWith (versionOf (pageAt xs 1))) part ∙ saved-numbers xs fits n v
+numbers-of : (xs chars attrs : List ℕ) → Bytes xs → numbersRefused xs ≡ false → numbersIn (fileOf (pageAt xs 1) chars attrs) ≡ cleared xs
+unfolding fileOf headOf
+numbers-of xs chars attrs fits fine = rw (layout-kept own) (ap (λ (l : List ℕ). numbersFront (versionOf own) l (zerosAfter (own .version))) part) ∙ saved-numbers xs fits fine
   where
-    part : take 24 (drop 5 (headOf (pageAt xs 1) ++ (chars ++ attrs))) ≡ pageBytes (pageAt xs 1)
-    part = take-at (pageBytes (pageAt xs 1)) (chars ++ attrs) 24 (bytes-all (pageAt xs 1) (length-part xs 1 15 (omega (arith, n))))
+    own : Page
+    own = pageAt xs 1
+
+    part : take (pageLength (own .version)) (drop 5 (headOf own ++ (chars ++ attrs))) ≡ pageBytes own
+    part = take-at (pageBytes own) (chars ++ attrs) (pageLength (own .version)) (bytes-all own (page-irs xs 1 (numbers-room xs fine)))
 
 -- ---- the write, and the read of what was written
 
--- as many zeros as a file has bytes
+-- as many zeros as the longest file has bytes
 abbrev zeros : List ℕ
 zeros = replicate 32797 0
 
@@ -81,7 +85,7 @@ module _ (numbers : List ℕ) (fits : Bytes numbers) (chars attrs out : List ℕ
     at-zero = range-ok (numbersBoard numbers) (record { line-lt = omega arith; clock-lt = omega arith; beam-le = omega arith; row-le = omega arith; pointer-le = omega arith })
 
     write-is : writeCheck (numbersBoard numbers) (length chars) (length attrs) 32797 ≡ pick (memoriesRefused (length chars) (length attrs)) Size Done
-    unfolding writeCheck callCheck
+    unfolding writeCheck callCheck layoutOf
     write-is = go (memoriesRefused (length chars) (length attrs)) refl
       where
         go : (t : Bool) → memoriesRefused (length chars) (length attrs) ≡ t → writeCheck (numbersBoard numbers) (length chars) (length attrs) 32797 ≡ pick t Size Done
@@ -104,8 +108,7 @@ module _ (numbers : List ℕ) (fits : Bytes numbers) (chars attrs out : List ℕ
       fine = passed (memoriesRefused (length chars) (length attrs)) Size Done refl (sym wrote-is ∙ done-is w (eq-eqb _ _ (sym e ∙ y))) .0
 
       irs-all : length (numbersBoard numbers .page .irs) ≡ 15
-      unfolding pageAt
-      irs-all = length-part numbers 1 15 (omega (arith, numbers-all numbers (numbers-passed numbers done)))
+      irs-all = page-irs numbers 1 (numbers-room numbers (numbers-passed numbers done))
 
       ok : writeCheck (numbersBoard numbers) (length chars) (length attrs) 32797 ≡ Done
       ok = write-is ∙ rw fine
@@ -114,16 +117,16 @@ module _ (numbers : List ℕ) (fits : Bytes numbers) (chars attrs out : List ℕ
       laid = fileOf (numbersBoard numbers .page) chars attrs
 
       laid-is : written (numbersBoard numbers) chars attrs zeros ≡ laid
-      unfolding written
+      unfolding written layoutOf
       laid-is = rw ok (append-nil laid)
 
       file-is : file ≡ laid
       file-is = wrote .1 ∙ rw (made-done numbers made z .1) laid-is
 
-      front : file ≡ take 32797 (written (numbersBoard numbers) chars attrs zeros)
+      front : file ≡ take (fileSize (numbersBoard numbers .page .version)) (written (numbersBoard numbers) chars attrs zeros)
       front =
           let c = memories-all (length chars) (length attrs) fine in
-          file-is ∙ rw laid-is (sym (take-all 32797 laid (omega (arith, length-file (numbersBoard numbers .page) chars attrs irs-all (c .0) (c .1)))))
+          file-is ∙ rw laid-is (sym (take-all (fileSize (numbersBoard numbers .page .version)) laid (omega (arith, length-file (numbersBoard numbers .page) chars attrs irs-all (c .0) (c .1)))))
 
       read-done : readCheck file false ≡ Done
       unfolding readPageOf
@@ -132,11 +135,11 @@ module _ (numbers : List ℕ) (fits : Bytes numbers) (chars attrs out : List ℕ
       read-is : (size : Bool) → readCheck file size ≡ pick size Size Done
       unfolding readCheck fileCheck
       read-is size =
-          let p = file-passed file 2 32792 false (pageCheck (pageAt file 5)) read-done in
+          let p = file-passed file newestVersion (lengthField (versionIn file)) false (pageCheck (pageAt file 5)) read-done in
           rw (p .version-ok, p .length-ok, p .rest-ok)
 
-      numbers-are : numbersIn file ≡ take 25 numbers ++ replicate 7 0
-      numbers-are = rw file-is (numbers-of numbers chars attrs fits (numbers-all numbers (numbers-passed numbers done)) (numbers-version numbers (numbers-passed numbers done)))
+      numbers-are : numbersIn file ≡ cleared numbers
+      numbers-are = rw file-is (numbers-of numbers chars attrs fits (numbers-passed numbers done))
 
       pub numbers-read : {a : Answer} {x : List ℕ}
           → (a ≡ answerOf (readCheck file (pageReadSize (length out) 16384 16384))) × (x ≡ numbersRead file (pageReadSize (length out) 16384 16384) out) → Again a x

@@ -2,10 +2,10 @@
 use Prim.Native.Nat.{ℕ}
 use mathlib.Core.Path.{_≡_, refl, ap, _∙_}
 use mathlib.Core.Bool.{Bool, true, false, not}
-use mathlib.Core.List.{List, _++_}
+use mathlib.Core.List.{List}
 use borrow.Author.Tests.{ne-eqb, eqb-true}
 use lib.Dec.{eqb}
-use lib.ListN.{length, take, replicate}
+use lib.ListN.{length, replicate}
 use Rattle.lists.specs.Choice.{pick}
 use Rattle.refusal.specs.declared.Refusal.{Refusal}
 use Rattle.refusal.specs.declared.Refusal.the-variants.{Done, Size}
@@ -15,7 +15,7 @@ use Rattle.board.specs.State.{powerOf, boardOf}
 use Rattle.timing.specs.Check.{pageCheck}
 use Rattle.files.specs.Page.{keptPage}
 use Rattle.files.specs.Round.{Bytes}
-use Rattle.numbers.specs.Numbers.{numbersCheck, numbersBoard, numbersOfCheck, numbersOf}
+use Rattle.numbers.specs.Numbers.{numbersCheck, numbersBoard, cleared, numbersOfCheck, numbersOf}
 use Rattle.feldrime.specs.declared.Answer.{Answer}
 use Rattle.feldrime.specs.declared.BoardAnswer.{BoardAnswer}
 use Rattle.feldrime.specs.Answers.{answerOf, boardAnswer}
@@ -34,7 +34,7 @@ savedCheck numbers room = pick (doneOf (numbersCheck numbers)) (pick (not (eqb r
 
 -- version and page as they were, then zeros; on a refusal what stood there
 unfoldable pub savedNumbers : (numbers out : List ℕ) → List ℕ
-savedNumbers numbers out = pick (doneOf (savedCheck numbers (length out))) (take 25 numbers ++ replicate 7 0) out
+savedNumbers numbers out = pick (doneOf (savedCheck numbers (length out))) (cleared numbers) out
 
 -- ---- a board
 
@@ -74,6 +74,6 @@ module _ (numbers : List ℕ) (fits : Bytes numbers) (out : List ℕ) {m : Board
       go true t =
           let back = numbers-back numbers fits out (eqb-true _ _ t) (done .0) in
           let answers : numbersOfCheck (m .board) (length out) ≡ Done = rw (done .1) (back .0) in
-          let leaves : numbersOf (m .board) out ≡ take 25 numbers ++ replicate 7 0 = rw (done .1) (back .1) in
+          let leaves : numbersOf (m .board) out ≡ cleared numbers = rw (done .1) (back .1) in
           (rw (done .0, t) (s .0 ∙ ap answerOf answers), rw (done .0, t) (s .1 ∙ leaves))
       go false t = (rw (done .0, t) (s .0 ∙ rw t), rw (done .0, t) (s .1 ∙ rw t))

@@ -3,6 +3,8 @@ use feldrime::Answer;
 ghost use mathlib.Core.Path.{_≡_};
 ghost use mathlib.Core.Bool.{false};
 ghost use lib.ListN.{length};
+ghost use Rattle.board.specs.Layout.{fileSize};
+ghost use Rattle.files.specs.Page.{versionIn};
 ghost use Rattle.files.specs.File.{readCheck};
 ghost use Rattle.files.specs.FontFile.{fontCheck};
 ghost use Rattle.feldrime.specs.Answers.{answerOf};
@@ -11,8 +13,8 @@ ghost use Rattle.promises.specs.Numbers.{numbersAgainCheck, numbersAgain
 
 // A page file that is accepted is written as the same bytes.
 pub fn page_again(file: &[u8], out: &mut [u8]) -> Answer
-    ensures { λ r. ⌜ (r ≡ answerOf (againCheck (readCheck (now (file .entry)) false) 32797 (length (now (out .entry)))))
-        × (now (out .exit) ≡ writtenAgain (readCheck (now (file .entry)) false) 32797 (now (file .entry)) (now (out .entry))) ⌝ }
+    ensures { λ r. ⌜ (r ≡ answerOf (againCheck (readCheck (now (file .entry)) false) (fileSize (versionIn (now (file .entry)))) (length (now (out .entry)))))
+        × (now (out .exit) ≡ writtenAgain (readCheck (now (file .entry)) false) (fileSize (versionIn (now (file .entry)))) (now (file .entry)) (now (out .entry))) ⌝ }
 {
     let mut numbers = [0u8; 32];
     let mut chars = [0u8; 16384];

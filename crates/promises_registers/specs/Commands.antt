@@ -1,7 +1,7 @@
 -- What commands do. Assumes nothing.
 use Prim.Native.Nat.{ℕ, _+_, _-_, _*_, _/_, _%_, _≤_, _<_}
 use mathlib.Core.Path.{_≡_, refl, ap, _∙_}
-use mathlib.Core.Bool.{Bool, true, false, _&&_, _||_, not}
+use mathlib.Core.Bool.{Bool, true, false, _&&_, _||_, not, true≢false}
 use mathlib.Core.List.{_∷_}
 use native.Mathlib.Omega.{arith}
 use borrow.Author.Tests.{ne-eqb, leb-true, le-ltb}
@@ -10,9 +10,12 @@ use lib.Dec.{eqb, leb}
 use Rattle.lists.specs.Choice.{pick, within, hasBit, inside, over, both, neither, pick-lt}
 use Rattle.units.specs.Units.{dots}
 use Rattle.refusal.specs.declared.Refusal.the-variants.{Done, Command}
+use Rattle.board.specs.declared.Page.{Page}
 use Rattle.board.specs.declared.Board.{Board}
 use Rattle.board.specs.State.{clockZero, powerOf}
-use Rattle.board.specs.Range.{addressRefused}
+use Rattle.board.specs.Layout.{layoutOf, lastIr}
+use Rattle.board.specs.Range.{addressRefused, pointerRefused}
+use Rattle.board.specs.Laws.{layout-fits}
 use Rattle.registers.specs.declared.Written.{Written}
 use Rattle.registers.specs.Parts.{withIrs, withSwitches, withPage, withPointer, answer}
 use Rattle.registers.specs.Write.{registerCheck, pointedOf, switchesAfter, switchedOf, commandOf, nextPointer, activeOf, inactiveOf, writeOf}
@@ -38,7 +41,7 @@ loadedFirst byte = record {
 
 -- a byte in one register, and the pointer at the next
 abbrev pub loadedAt : Board → (n byte : ℕ) → Board
-loadedAt b n byte = withPointer (withPage b (withIrs (b .page) (set (b .page .irs) n byte))) (nextPointer n)
+loadedAt b n byte = withPointer (withPage b (withIrs (b .page) (set (b .page .irs) n byte))) (nextPointer (lastIr (b .page .version)) n)
 
 -- of 20 to 3F hex those that name display or cursor, by bits 3 and 4, and not graphics, by bit 1
 abbrev pub switching : ℕ → Bool
@@ -53,22 +56,22 @@ switchedBy b first second =
     let s = b .page .switches in
     withPage b (withSwitches (b .page) (s / 4 * 4 + 2 * lastSaid 16 first second (s / 2 % 2) + lastSaid 8 first second (s % 2)))
 
--- the reset, the pointer's loads, and these
-abbrev pub carried : ℕ → Bool
-carried v = eqb v 0 || (within 16 30 v || switching v)
+-- the reset, the loads of a pointer that the page has, and these
+abbrev pub carried : Page → ℕ → Bool
+carried p v = eqb v 0 || (within 16 31 v && not (pointerRefused p (v - 16)) || switching v)
 
 -- ---- two resets, and one
 
 module _ {off : Board} {once : BoardAnswer} (p : off ≡ powerOf) (q : once ≡ writeFor off 1 0) where
   pub wakes : (byte : ℕ) {twice r : BoardAnswer} → twice ≡ writeFor (once .board) 1 0 → r ≡ writeFor (twice .board) 0 byte → r ≡ boardAnswer Done (loadedFirst byte)
-  unfolding writeOf registerCheck addressRefused activeOf inactiveOf commandOf
+  unfolding writeOf registerCheck addressRefused activeOf inactiveOf commandOf layoutOf
   wakes byte e g =
       let one = q ∙ ap (λ (x : Board). writeFor x 1 0) p in
       let two = e ∙ ap (λ (x : BoardAnswer). writeFor (x .board) 1 0) one in
       g ∙ ap (λ (x : BoardAnswer). writeFor (x .board) 0 byte) two
 
   pub wakes-not : (byte : ℕ) {r : BoardAnswer} → r ≡ writeFor (once .board) 0 byte → r ≡ boardAnswer Done powerOf
-  unfolding writeOf registerCheck addressRefused inactiveOf
+  unfolding writeOf registerCheck addressRefused inactiveOf layoutOf
   wakes-not byte g = g ∙ ap (λ (x : BoardAnswer). writeFor (x .board) 0 byte) (q ∙ ap (λ (x : Board). writeFor x 1 0) p)
 
 -- ---- an active board
@@ -78,28 +81,38 @@ module _ {b : Board} (r : Ready b) where
   unfolding activeOf
   commanded v = ap (λ (x : Written). boardAnswer (x .refusal) (x .board)) (writes r 1 v)
 
-  pub refused : (v : ℕ) → carried v ≡ false → {x : BoardAnswer} → x ≡ writeFor b 1 v → x ≡ boardAnswer Command b
+  pub refused : (v : ℕ) → carried (b .page) v ≡ false → {x : BoardAnswer} → x ≡ writeFor b 1 v → x ≡ boardAnswer Command b
   unfolding commandOf
   refused v e q =
-      let zero = neither (eqb v 0) (within 16 30 v || switching v) e in
-      let pointer = neither (within 16 30 v) (switching v) (zero .1) in
-      q ∙ commanded v ∙ rw (zero .0, pointer .0) (go (within 32 63 v) (eqb (v / 2 % 2) 0 && not (eqb (v / 8 % 4) 0)) (pointer .1))
+      let zero = neither (eqb v 0) (within 16 31 v && not (pointerRefused (b .page) (v - 16)) || switching v) e in
+      let pointer = neither (within 16 31 v && not (pointerRefused (b .page) (v - 16))) (switching v) (zero .1) in
+      q ∙ commanded v ∙ rw (zero .0) (points (within 16 31 v) (pointerRefused (b .page) (v - 16)) (pointer .0) _ (go (within 32 63 v) (eqb (v / 2 % 2) 0 && not (eqb (v / 8 % 4) 0)) (pointer .1)))
     where
+      points : (t u : Bool) → (t && not u) ≡ false → (x : Written) → boardAnswer (x .refusal) (x .board) ≡ boardAnswer Command b
+          → boardAnswer (pick t (pick u (answer Command b) (answer Done (pointedOf b (v - 16)))) x .refusal) (pick t (pick u (answer Command b) (answer Done (pointedOf b (v - 16)))) x .board)
+          ≡ boardAnswer Command b
+      points true true p x e = refl
+      points true false p x e = absurd (true≢false p)
+      points false u p x e = e
+
       go : (t u : Bool) → (t && u) ≡ false
           → boardAnswer (pick t (pick u (answer Done (switchedOf b v)) (answer Command b)) (answer Command b) .refusal)
           (pick t (pick u (answer Done (switchedOf b v)) (answer Command b)) (answer Command b) .board) ≡ boardAnswer Command b
       go true u p = rw p
       go false u p = refl
 
-  module _ (v : ℕ) (lo : 16 ≤ v) (hi : v ≤ 30) where
+  module _ (v : ℕ) (lo : 16 ≤ v) (hi : v ≤ lastIr (b .page .version) + 16) where
+    fine : pointerRefused (b .page) (v - 16) ≡ false
+    fine = le-ltb (lastIr (b .page .version)) (v - 16) (omega (arith, hi))
+
     pointed : writeFor b 1 v ≡ boardAnswer Done (pointedOf b (v - 16))
     unfolding commandOf
-    pointed = commanded v ∙ rw (ne-eqb v 0 (λ e. omega (arith, e, lo)), inside 16 30 v lo hi)
+    pointed = commanded v ∙ rw (ne-eqb v 0 (λ e. omega (arith, e, lo)), inside 16 31 v lo (omega (arith, hi, layout-fits (b .page .version) .irs-most)), fine)
 
     ready-pointed : Ready (pointedOf b (v - 16))
     ready-pointed =
         let p = parts r in
-        ready (pointedOf b (v - 16)) (r .active) (record { starts = p .starts; switches = p .switches; strike = p .strike; pointer = le-ltb 14 (v - 16) (omega (arith, hi)) })
+        ready (pointedOf b (v - 16)) (r .active) (record { starts = p .starts; switches = p .switches; strike = p .strike; pointer = fine })
 
     pub loaded : (byte : ℕ) {one two : BoardAnswer} → one ≡ writeFor b 1 v → two ≡ writeFor (one .board) 0 byte → two ≡ boardAnswer Done (loadedAt b (v - 16) byte)
     unfolding activeOf
@@ -131,7 +144,7 @@ module _ {b : Board} (r : Ready b) (v : ℕ) (e : switching v ≡ true) where
   switches-set =
       let t = both (within 32 63 v) (eqb (v / 2 % 2) 0 && not (eqb (v / 8 % 4) 0)) e in
       let lo : 32 ≤ v = leb-true _ _ (both (leb 32 v) (leb v 63) (t .0) .0) in
-      commanded r v ∙ rw (ne-eqb v 0 (λ q. omega (arith, q, lo)), over 16 30 v (omega (arith, lo)), t .0, t .1)
+      commanded r v ∙ rw (ne-eqb v 0 (λ q. omega (arith, q, lo)), over 16 31 v (omega (arith, lo)), t .0, t .1)
 
   ready-switched : Ready (switchedOf b v)
   ready-switched =

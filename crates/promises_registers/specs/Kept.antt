@@ -1,5 +1,5 @@
 -- A refusal keeps the board. Assumes nothing.
-use Prim.Native.Nat.{ℕ, _/_, _%_}
+use Prim.Native.Nat.{ℕ, _-_, _/_, _%_}
 use mathlib.Core.Path.{_≡_, refl, ap, _∙_}
 use mathlib.Core.Bool.{Bool, true, false, _&&_, not}
 use mathlib.Core.List.{List}
@@ -11,6 +11,7 @@ use Rattle.refusal.specs.declared.Refusal.{Refusal}
 use Rattle.refusal.specs.declared.Refusal.the-variants.{Done, Register, Command}
 use Rattle.refusal.specs.Number.{numberOf, doneOf}
 use Rattle.board.specs.declared.Board.{Board}
+use Rattle.board.specs.Range.{pointerRefused}
 use Rattle.place.specs.State.{stateCheck, stateOf}
 use Rattle.registers.specs.declared.Written.{Written}
 use Rattle.registers.specs.Parts.{answer}
@@ -45,7 +46,7 @@ write-keeps b a v =
     (either (eqb a 0) _ _ (done _)
     (either (eqb a 1) _ _
     (either (eqb v 0) _ _ (done _)
-    (either (within 16 30 v) _ _ (done _)
+    (either (within 16 31 v) _ _ (either (pointerRefused (b .page) (v - 16)) _ _ (same Command) (done _))
     (either (within 32 63 v) _ _ (either (eqb (v / 2 % 2) 0 && not (eqb (v / 8 % 4) 0)) _ _ (done _) (same Command)) (same Command))))
     (either (within 2 7 a) _ _ (done _) (same Register))))
     (either (within 0 7 a) _ _ (either (eqb a 1 && eqb v 0) _ _ (done _) (done _)) (same Register)))

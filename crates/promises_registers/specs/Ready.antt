@@ -31,13 +31,13 @@ pub record Parts (b : Board) : Type 0 where
   pub starts : startsRefused (b .page .starts) ≡ false
   pub switches : switchesRefused (b .page .version) (b .page .switches) ≡ false
   pub strike : ltb 15 (b .page .video .strike) ≡ false
-  pub pointer : pointerRefused (b .pointer) ≡ false
+  pub pointer : pointerRefused (b .page) (b .pointer) ≡ false
 
 pub parts : {b : Board} → Ready b → Parts b
 unfolding registerCheck addressRefused
 parts {b} r =
     let a = passed (addressRefused (b .page)) Address _ refl (r .taken) in
-    let p = passed (pointerRefused (b .pointer)) Range _ refl (a .1) in
+    let p = passed (pointerRefused (b .page) (b .pointer)) Range _ refl (a .1) in
     let three = neither (startsRefused (b .page .starts) || switchesRefused (b .page .version) (b .page .switches)) (ltb 15 (b .page .video .strike)) (a .0) in
     let two = neither (startsRefused (b .page .starts)) (switchesRefused (b .page .version) (b .page .switches)) (three .0) in
     record { starts = two .0; switches = two .1; strike = three .1; pointer = p .0 }

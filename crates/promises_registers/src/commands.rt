@@ -2,9 +2,10 @@
 use feldrime::BoardAnswer;
 ghost use mathlib.Core.Path.{_≡_};
 ghost use mathlib.Core.Bool.{true, false};
-ghost use Prim.Native.Nat.{_≤_, _-_};
+ghost use Prim.Native.Nat.{_+_, _-_, _≤_};
 ghost use Rattle.refusal.specs.declared.Refusal.{Refusal};
 ghost use Rattle.board.specs.State.{powerOf};
+ghost use Rattle.board.specs.Layout.{lastIr};
 ghost use Rattle.feldrime.specs.Answers.{boardAnswer};
 ghost use Rattle.promises_registers.specs.Ready.{Ready};
 ghost use Rattle.promises_registers.specs.Commands.{loadedFirst, loadedAt, switching, switchedBy, carried};
@@ -31,9 +32,9 @@ pub fn half_woken(byte: u8) -> BoardAnswer
     feldrime::feldrime_register_write(one, 0, byte)
 }
 
-// 10 to 1E hex: the next write at 0 loads the register that the command names, and no other.
+// From 10 hex up to the last IR of the page: the next write at 0 loads the register that the command names, and no other.
 pub fn pointed_load(b: board::Board, command: u8, byte: u8) -> BoardAnswer
-    ensures { λ r. ⌜ (Ready b → 16 ≤ command → command ≤ 30 → r ≡ boardAnswer Refusal.Done (loadedAt b (command - 16) byte)) ⌝ }
+    ensures { λ r. ⌜ (Ready b → 16 ≤ command → command ≤ lastIr (b .page .version) + 16 → r ≡ boardAnswer Refusal.Done (loadedAt b (command - 16) byte)) ⌝ }
 {
     let pointed = feldrime::feldrime_register_write(b, 1, command);
     let board = pointed.board;
@@ -51,7 +52,7 @@ pub fn switched(b: board::Board, first: u8, second: u8) -> BoardAnswer
 
 // Every other byte is refused by 10, and the board stays.
 pub fn not_carried(b: board::Board, command: u8) -> BoardAnswer
-    ensures { λ r. ⌜ (Ready b → carried command ≡ false → r ≡ boardAnswer Refusal.Command b) ⌝ }
+    ensures { λ r. ⌜ (Ready b → carried (b .page) command ≡ false → r ≡ boardAnswer Refusal.Command b) ⌝ }
 {
     feldrime::feldrime_register_write(b, 1, command)
 }

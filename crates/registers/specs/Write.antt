@@ -11,6 +11,7 @@ use Rattle.refusal.specs.Number.{doneOf}
 use Rattle.board.specs.declared.Starts.{Starts}
 use Rattle.board.specs.declared.Board.{Board}
 use Rattle.board.specs.State.{clockZero}
+use Rattle.board.specs.Layout.{lastIr}
 use Rattle.board.specs.Range.{addressRefused, pointerRefused}
 use Rattle.registers.specs.declared.Written.{Written}
 use Rattle.registers.specs.Parts.{withIrs, withStarts, withSwitches, withPage, withPointer, withResets, answer}
@@ -18,7 +19,7 @@ use Rattle.registers.specs.Parts.{withIrs, withStarts, withSwitches, wit
 -- [refusal kinds] which numbers each kind of call gives; after 9 an inactive board answers 0
 -- register calls give 12, then 7 for the pointer
 unfoldable pub registerCheck : Board → Refusal
-registerCheck b = firstOf ((addressRefused (b .page), Address) ∷ (pointerRefused (b .pointer), Range) ∷ []) Done
+registerCheck b = firstOf ((addressRefused (b .page), Address) ∷ (pointerRefused (b .page) (b .pointer), Range) ∷ []) Done
 
 -- ---- the commands
 
@@ -41,6 +42,10 @@ resetOf b = record {
 abbrev pub pointedOf : Board → ℕ → Board
 pointedOf b n = withPointer b n
 
+-- a pointer above the last IR of the page is not carried
+abbrev pub pointOf : Board → ℕ → Written
+pointOf b n = pick (pointerRefused (b .page) n) (answer Command b) (answer Done (pointedOf b n))
+
 -- [register commands]
 -- bit 3 names the display, bit 4 the cursor, bit 0 says on
 abbrev pub switchesAfter : ℕ → ℕ → ℕ
@@ -52,11 +57,11 @@ abbrev pub switchedOf : Board → ℕ → Board
 switchedOf b v = withPage b (withSwitches (b .page) (switchesAfter (b .page .switches) v))
 
 -- [register commands] the six commands; a byte that combines display and cursor does both, with any other it is not carried
--- 003 Table 6: 00 is master reset, 10 to 1E load the pointer; of 20 to 3F those that name display or cursor and not graphics
+-- 003 Table 6: 00 is master reset, 10 to 1F load the pointer; of 20 to 3F those that name display or cursor and not graphics
 unfoldable pub commandOf : Board → ℕ → Written
 commandOf b v =
     pick (eqb v 0) (answer Done (resetOf b))
-    (pick (within 16 30 v) (answer Done (pointedOf b (v - 16)))
+    (pick (within 16 31 v) (pointOf b (v - 16))
     (pick (within 32 63 v)
     (pick (eqb (v / 2 % 2) 0 && not (eqb (v / 8 % 4) 0)) (answer Done (switchedOf b v)) (answer Command b))
     (answer Command b)))
@@ -64,15 +69,15 @@ commandOf b v =
 -- ---- the registers
 
 -- [register pointer]
--- the pointer moves on and stays at IR14
-abbrev pub nextPointer : ℕ → ℕ
-nextPointer n = pick (ltb n 14) (n + 1) 14
+-- the pointer moves on and stays at the last IR
+abbrev pub nextPointer : (last n : ℕ) → ℕ
+nextPointer last n = pick (ltb n last) (n + 1) last
 
 -- [register pointer] writes at 0 go to the pointed register; the pointer moves on and stays at IR14
 -- [register kept] IR10 to IR14 are kept and unused; all other bits are ignored
 -- the pointed register takes the byte
 abbrev pub loadedOf : Board → ℕ → Board
-loadedOf b v = withPointer (withPage b (withIrs (b .page) (set (b .page .irs) (b .pointer) v))) (nextPointer (b .pointer))
+loadedOf b v = withPointer (withPage b (withIrs (b .page) (set (b .page .irs) (b .pointer) v))) (nextPointer (lastIr (b .page .version)) (b .pointer))
 
 -- an address with its lower byte replaced, and with its upper, of which six bits are kept
 abbrev pub lowerOf : ℕ → ℕ → ℕ

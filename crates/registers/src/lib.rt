@@ -4,7 +4,8 @@ ghost use mathlib.Core.List.{[], _∷_};
 ghost use Prim.Native.Nat.{max, _≤_, _-_, _+_};
 ghost use Rattle.lists.specs.Choice.{pick, firstOf};
 ghost use Rattle.refusal.specs.declared.Refusal.{Refusal};
-ghost use Rattle.registers.specs.Write.{registerCheck, brokenOf, resetOf, pointedOf, nextPointer, loadedOf, lowerOf, upperOf, startsAfter, startedOf, switchesAfter, switchedOf, commandOf, activeOf, inactiveOf, writeOf};
+ghost use Rattle.board.specs.Layout.{lastIr};
+ghost use Rattle.registers.specs.Write.{registerCheck, brokenOf, resetOf, pointedOf, pointOf, nextPointer, loadedOf, lowerOf, upperOf, startsAfter, startedOf, switchesAfter, switchedOf, commandOf, activeOf, inactiveOf, writeOf};
 ghost use Rattle.registers.specs.Read.{shownAt, readAt, readOf};
 ghost use Rattle.registers.specs.Parts.{answer, byteRead};
 ghost use Rattle.registers.specs.Video.{videoCheck, videoSet, setVideoOf};
@@ -36,7 +37,10 @@ fn register_check(b: board::Board) -> refusal::Refusal
     ensures { λ r. ⌜ r ≡ registerCheck b ⌝ }
 {
     let p = b.page;
-    first_of_two(board::address_refused(p), board::pointer_refused(b.pointer))
+    first_of_two(
+        board::address_refused(p),
+        board::pointer_refused(p, b.pointer),
+    )
 }
 
 fn choose(t: bool, a: u8, b: u8) -> u8
@@ -76,20 +80,21 @@ fn pointed(b: board::Board, at: u8) -> board::Board
     n
 }
 
-fn next_pointer(at: u8) -> u8
+// The pointer moves on and stays at the last IR.
+fn next_pointer(last: u8, at: u8) -> u8
     requires { ⌜ at ≤ 14 ⌝ }
-    ensures { λ r. ⌜ r ≡ nextPointer at ⌝ }
+    ensures { λ r. ⌜ r ≡ nextPointer last at ⌝ }
 {
-    choose(at < 14, at + 1, 14)
+    choose(at < last, at + 1, last)
 }
 
 fn loaded(b: board::Board, v: u8) -> board::Board
-    requires { ⌜ b .pointer ≤ 14 ⌝ }
+    requires { ⌜ b .pointer ≤ lastIr (b .page .version) ⌝ }
     ensures { λ r. ⌜ r ≡ loadedOf b v ⌝ }
 {
     let at = b.pointer;
     let i = at as usize;
-    let next = next_pointer(at);
+    let next = next_pointer(board::last_ir(b.page.version), at);
     let mut p = b.page;
     p.irs[i] = v;
     let mut n = b;
@@ -182,13 +187,27 @@ fn done(b: board::Board) -> Written
     }
 }
 
+// A pointer above the last IR of the page is not carried.
+fn point(b: board::Board, at: u8) -> Written
+    ensures { λ r. ⌜ r ≡ pointOf b at ⌝ }
+{
+    let p = b.page;
+    if board::pointer_refused(p, at) {
+        return Written {
+            refusal: refusal::Refusal::Command,
+            board: b,
+        };
+    }
+    done(pointed(b, at))
+}
+
 // The command byte (003 Table 6).
 fn command(b: board::Board, v: u8) -> Written
     ensures { λ r. ⌜ r ≡ commandOf b v ⌝ }
 {
     match v {
         0 => done(reset(b)),
-        16..=30 => done(pointed(b, v - 16)),
+        16..=31 => point(b, v - 16),
         32..=63 => {
             if (v / 2 % 2 == 0) & !(v / 8 % 4 == 0) {
                 done(switched(b, v))
@@ -208,7 +227,7 @@ fn command(b: board::Board, v: u8) -> Written
 
 // The register address (003 Table 1), on an active board.
 fn active(b: board::Board, a: u8, v: u8) -> Written
-    requires { ⌜ b .pointer ≤ 14 ⌝ }
+    requires { ⌜ b .pointer ≤ lastIr (b .page .version) ⌝ }
     ensures { λ r. ⌜ r ≡ activeOf b a v ⌝ }
 {
     match a {

@@ -79,7 +79,7 @@ stateRefused b =
     leb (vtOf (b .page)) (b .place .line .0)
     || leb (htOf (b .page)) (b .place .clock .0)
     || cellsRefused (b .place)
-    || pointerRefused (b .pointer)
+    || pointerRefused (b .page) (b .pointer)
 
 -- [refusal order]
 -- drawing, stepping, states and runs give 3, then the page's own 12, 4, 13, 14, 15, 6, then 7 for the state and for what is asked, then 8

@@ -18,6 +18,7 @@ use Rattle.raster.specs.Moves.{Bounded}
 use Rattle.raster.specs.Raster.{Good}
 use Rattle.board.specs.declared.Page.{Page}
 use Rattle.board.specs.declared.Board.{Board}
+use Rattle.board.specs.Layout.{lastIr}
 use Rattle.board.specs.Range.{startsRefused, switchesRefused, addressRefused, cellsRefused, pointerRefused}
 use Rattle.timing.specs.Fields.{ir, codedOf, scansOf, linesOf, tableOf, hbpOf, blinkOf, rowsOf, hactOf, cursorOf, htOf, hfpOf, vsyncBy, vsyncOf, visibleOf, vtOf, bufferOf, countsOf}
 use Rattle.timing.specs.Check.{reservedRefused, backPorchRefused, lineShort, frontPorchRefused, missing, widthRefused, pageCheck, sized, sizeOf, stateRefused, callCheck}
@@ -172,14 +173,14 @@ pub record InRange (b : Board) : Type 0 where
   pub clock-lt : b .place .clock .0 < htOf (b .page)
   pub beam-le : b .place .beam .address ≤ 16383
   pub row-le : b .place .row .address ≤ 16383
-  pub pointer-le : b .pointer ≤ 14
+  pub pointer-le : b .pointer ≤ lastIr (b .page .version)
 
 pub in-range : (b : Board) → stateRefused b ≡ false → InRange b
 unfolding stateRefused
 in-range b e =
     let l = leb (vtOf (b .page)) (b .place .line .0) in
     let k = leb (htOf (b .page)) (b .place .clock .0) in
-    let d = neither (l || k || cellsRefused (b .place)) (pointerRefused (b .pointer)) e in
+    let d = neither (l || k || cellsRefused (b .place)) (pointerRefused (b .page) (b .pointer)) e in
     let c = neither (l || k) (cellsRefused (b .place)) (d .0) in
     let a = neither l k (c .0) in
     let n = neither (ltb 16383 (b .place .beam .address)) (ltb 16383 (b .place .row .address)) (c .1) in

@@ -332,7 +332,7 @@ pub fn state_refused(b: board::Board) -> bool
     vt_of(page).at_most(place.line)
         | ht_of(page).at_most(place.clock)
         | board::cells_refused(place)
-        | board::pointer_refused(b.pointer)
+        | board::pointer_refused(page, b.pointer)
 }
 
 fn call_order(

@@ -1,17 +1,16 @@
 -- Rests on numbers-passed: accepted numbers have a page at their front.
 use mathlib.Core.Path.{_∙_}
-use native.Mathlib.Omega.{arith}
 use borrow.Author.Needs.{needs}
 use Rattle.refusal.specs.Laws.{done-is, checked}
 use Rattle.feldrime.specs.Pages.{boardFor}
-use Rattle.numbers.specs.Laws.{numbers-all, numbers-passed}
+use Rattle.numbers.specs.Laws.{numbers-room, numbers-passed}
 use Rattle.feldrime.proofs.feldrime_board_of.Statement.{statement}
 use Rattle.feldrime.proofs.feldrime_board_of.Tie as tie
 
 board-at-requires : tie.Need-board-at-requires
 board-at-requires c κs =
     let check = checked (c .before .before .numbers-check .ensures) (c .before .is-done .ensures) (c .if1 .taken) in
-    omega (arith, numbers-all (c .before .before .before .before .args .numbers .now) (numbers-passed _ (done-is _ check)))
+    numbers-room (c .before .before .before .before .args .numbers .now) (numbers-passed _ (done-is _ check))
 
 returns : tie.Need-returns
 unfolding boardFor

@@ -1,12 +1,11 @@
--- Rests on numbers-all: numbers that are not refused have a page at their front.
+-- Rests on numbers-room: numbers that are not refused have a page at their front.
 use mathlib.Core.Path.{refl, sym, ap, _∙_}
-use native.Mathlib.Omega.{arith}
 use borrow.Author.Needs.{needs}
 use Rattle.lists.specs.Choice.{stop, pass}
 use Rattle.refusal.specs.Number.{numberOf, besideOf}
 use Rattle.timing.specs.Check.{sizeOf}
 use Rattle.timing.specs.declared.PageSize.{PageSize}
-use Rattle.numbers.specs.Laws.{numbers-all}
+use Rattle.numbers.specs.Laws.{numbers-room}
 use Rattle.feldrime.specs.Pages.{sizeFor}
 use Rattle.feldrime.proofs.feldrime_page_size.Statement.{statement}
 use Rattle.feldrime.proofs.feldrime_page_size.Tie as tie
@@ -16,7 +15,7 @@ unfolding sizeFor
 returns c = stop _ (sym (c .before .numbers-refused .ensures) ∙ c .if1 .taken) refl
 
 page-at-requires : tie.Need-page-at-requires
-page-at-requires c κs = omega (arith, numbers-all (c .before .before .before .args .numbers .now) (sym (c .before .numbers-refused .ensures) ∙ c .if1 .left))
+page-at-requires c κs = numbers-room (c .before .before .before .args .numbers .now) (sym (c .before .numbers-refused .ensures) ∙ c .if1 .left)
 
 returns-2 : tie.Need-returns-2
 unfolding sizeFor

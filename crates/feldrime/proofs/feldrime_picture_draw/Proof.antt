@@ -1,9 +1,8 @@
 -- Rests on three and taken: 3 for the numbers, else what draw_picture answers.
 use mathlib.Core.Path.{sym, _∙_}
-use native.Mathlib.Omega.{arith}
 use borrow.Author.Needs.{needs}
 use Rattle.feldrime.specs.PictureDraw.{pictureDrawCheck, pictureDrawn}
-use Rattle.numbers.specs.Laws.{numbers-all}
+use Rattle.numbers.specs.Laws.{numbers-room}
 use Rattle.feldrime.specs.Laws.{three, taken}
 use Rattle.feldrime.proofs.feldrime_picture_draw.Statement.{statement}
 use Rattle.feldrime.proofs.feldrime_picture_draw.Tie as tie
@@ -19,7 +18,7 @@ returns c =
     three _ _ _ _ _ (sym (then .before .numbers-refused .ensures) ∙ then .if1 .taken) (c .answered .ensures)
 
 board-at-requires : tie.Need-board-at-requires
-board-at-requires c κs = omega (arith, numbers-all (begin (c .before) .args .numbers .now) (sym (c .before .numbers-refused .ensures) ∙ c .if1 .left))
+board-at-requires c κs = numbers-room (begin (c .before) .args .numbers .now) (sym (c .before .numbers-refused .ensures) ∙ c .if1 .left)
 
 returns-2 : tie.Need-returns-2
 unfolding pictureDrawCheck pictureDrawn

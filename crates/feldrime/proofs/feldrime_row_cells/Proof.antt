@@ -5,7 +5,7 @@ use native.Mathlib.Omega.{arith}
 use borrow.Author.Needs.{needs}
 use Rattle.lists.specs.Choice.{stop, pass}
 use Rattle.fetch.specs.RowLaws.{count-small}
-use Rattle.numbers.specs.Laws.{numbers-all}
+use Rattle.numbers.specs.Laws.{numbers-room}
 use Rattle.feldrime.specs.RowCells.{cellsFor, cellsPutFor}
 use Rattle.feldrime.proofs.feldrime_row_cells.Statement.{statement}
 use Rattle.feldrime.proofs.feldrime_row_cells.Tie as tie
@@ -15,7 +15,7 @@ unfolding cellsFor cellsPutFor
 returns c = let t = sym (c .before .numbers-refused .ensures) ∙ c .if1 .taken in (stop _ t refl, stop _ t refl)
 
 board-at-requires : tie.Need-board-at-requires
-board-at-requires c κs = omega (arith, numbers-all (c .before .before .before .before .before .args .numbers .now) (sym (c .before .numbers-refused .ensures) ∙ c .if1 .left))
+board-at-requires c κs = numbers-room (c .before .before .before .before .before .args .numbers .now) (sym (c .before .numbers-refused .ensures) ∙ c .if1 .left)
 
 cast-t13 : tie.Need-cast-t13
 cast-t13 c =

@@ -1,13 +1,12 @@
 -- Rests on the bounds of the span, for the casts; 3 for the numbers, else the span.
 use mathlib.Core.Path.{refl, sym, ap, _∙_}
-use native.Mathlib.Omega.{arith}
 use borrow.Author.Needs.{needs}
 use Rattle.lists.specs.Choice.{stop, pass}
 use Rattle.refusal.specs.Number.{numberOf, besideOf}
 use Rattle.board.specs.declared.Board.{Board}
 use Rattle.fetch.specs.Run.{spanOf}
 use Rattle.fetch.specs.declared.Span.{Span}
-use Rattle.numbers.specs.Laws.{numbers-all}
+use Rattle.numbers.specs.Laws.{numbers-room}
 use Rattle.feldrime.specs.Pages.{runFor}
 use Rattle.feldrime.proofs.feldrime_row_run.Statement.{statement}
 use Rattle.feldrime.proofs.feldrime_row_run.Tie as tie
@@ -17,7 +16,7 @@ unfolding runFor
 returns c = stop _ (sym (c .before .numbers-refused .ensures) ∙ c .if1 .taken) refl
 
 board-at-requires : tie.Need-board-at-requires
-board-at-requires c κs = omega (arith, numbers-all (c .before .before .before .before .args .numbers .now) (sym (c .before .numbers-refused .ensures) ∙ c .if1 .left))
+board-at-requires c κs = numbers-room (c .before .before .before .before .args .numbers .now) (sym (c .before .numbers-refused .ensures) ∙ c .if1 .left)
 
 returns-2 : tie.Need-returns-2
 unfolding runFor

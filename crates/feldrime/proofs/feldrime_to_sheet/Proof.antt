@@ -1,13 +1,12 @@
 -- Rests on three and taken: 3 for the numbers, else what to_sheet answers and put_page leaves.
 use mathlib.Core.Path.{_≡_, sym, ap, _∙_}
-use native.Mathlib.Omega.{arith}
 use borrow.Author.Needs.{needs}
 use Rattle.board.specs.declared.Board.{Board}
 use Rattle.catalogue.specs.declared.Moved.{Moved}
 use Rattle.catalogue.specs.Back.{backOf}
 use Rattle.catalogue.specs.Marks.{back-width}
 use Rattle.numbers.specs.Numbers.{numbersBoard}
-use Rattle.numbers.specs.Laws.{numbers-all}
+use Rattle.numbers.specs.Laws.{numbers-all, numbers-room}
 use Rattle.feldrime.specs.Catalogue.{movedNumbers, toSheetCheck, toSheetNumbers}
 use Rattle.feldrime.specs.Laws.{three, taken}
 use Rattle.feldrime.proofs.feldrime_to_sheet.Statement.{statement}
@@ -27,7 +26,7 @@ returns c = three _ _ _ _ _ (sym (c .before .before .numbers-refused .ensures) �
 board-at-requires : tie.Need-board-at-requires
 board-at-requires c κs =
     let left = c .before in
-    omega (arith, numbers-all (left .before .before .before .before .before .args .numbers .now) (sym (left .before .numbers-refused .ensures) ∙ left .if1 .left))
+    numbers-room (left .before .before .before .before .before .args .numbers .now) (sym (left .before .numbers-refused .ensures) ∙ left .if1 .left)
 
 put-page-requires : tie.Need-put-page-requires
 put-page-requires c κs =

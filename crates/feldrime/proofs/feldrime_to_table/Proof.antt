@@ -1,6 +1,5 @@
 -- Rests on the test of the numbers: 3, else what to_table answers and put_page leaves.
 use mathlib.Core.Path.{_≡_, refl, sym, ap, _∙_}
-use native.Mathlib.Omega.{arith}
 use borrow.Author.Needs.{needs}
 use Rattle.lists.specs.Choice.{stop, pass}
 use Rattle.board.specs.declared.Board.{Board}
@@ -8,7 +7,7 @@ use Rattle.catalogue.specs.declared.Moved.{Moved}
 use Rattle.catalogue.specs.There.{thereOf, thereLeft}
 use Rattle.catalogue.specs.Marks.{there-width}
 use Rattle.numbers.specs.Numbers.{numbersBoard}
-use Rattle.numbers.specs.Laws.{numbers-all}
+use Rattle.numbers.specs.Laws.{numbers-all, numbers-room}
 use Rattle.feldrime.specs.Catalogue.{movedNumbers, toTableCheck, toTableNumbers, toTableChars}
 use Rattle.feldrime.specs.Laws.{three, taken}
 use Rattle.feldrime.proofs.feldrime_to_table.Statement.{statement}
@@ -31,7 +30,7 @@ returns c =
 board-at-requires : tie.Need-board-at-requires
 board-at-requires c κs =
     let left = c .before in
-    omega (arith, numbers-all (left .before .before .before .before .before .args .numbers .now) (sym (left .before .numbers-refused .ensures) ∙ left .if1 .left))
+    numbers-room (left .before .before .before .before .before .args .numbers .now) (sym (left .before .numbers-refused .ensures) ∙ left .if1 .left)
 
 put-page-requires : tie.Need-put-page-requires
 put-page-requires c κs =

@@ -1,11 +1,10 @@
--- Rests on numbers-all: numbers that are not refused have a page at their front.
+-- Rests on numbers-room: numbers that are not refused have a page at their front.
 use mathlib.Core.Path.{refl, sym, ap, _∙_}
-use native.Mathlib.Omega.{arith}
 use borrow.Author.Needs.{needs}
 use Rattle.lists.specs.Choice.{stop, pass}
 use Rattle.board.specs.declared.Board.{Board}
 use Rattle.records.specs.Ends.{askedOf}
-use Rattle.numbers.specs.Laws.{numbers-all}
+use Rattle.numbers.specs.Laws.{numbers-room}
 use Rattle.feldrime.specs.Phrases.{askedFor}
 use Rattle.feldrime.proofs.numbers_asked.Statement.{statement}
 use Rattle.feldrime.proofs.numbers_asked.Tie as tie
@@ -15,7 +14,7 @@ unfolding askedFor
 returns c = stop _ (sym (c .before .numbers-refused .ensures) ∙ c .if1 .taken) refl
 
 board-at-requires : tie.Need-board-at-requires
-board-at-requires c κs = omega (arith, numbers-all (c .before .before .before .before .args .numbers .now) (sym (c .before .numbers-refused .ensures) ∙ c .if1 .left))
+board-at-requires c κs = numbers-room (c .before .before .before .before .args .numbers .now) (sym (c .before .numbers-refused .ensures) ∙ c .if1 .left)
 
 returns-2 : tie.Need-returns-2
 unfolding askedFor

@@ -1,37 +1,62 @@
--- Rests on the definition: each field is read at its place.
-use Prim.Native.Nat.{_+_}
+-- Rests on the definition: each field is read at its place, behind the IRs that the version has.
+use Prim.Native.Nat.{ℕ, _+_}
+use mathlib.Core.Path.{ap, _∙_}
+use native.Mathlib.Omega.{arith}
 use borrow.Author.Needs.{needs}
 use lib.ListN.{getD}
-use Rattle.files.specs.Page.{pageAt}
+use Rattle.board.specs.Laws.{layout-fits}
+use Rattle.files.specs.Page.{startsAt, videoOf, versionIn, irsAt, pageAt}
 use Rattle.files.proofs.page_at.Statement.{statement}
 use Rattle.files.proofs.page_at.Tie as tie
+
+shared-slice-read-version : tie.Need-shared-slice-read-version
+shared-slice-read-version c = omega (arith, layout-fits (versionIn (c .before .before .args .bytes .now)) .rest-some)
+
+irs-at-requires : tie.Need-irs-at-requires
+irs-at-requires c κs =
+    let fits = layout-fits (versionIn (c .before .before .before .args .bytes .now)) in
+    (omega (arith, c .irs-of .ensures), omega (arith, c .irs-of .ensures, fits .irs-most))
+
+starts-at-requires : tie.Need-starts-at-requires
+starts-at-requires c κs = omega (arith, c .before .irs-of .ensures, layout-fits (versionIn (c .before .before .before .before .args .bytes .now)) .rest-some)
+
+shared-slice-read-t7 : tie.Need-shared-slice-read-t7
+shared-slice-read-t7 c = omega (arith, c .before .before .before .irs-of .ensures, layout-fits (versionIn (c .before .before .before .before .before .before .args .bytes .now)) .rest-some)
+
+shared-slice-read-video : tie.Need-shared-slice-read-video
+shared-slice-read-video c = omega (arith, c .before .before .before .before .irs-of .ensures, layout-fits (versionIn (c .before .before .before .before .before .before .before .args .bytes .now)) .rest-some)
+
+shared-slice-read-video-2 : tie.Need-shared-slice-read-video-2
+shared-slice-read-video-2 c = omega (arith, c .before .before .before .before .before .irs-of .ensures, layout-fits (versionIn (c .before .before .before .before .before .before .before .before .args .bytes .now)) .rest-some)
 
 returns : tie.Need-returns
 unfolding pageAt
 returns c =
-    let bytes = c .before .before .before .before .before .before .before .before .args .bytes .now in
-    let at = c .before .before .before .before .before .before .before .before .args .at in
+    let bytes = c .before .before .before .before .before .before .before .before .before .args .bytes .now in
+    let at = c .before .before .before .before .before .before .before .before .before .args .at in
+    let n = c .before .before .before .before .before .before .irs-of .ensures in
     λ i. record {
-      version = getD bytes 0 0;
-      irs = c .before .before .before .before .before .irs-at .ensures i;
-      starts = c .before .before .before .before .starts-at .ensures i;
-      switches = getD bytes (at + 21) 0;
-      video = c .video .ensures i;
+      version = versionIn bytes;
+      irs = (c .before .before .before .before .before .irs-at .ensures ∙ ap (λ (k : ℕ). irsAt k bytes at) n) i;
+      starts = (c .before .before .before .before .starts-at .ensures ∙ ap (λ (k : ℕ). startsAt bytes (at + k)) n) i;
+      switches = getD bytes (at + n i + 6) 0;
+      video = (c .video .ensures ∙ ap (λ (k : ℕ). videoOf (getD bytes (at + k + 7) 0) (getD bytes (at + k + 8) 0)) n) i;
     }
 
 pub page-at-spec : {M : Type 1} → statement M
 page-at-spec =
     tie.close
     (tie.spec
-    (λ c. search needs)
+    shared-slice-read-version
     (λ c κs. search needs)
     (λ c. search needs)
-    (λ c κs. search needs)
+    irs-at-requires
+    starts-at-requires
     (λ c. search needs)
+    shared-slice-read-t7
     (λ c. search needs)
+    shared-slice-read-video
     (λ c. search needs)
-    (λ c. search needs)
-    (λ c. search needs)
-    (λ c. search needs)
+    shared-slice-read-video-2
     (λ c κs. search needs)
     returns)

@@ -1,9 +1,8 @@
 use mathlib.Core.Path.{refl, sym, _∙_}
-use native.Mathlib.Omega.{arith}
 use borrow.Author.Needs.{needs}
 use Rattle.lists.specs.Choice.{stop, pass}
 use Rattle.numbers.specs.Numbers.{numbersCheck}
-use Rattle.numbers.specs.Laws.{numbers-all}
+use Rattle.numbers.specs.Laws.{numbers-room}
 use Rattle.numbers.proofs.numbers_check.Statement.{statement}
 use Rattle.numbers.proofs.numbers_check.Tie as tie
 
@@ -12,7 +11,7 @@ unfolding numbersCheck
 returns c = stop _ (sym (c .before .numbers-refused .ensures) ∙ c .if1 .taken) refl
 
 page-at-requires : tie.Need-page-at-requires
-page-at-requires c κs = omega (arith, numbers-all (c .before .before .before .args .numbers .now) (sym (c .before .numbers-refused .ensures) ∙ c .if1 .left))
+page-at-requires c κs = numbers-room (c .before .before .before .args .numbers .now) (sym (c .before .numbers-refused .ensures) ∙ c .if1 .left)
 
 returns-2 : tie.Need-returns-2
 unfolding numbersCheck

@@ -1,13 +1,12 @@
 -- Rests on not-room and not-saved for the refusals; else on the page that was put.
-use mathlib.Core.Path.{_≡_, ap₂, _∙_}
+use mathlib.Core.Path.{_≡_}
 use mathlib.Core.Bool.{true}
 use borrow.Author.Needs.{needs}
 use Rattle.refusal.specs.Number.{doneOf}
 use Rattle.refusal.specs.Laws.{done-is, checked}
 use Rattle.timing.specs.Check.{pageCheck}
 use Rattle.timing.specs.Laws.{accepted}
-use Rattle.numbers.specs.Numbers.{numbersWith}
-use Rattle.numbers.specs.Laws.{not-room, saved, not-saved}
+use Rattle.numbers.specs.Laws.{page-put, not-room, saved, not-saved}
 use Rattle.numbers.proofs.numbers_of.Statement.{statement}
 use Rattle.numbers.proofs.numbers_of.Tie as tie
 
@@ -21,19 +20,15 @@ begin c = c .before .before .before
 done : (c : tie.Then2) → doneOf (pageCheck (begin (c .before .before) .args .b .page)) ≡ true
 done c = checked (c .before .before .page-check .ensures) (c .before .is-done .ensures) (c .if2 .taken)
 
-page-bytes-requires : tie.Need-page-bytes-requires
-page-bytes-requires c κs = accepted (begin (c .before .before) .args .b .page) (done-is _ (done c)) .most
-
-put-numbers-requires : tie.Need-put-numbers-requires
-put-numbers-requires c κs = (search needs, search needs)
+put-own-requires : tie.Need-put-own-requires
+put-own-requires c κs = (accepted (begin (c .before .before .before .before .before .before .before) .args .b .page) (done-is _ (done (c .before .before .before .before .before))) .most, search needs)
 
 returns-2 : tie.Need-returns-2
 returns-2 c =
-    let version = c .before .before .before .before .before in
-    let then = version .before .before in
+    let then = c .before .before .before .before .before .before .before .before in
     let judged = then .before .before in
     saved (begin judged .args .b) (begin judged .args .numbers .now) (judged .before .if1 .left) (judged .page-check .ensures) (done then)
-    (c .before .before .put-numbers .ensures ∙ ap₂ numbersWith (version .version-of .ensures) (version .before .page-bytes .ensures))
+    (page-put (begin judged .args .b .page) (c .before .before .before .before .before .before .clear .ensures) (c .before .before .put-own .ensures))
 
 returns-3 : tie.Need-returns-3
 returns-3 c =
@@ -48,10 +43,8 @@ numbers-of-spec =
     returns
     (λ c κs. search needs)
     (λ c κs. search needs)
-    page-bytes-requires
     (λ c κs. search needs)
-    (λ c. search needs)
-    put-numbers-requires
+    put-own-requires
     (λ c. search needs)
     returns-2
     returns-3)

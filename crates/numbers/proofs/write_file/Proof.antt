@@ -1,10 +1,9 @@
--- Rests on numbers-all: numbers that are not refused have a page at their front.
+-- Rests on numbers-room: numbers that are not refused have a page at their front.
 use mathlib.Core.Path.{refl, sym, _∙_}
-use native.Mathlib.Omega.{arith}
 use borrow.Author.Needs.{needs}
 use Rattle.lists.specs.Choice.{stop, pass}
 use Rattle.numbers.specs.Files.{pageWriteCheck, pageWritten}
-use Rattle.numbers.specs.Laws.{numbers-all}
+use Rattle.numbers.specs.Laws.{numbers-room}
 use Rattle.numbers.proofs.write_file.Statement.{statement}
 use Rattle.numbers.proofs.write_file.Tie as tie
 
@@ -13,7 +12,7 @@ unfolding pageWriteCheck pageWritten
 returns c = let t = sym (c .before .numbers-refused .ensures) ∙ c .if1 .taken in (stop _ t refl, stop _ t refl)
 
 board-at-requires : tie.Need-board-at-requires
-board-at-requires c κs = omega (arith, numbers-all (c .before .before .before .before .before .before .args .numbers .now) (sym (c .before .numbers-refused .ensures) ∙ c .if1 .left))
+board-at-requires c κs = numbers-room (c .before .before .before .before .before .before .args .numbers .now) (sym (c .before .numbers-refused .ensures) ∙ c .if1 .left)
 
 returns-2 : tie.Need-returns-2
 unfolding pageWriteCheck pageWritten

@@ -17,47 +17,39 @@ returns c = stop _ (eq-eqb _ _ (c .before .before .match .keys1)) (c .done .ensu
 returns-2 : tie.Need-returns-2
 unfolding commandOf
 returns-2 c =
-    let v = c .before .before .before .before .before .args .v in
-    pass _ (ne-eqb v 0 (λ e. omega arith))
-    (stop _ (inside 16 30 v (omega arith) (omega arith)) (c .done2 .ensures ∙ ap (answer Done) (c .before .pointed .ensures)))
+    let v = c .before .before .before .before .args .v in
+    pass _ (ne-eqb v 0 (λ e. omega arith)) (stop _ (inside 16 31 v (omega arith) (omega arith)) (c .point .ensures))
 
 returns-3 : tie.Need-returns-3
 unfolding commandOf
 returns-3 c =
-    let v = c .before .before .before .before .before .before .before .before .args .v in
+    let v = c .before .before .before .before .before .before .before .args .v in
     pass _ (ne-eqb v 0 (λ e. omega arith))
-    (pass _ (over 16 30 v (omega arith))
+    (pass _ (over 16 31 v (omega arith))
     (stop _ (inside 32 63 v (omega arith) (omega arith))
-    (stop _ (c .before .before .if5 .taken) (c .done3 .ensures ∙ ap (answer Done) (c .before .switched .ensures)))))
+    (stop _ (c .before .before .if4 .taken) (c .done2 .ensures ∙ ap (answer Done) (c .before .switched .ensures)))))
 
 returns-4 : tie.Need-returns-4
 unfolding commandOf
 returns-4 c =
-    let v = c .before .before .before .before .before .before .args .v in
+    let v = c .before .before .before .before .before .args .v in
     pass _ (ne-eqb v 0 (λ e. omega arith))
-    (pass _ (over 16 30 v (omega arith))
-    (stop _ (inside 32 63 v (omega arith) (omega arith)) (pass _ (c .if5 .left) refl)))
+    (pass _ (over 16 31 v (omega arith))
+    (stop _ (inside 32 63 v (omega arith) (omega arith)) (pass _ (c .if4 .left) refl)))
 
 returns-5 : tie.Need-returns-5
 unfolding commandOf
 returns-5 c =
     let v = c .before .before .args .v in
     pass _ (ne-eqb v 0 (c .before .match .rest .1))
-    (pass _ (under 16 30 v (omega arith)) (pass _ (under 32 63 v (omega arith)) refl))
+    (pass _ (under 16 31 v (omega arith)) (pass _ (under 32 63 v (omega arith)) refl))
 
 returns-6 : tie.Need-returns-6
 unfolding commandOf
 returns-6 c =
     let v = c .before .before .before .before .args .v in
     pass _ (ne-eqb v 0 (λ e. omega arith))
-    (pass _ (over 16 30 v (omega arith)) (pass _ (under 32 63 v (omega arith)) refl))
-
-returns-7 : tie.Need-returns-7
-unfolding commandOf
-returns-7 c =
-    let v = c .before .before .before .before .before .args .v in
-    pass _ (ne-eqb v 0 (λ e. omega arith))
-    (pass _ (over 16 30 v (omega arith)) (pass _ (over 32 63 v (omega arith)) refl))
+    (pass _ (over 16 31 v (omega arith)) (pass _ (over 32 63 v (omega arith)) refl))
 
 pub command-spec : {M : Type 1} → statement M
 command-spec =
@@ -68,11 +60,9 @@ command-spec =
     (λ c κs. search needs)
     (λ c κs. search needs)
     (λ c κs. search needs)
-    (λ c κs. search needs)
     returns
     returns-2
     returns-3
     returns-4
     returns-5
-    returns-6
-    returns-7)
+    returns-6)

@@ -1,0 +1,33 @@
+-- 01, "Files": how a page is laid out, by its version.
+use Prim.Native.Nat.{ℕ, _+_, _-_}
+use Rattle.board.specs.declared.Layout.{Layout}
+
+-- versions from 1 to the newest are known; one that is not known counts as 1
+abbrev pub newestVersion : ℕ
+newestVersion = 2
+
+-- 15 IRs, then 9 bytes: screen start 1, cursor, screen start 2 (two bytes each), switches, dots, strike line; version 2 has the layout of version 1
+unfoldable pub layoutOf : (version : ℕ) → Layout
+layoutOf version = record { irs = 15; rest = 9 }
+
+-- where the IR pointer stays
+abbrev pub lastIr : (version : ℕ) → ℕ
+lastIr version = layoutOf version .irs - 1
+
+-- what stands between a page file's length and its character memory
+abbrev pub pageLength : (version : ℕ) → ℕ
+pageLength version = layoutOf version .irs + layoutOf version .rest
+
+-- the length: what follows it, with two memories of 16,384 bytes
+abbrev pub lengthField : (version : ℕ) → ℕ
+lengthField version = pageLength version + 32768
+
+-- where the two memories begin, after version and length, and the file's size
+abbrev pub charsPlace : (version : ℕ) → ℕ
+charsPlace version = pageLength version + 5
+
+abbrev pub attrsPlace : (version : ℕ) → ℕ
+attrsPlace version = charsPlace version + 16384
+
+abbrev pub fileSize : (version : ℕ) → ℕ
+fileSize version = lengthField version + 5
