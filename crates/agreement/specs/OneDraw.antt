@@ -35,7 +35,8 @@ use Rattle.records.specs.Ends.{askedOf}
 use Rattle.records.specs.Folds.{startOf, visitOf, searchOf, mateStart, mateVisit, pairStart, pairVisit}
 use Rattle.columns.specs.Columns.{recordsOf}
 use Rattle.latch.specs.Held.{heldAt}
-use Rattle.shape.specs.Font.{Font, fontRefused, positionOf, wordBy, wordOf}
+use Rattle.shape.specs.declared.FontLine.{FontLine}
+use Rattle.shape.specs.Font.{Font, fontRefused, fontLineOf, wordBy}
 use Rattle.video.specs.declared.Scene.{Scene}
 use Rattle.video.specs.declared.Look.{Look}
 use Rattle.video.specs.declared.Reading.{Reading}
@@ -156,17 +157,14 @@ held-at-one p chars attrs row column = only _
 
 -- ---- `shape`
 
-pub position-one : (list : List ℕ) (scan : ℕ) → OneAnswer (λ r. r ≡ positionOf list scan)
-position-one list scan = only _
+pub font-line-one : (unshifted shifted : List ℕ) (scan : ℕ) → OneAnswer (λ r. r ≡ fontLineOf unshifted shifted scan)
+font-line-one unshifted shifted scan = only _
 
 pub font-refused-one : (f : Font) → OneAnswer (λ r. r ≡ fontRefused f)
 font-refused-one f = only _
 
-pub word-by-one : (words flags : List ℕ) (plain moved code : ℕ) → OneAnswer (λ r. r ≡ wordBy words flags plain moved code)
-word-by-one words flags plain moved code = only _
-
-pub word-of-one : (f : Font) (code scan : ℕ) → OneAnswer (λ r. r ≡ wordOf f code scan)
-word-of-one f code scan = only _
+pub word-by-one : (words flags : List ℕ) (line : FontLine) (code : ℕ) → OneAnswer (λ r. r ≡ wordBy words flags line code)
+word-by-one words flags line code = only _
 
 -- ---- `video`
 

@@ -36,7 +36,8 @@ use Rattle.fetch.specs.Rows.{codeAt, rowStart, cellAt, fetchedOf, begunOf, fetc
 use Rattle.fetch.specs.Laws.{cell-shown, row-start-lt}
 use Rattle.latch.specs.Held.{heldAt}
 use Rattle.latch.specs.Laws.{held-along, held-plain}
-use Rattle.shape.specs.Font.{Font, Whole, fontRefused, positionOf, wordBy}
+use Rattle.shape.specs.declared.FontLine.{FontLine}
+use Rattle.shape.specs.Font.{Font, Whole, fontRefused, lineIn, wordBy}
 use Rattle.shape.specs.Laws.{font-whole}
 use Rattle.video.specs.declared.Scene.{Scene}
 use Rattle.video.specs.declared.Reading.{Reading}
@@ -51,18 +52,14 @@ use Rattle.tables.specs.Laws.{shown-lt, gathered, gathered-lt, looked-up, code-
 use Rattle.line.specs.declared.Walk.{Walk}
 use Rattle.line.specs.Line.{rowFor, codeFor, scanFor, columnDots, lineDots, lineLength, drawCheck, drawnOf}
 
-unfoldable pub walkOf : Page → (unshifted shifted : List ℕ) → (scan : ℕ) → Walk
-walkOf p unshifted shifted scan = record {
-  plain = positionOf unshifted scan;
-  moved = positionOf shifted scan;
-  width = p .video .dots;
-}
+unfoldable pub walkOf : Page → FontLine → Walk
+walkOf p line = record { line = line; width = p .video .dots }
 
 -- one cell, from its number
 unfoldable pub dotsFor : Walk → (looks words flags : List ℕ) → (number : ℕ) → List ℕ
 dotsFor w looks words flags x =
     shades (getD looks (x / 256) 0 % 4) (getD looks (x / 256) 0 / 4) (w .width .0)
-    (wideOf (wordBy words flags (w .plain) (w .moved) (x % 256)) (w .width .0))
+    (wideOf (wordBy words flags (w .line) (x % 256)) (w .width .0))
 
 unfoldable pub columnFor : Walk → (row looks words flags : List ℕ) → (c : ℕ) → List ℕ
 columnFor w row looks words flags c = dotsFor w looks words flags (getD row c 0)
@@ -256,7 +253,7 @@ column-content b chars attrs f line field c h =
 -- what the drawer has before it goes along the line: how many columns, the line's constants, the row's cells, and the levels of the scan line's marks
 pub record Prepared (b : Board) (chars attrs : List ℕ) (f : Font) (line field n : ℕ) (w : Walk) (wide : Bool) (row looks : List ℕ) : Type 0 where
   pub counted : n ≡ hactOf (b .page)
-  pub walked : w ≡ walkOf (b .page) (f .unshifted) (f .shifted) (scanFor b chars line)
+  pub walked : w ≡ walkOf (b .page) (lineIn f (scanFor b chars line))
   pub widened : wide ≡ isWide (codeFor b chars line)
   pub beyond : List ℕ
   pub row-is : row
@@ -268,7 +265,7 @@ pub record Prepared (b : Board) (chars attrs : List ℕ) (f : Font) (line field 
 -- the same in the words of the calls that made it
 pub prepared-of : (b : Board) (chars attrs : List ℕ) (f : Font) (line field : ℕ) {row looks : List ℕ} (beyond above : List ℕ) {t : Timing} {r byte n : ℕ} {k : Code} {wide : Bool} {s : Lines} {w : Walk} {start : Cell} {v : ℕ} {g : Reading} {u : Buffer} {scene : Scene}
     → t ≡ timingOf (b .page) → r ≡ rowFor b line → byte ≡ codeAt (b .page) chars r → k ≡ codeOf byte → s ≡ lines (scanAt (b .page) k line)
-    → w ≡ walkOf (b .page) (f .unshifted) (f .shifted) (s .0)
+    → w ≡ walkOf (b .page) (lineIn f (s .0))
     → Accepted (b .page) → start ≡ cell (rowStart (b .page) chars r) → v ≡ heldFor (b .page) chars attrs r (start .address) → n ≡ fetchedOf (b .page) chars r → g ≡ readingOf (b .page) → u ≡ bufferOf (b .page)
     → row ≡ tab n (cellBy g chars attrs u v (start .address)) ++ beyond → scene ≡ sceneOf b (s .0) field → looks ≡ tab 128 (levelsOf scene) ++ above → wide ≡ isWide k
     → Prepared b chars attrs f line field (t .counts .hact .0) w wide row looks

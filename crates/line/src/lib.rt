@@ -12,10 +12,9 @@ ghost use Rattle.dots.specs.Half.{shownOf, fetchedFor};
 ghost use Rattle.line.specs.Line.{drawCheck, lineOver, DrawsLine};
 ghost use Rattle.line.specs.Walk.{lastOf, walkOf, heldFor, dotsFor, columnFor, Ready, Drawn};
 
-// What is the same for all cells of a line: where the scan line stands in the font's two lists, and the width of a cell.
+// What is the same for all cells of a line: what its scan line takes from the font, and the width of a cell.
 pub struct Walk {
-    pub plain: usize,
-    pub moved: usize,
+    pub line: shape::FontLine,
     pub width: units::Dots,
 }
 
@@ -28,7 +27,8 @@ fn put(out: &mut [u8], w: Walk, looks: &[u8], words: &[u16], flags: &[u8], numbe
 {
     let mark = (number / 256) as usize;
     let levels = looks[mark];
-    let word = shape::word_by(words, flags, w.plain, w.moved, (number % 256) as u8);
+    let line = w.line;
+    let word = shape::word_by(words, flags, line, (number % 256) as u8);
     dots::write_cell(out, levels % 4, levels / 4, word, d);
 }
 
@@ -78,15 +78,11 @@ fn columns(
     }
 }
 
-fn walk_of(p: board::Page, unshifted: &[u8], shifted: &[u8], scan: units::Lines) -> Walk
-    ensures { λ r. ⌜ r ≡ walkOf p (now (unshifted .entry)) (now (shifted .entry)) (scan .0) ⌝ }
+fn walk_of(p: board::Page, line: shape::FontLine) -> Walk
+    ensures { λ r. ⌜ r ≡ walkOf p line ⌝ }
 {
     let width = p.video.dots;
-    Walk {
-        plain: shape::position(unshifted, scan),
-        moved: shape::position(shifted, scan),
-        width,
-    }
+    Walk { line, width }
 }
 
 // What is valid before a row, as far as it counts. A row whose first cell sets attributes needs no search.
@@ -148,7 +144,7 @@ pub fn whole_line(
     let row = timing::row_of(page, line);
     let code = raster::code_of(fetch::code_at(page, chars, row));
     let scan = video::scan_at(page, code, line);
-    let w = walk_of(page, unshifted, shifted, scan);
+    let w = walk_of(page, shape::font_line(unshifted, shifted, scan));
     let start = fetch::row_start(page, chars, row);
     let held = held_for(page, chars, attrs, row, start);
     let n = fetch::fetched_of(page, chars, row);

@@ -8,6 +8,7 @@ use lib.Dec.{eqb, ltb}
 use denote.Ref.{RefT, now}
 use denote.Triple.Both.{Both}
 use Rattle.lists.specs.Choice.{pick}
+use Rattle.shape.specs.declared.FontLine.{FontLine}
 
 -- 128 characters by nine words, a shift flag for each character, and two lists of nine line numbers
 pub record Font : Type 0 where
@@ -48,18 +49,25 @@ unfoldable pub positionOf : List ℕ → ℕ → ℕ
 positionOf [] scan = 0
 positionOf (x ∷ xs) scan = pick (eqb (x % 16) scan) 0 (suc (positionOf xs scan))
 
+-- what a scan line takes from a font: where it stands in each of the two lists
+unfoldable pub fontLineOf : (unshifted shifted : List ℕ) → (scan : ℕ) → FontLine
+fontLineOf unshifted shifted scan = record { unshifted = positionOf unshifted scan; shifted = positionOf shifted scan }
+
+abbrev pub lineIn : Font → (scan : ℕ) → FontLine
+lineIn f scan = fontLineOf (f .unshifted) (f .shifted) scan
+
 -- [board font] the font: words of which ten bits count, shift flags, two lists of which four bits count
 -- the font word of a character at a position of nine (low ten bits count); zeros past the nine
 unfoldable pub fontWord : List ℕ → ℕ → ℕ → ℕ
 fontWord words character position = pick (ltb position 9) (getD words (character * 9 + position) 0 % 1024) 0
 
 -- [dots shape] CA7 = 0 gives zeros; else the flag chooses a list, and the first position of the scan line gives the word
--- CA7 = 0 gives zeros; a shift flag that is not 0 is shifted
-unfoldable pub wordBy : List ℕ → List ℕ → ℕ → ℕ → ℕ → ℕ
-wordBy words flags plain moved code =
-    pick (ltb code 128) 0 (fontWord words (code % 128) (pick (eqb (getD flags (code % 128) 0) 0) plain moved))
+-- CA7 = 0 gives zeros; a shift flag that is not 0 is shifted, and chooses the list whose position gives the font word
+unfoldable pub wordBy : (words flags : List ℕ) → FontLine → (code : ℕ) → ℕ
+wordBy words flags line code =
+    pick (ltb code 128) 0 (fontWord words (code % 128) (pick (eqb (getD flags (code % 128) 0) 0) (line .unshifted) (line .shifted)))
 
 -- [dots shape]
--- the shift flag chooses a list; the first position in it that equals the scan line gives the font word
-unfoldable pub wordOf : Font → ℕ → ℕ → ℕ
-wordOf f code scan = wordBy (f .words) (f .flags) (positionOf (f .unshifted) scan) (positionOf (f .shifted) scan) code
+-- the word that a code shows on a scan line
+unfoldable pub wordOf : Font → (code scan : ℕ) → ℕ
+wordOf f code scan = wordBy (f .words) (f .flags) (lineIn f scan) code

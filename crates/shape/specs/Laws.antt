@@ -8,7 +8,8 @@ use borrow.Author.Tests.{eqb-true, not-false, le-ltb, eq-eqb, ne-eqb}
 use lib.ListN.{length, getD}
 use lib.Dec.{eqb, ltb}
 use Rattle.lists.specs.Choice.{pick, neither, pick-lt}
-use Rattle.shape.specs.Font.{Font, Whole, fontRefused, positionOf, fontWord, wordBy, wordOf}
+use Rattle.shape.specs.declared.FontLine.{FontLine}
+use Rattle.shape.specs.Font.{Font, Whole, fontRefused, lineIn, fontWord, wordBy, wordOf}
 
 pub font-whole : (f : Font) → fontRefused f ≡ false → Whole f
 font-whole f e =
@@ -29,22 +30,22 @@ word-small : (words : List ℕ) (m p : ℕ) → fontWord words m p < 1024
 unfolding fontWord
 word-small words m p = pick-lt 1024 (ltb p 9) (getD words (m * 9 + p) 0 % 1024) 0 (omega arith) (omega arith)
 
-pub by-small : (words flags : List ℕ) (plain moved code : ℕ) → wordBy words flags plain moved code < 1024
+pub by-small : (words flags : List ℕ) (line : FontLine) (code : ℕ) → wordBy words flags line code < 1024
 unfolding wordBy
-by-small words flags plain moved code =
+by-small words flags line code =
     pick-lt 1024 (ltb code 128) 0 _ (omega arith)
-    (word-small words (code % 128) (pick (eqb (getD flags (code % 128) 0) 0) plain moved))
+    (word-small words (code % 128) (pick (eqb (getD flags (code % 128) 0) 0) (line .unshifted) (line .shifted)))
 
 pub word-of-small : (f : Font) (code scan : ℕ) → wordOf f code scan < 1024
 unfolding wordOf
-word-of-small f code scan = by-small (f .words) (f .flags) (positionOf (f .unshifted) scan) (positionOf (f .shifted) scan) code
+word-of-small f code scan = by-small (f .words) (f .flags) (lineIn f scan) code
 
 -- the shift flag chooses the position
-module _ (words flags : List ℕ) (plain moved code : ℕ) (shown : 128 ≤ code) where
-  pub by-plain : getD flags (code % 128) 0 ≡ 0 → fontWord words (code % 128) plain ≡ wordBy words flags plain moved code
+module _ (words flags : List ℕ) (line : FontLine) (code : ℕ) (shown : 128 ≤ code) where
+  pub by-unshifted : getD flags (code % 128) 0 ≡ 0 → fontWord words (code % 128) (line .unshifted) ≡ wordBy words flags line code
   unfolding wordBy
-  by-plain e = rw (le-ltb code 128 shown, eq-eqb _ _ e)
+  by-unshifted e = rw (le-ltb code 128 shown, eq-eqb _ _ e)
 
-  pub by-moved : (getD flags (code % 128) 0 ≡ 0 → ⊥) → fontWord words (code % 128) moved ≡ wordBy words flags plain moved code
+  pub by-shifted : (getD flags (code % 128) 0 ≡ 0 → ⊥) → fontWord words (code % 128) (line .shifted) ≡ wordBy words flags line code
   unfolding wordBy
-  by-moved e = rw (le-ltb code 128 shown, ne-eqb _ _ e)
+  by-shifted e = rw (le-ltb code 128 shown, ne-eqb _ _ e)

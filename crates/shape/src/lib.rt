@@ -2,10 +2,16 @@
 ghost use mathlib.Core.Path.{_≡_};
 ghost use Prim.Native.Nat.{_<_};
 ghost use lib.ListN.{length};
-ghost use Rattle.shape.specs.Font.{Whole, fontRefused, positionOf, fontWord, wordBy, wordOf, fontNow, lentFont};
+ghost use Rattle.shape.specs.Font.{fontRefused, positionOf, fontLineOf, fontWord, wordBy, lentFont};
+
+// What a scan line takes from a font: the first position in each of its two lists that equals the scan line, or the list's length.
+pub struct FontLine {
+    pub unshifted: usize,
+    pub shifted: usize,
+}
 
 // The first position in a list of line numbers that equals the scan line, or the list's length. Four bits of a line number count.
-pub fn position(list: &[u8], scan: units::Lines) -> usize
+fn position(list: &[u8], scan: units::Lines) -> usize
     ensures { λ r. ⌜ r ≡ positionOf (now (list .entry)) (scan .0) ⌝ }
 {
     let mut i = 0;
@@ -17,6 +23,15 @@ pub fn position(list: &[u8], scan: units::Lines) -> usize
         i += 1;
     }
     i
+}
+
+pub fn font_line(unshifted: &[u8], shifted: &[u8], scan: units::Lines) -> FontLine
+    ensures { λ r. ⌜ r ≡ fontLineOf (now (unshifted .entry)) (now (shifted .entry)) (scan .0) ⌝ }
+{
+    FontLine {
+        unshifted: position(unshifted, scan),
+        shifted: position(shifted, scan),
+    }
 }
 
 // 3, for the four parts of a font.
@@ -38,41 +53,18 @@ fn font_word(words: &[u16], character: usize, position: usize) -> u16
     }
 }
 
-// The word that a code shows, where its scan line stands at position plain of the unshifted list and at position moved of the shifted one.
-pub fn word_by(words: &[u16], flags: &[u8], plain: usize, moved: usize, code: u8) -> u16
+// The word that a code shows on a scan line.
+pub fn word_by(words: &[u16], flags: &[u8], line: FontLine, code: u8) -> u16
     requires { ⌜ (length (now words) ≡ 1152) × (length (now flags) ≡ 128) ⌝ }
-    ensures { λ r. ⌜ r ≡ wordBy (now (words .entry)) (now (flags .entry)) plain moved code ⌝ }
+    ensures { λ r. ⌜ r ≡ wordBy (now (words .entry)) (now (flags .entry)) line code ⌝ }
 {
     if code < 128 {
         return 0;
     }
     let character = (code % 128) as usize;
     if flags[character] == 0 {
-        font_word(words, character, plain)
+        font_word(words, character, line.unshifted)
     } else {
-        font_word(words, character, moved)
-    }
-}
-
-// The word that a code shows on a scan line. Only the list that its flag chooses is searched.
-pub fn word_of(
-    code: u8,
-    scan: units::Lines,
-    words: &[u16],
-    flags: &[u8],
-    unshifted: &[u8],
-    shifted: &[u8],
-) -> u16
-    requires { ⌜ Whole (fontNow words flags unshifted shifted) ⌝ }
-    ensures { λ r. ⌜ r ≡ wordOf (lentFont words flags unshifted shifted) code (scan .0) ⌝ }
-{
-    if code < 128 {
-        return 0;
-    }
-    let character = (code % 128) as usize;
-    if flags[character] == 0 {
-        font_word(words, character, position(unshifted, scan))
-    } else {
-        font_word(words, character, position(shifted, scan))
+        font_word(words, character, line.shifted)
     }
 }

@@ -10,7 +10,8 @@ use Rattle.raster.specs.Latch.{latched}
 use Rattle.board.specs.declared.Board.{Board}
 use Rattle.board.specs.Modes.{settersHidden}
 use Rattle.timing.specs.Fields.{blinkOf}
-use Rattle.shape.specs.Font.{Font, wordOf}
+use Rattle.shape.specs.declared.FontLine.{FontLine}
+use Rattle.shape.specs.Font.{Font, lineIn, wordBy}
 use Rattle.video.specs.Scene.{displayed, blinkAt, sceneOf, cursorAt}
 use Rattle.video.specs.Look.{blankLook, lookOf}
 use Rattle.video.specs.At.{readingOf, countedByte, shownCode}
@@ -29,15 +30,15 @@ signalsWith b cursor = record {
   blink = blinkAt (blinkOf (b .page)) (b .place .field);
 }
 
--- the cell at an address
-unfoldable pub cellShown : Board → (chars attrs : List ℕ) → Font → (row held address : ℕ) → Shown
-cellShown b chars attrs f k held a = record {
+-- the cell at an address, with what its scan line takes from the font
+unfoldable pub cellShown : Board → (chars attrs words flags : List ℕ) → FontLine → (row held address : ℕ) → Shown
+cellShown b chars attrs words flags line k held a = record {
   cursor = cursorAt (sceneOf b (scanIn b k) (b .place .field)) a;
   look =
       lookOf (sceneOf b (scanIn b k) (b .place .field))
       (latched (countedByte (readingOf (b .page)) (againAt (codeOf k) (b .place .clock .0)) (getD attrs a 0)) held)
       (cursorAt (sceneOf b (scanIn b k) (b .place .field)) a);
-  word = wordOf f (shownCode (settersHidden (b .page)) (getD chars a 0) (getD attrs a 0)) (scanIn b k);
+  word = wordBy words flags line (shownCode (settersHidden (b .page)) (getD chars a 0) (getD attrs a 0));
 }
 
 -- the blank level is the same on every scan line
@@ -45,4 +46,4 @@ unfoldable pub blankShown : Board → Shown
 blankShown b = record { cursor = false; look = blankLook (sceneOf b 0 (b .place .field) .blank); word = 0 }
 
 unfoldable pub shownIn : Board → (chars attrs : List ℕ) → Font → (row held address : ℕ) → Shown
-shownIn b chars attrs f k held a = pick (activeAt (b .page) (b .place)) (cellShown b chars attrs f k held a) (blankShown b)
+shownIn b chars attrs f k held a = pick (activeAt (b .page) (b .place)) (cellShown b chars attrs (f .words) (f .flags) (lineIn f (scanIn b k)) k held a) (blankShown b)

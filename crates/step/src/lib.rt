@@ -2,6 +2,7 @@
 ghost use mathlib.Core.Path.{_≡_};
 ghost use mathlib.Core.Bool.{false};
 ghost use Prim.Native.Nat.{_≤_, _<_};
+ghost use lib.ListN.{length};
 ghost use Rattle.lists.specs.Choice.{pick};
 ghost use Rattle.units.specs.Units.{lines};
 ghost use Rattle.refusal.specs.Number.{doneOf};
@@ -101,14 +102,13 @@ fn cell_shown(
     attrs: &[u8],
     words: &[u16],
     flags: &[u8],
-    unshifted: &[u8],
-    shifted: &[u8],
+    line: shape::FontLine,
     row: u8,
     held: u8,
     address: usize,
 ) -> Shown
-    requires { ⌜ Fit b (now chars) (now attrs) (fontNow words flags unshifted shifted) × (address < 16384) ⌝ }
-    ensures { λ r. ⌜ r ≡ cellShown b (now (chars .entry)) (now (attrs .entry)) (lentFont words flags unshifted shifted) row held address ⌝ }
+    requires { ⌜ (address < length (now chars)) × (address < length (now attrs)) × (length (now words) ≡ 1152) × (length (now flags) ≡ 128) ⌝ }
+    ensures { λ r. ⌜ r ≡ cellShown b (now (chars .entry)) (now (attrs .entry)) (now (words .entry)) (now (flags .entry)) line row held address ⌝ }
 {
     let page = b.page;
     let scene = scene_in(b, row);
@@ -122,7 +122,7 @@ fn cell_shown(
     Shown {
         cursor,
         look: video::look_of(scene, valid, cursor),
-        word: shape::word_of(code, scan_in(b, row), words, flags, unshifted, shifted),
+        word: shape::word_by(words, flags, line, code),
     }
 }
 
@@ -160,18 +160,8 @@ fn shown_in(
     ensures { λ r. ⌜ r ≡ shownIn b (now (chars .entry)) (now (attrs .entry)) (lentFont words flags unshifted shifted) row held address ⌝ }
 {
     if active {
-        return cell_shown(
-            b,
-            chars,
-            attrs,
-            words,
-            flags,
-            unshifted,
-            shifted,
-            row,
-            held,
-            address,
-        );
+        let line = shape::font_line(unshifted, shifted, scan_in(b, row));
+        return cell_shown(b, chars, attrs, words, flags, line, row, held, address);
     }
     blank_shown(b)
 }

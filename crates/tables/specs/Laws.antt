@@ -18,7 +18,8 @@ use Rattle.raster.specs.Moves.{cell, advanceBy}
 use Rattle.raster.specs.Latch.{latched, lastSet, sets-or}
 use Rattle.board.specs.declared.Board.{Board}
 use Rattle.timing.specs.Laws.{Accepted}
-use Rattle.shape.specs.Font.{Font, positionOf, wordBy, wordOf}
+use Rattle.shape.specs.declared.FontLine.{FontLine}
+use Rattle.shape.specs.Font.{Font, lineIn, wordBy, wordOf}
 use Rattle.shape.specs.Laws.{by-small}
 use Rattle.video.specs.declared.Scene.{Scene}
 use Rattle.video.specs.declared.Look.{Look}
@@ -44,12 +45,12 @@ no-bits : (t : Bool) → 0 ≡ pick t (2 * 0) 0
 no-bits true = refl
 no-bits false = refl
 
-module _ (words flags : List ℕ) (plain moved d : ℕ) where
-  unshown : (code : ℕ) → code < 128 → noWord code ≡ shownWord words flags plain moved d code
+module _ (words flags : List ℕ) (line : FontLine) (d : ℕ) where
+  unshown : (code : ℕ) → code < 128 → noWord code ≡ shownWord words flags line d code
   unfolding noWord shownWord wordBy wideOf
   unshown code h = rw (lt-ltb code 128 h) (no-bits (ltb 10 d))
 
-  low-codes : tab 128 noWord ≡ tab 128 (shownWord words flags plain moved d)
+  low-codes : tab 128 noWord ≡ tab 128 (shownWord words flags line d)
   low-codes = same-tab 128 _ _ unshown
 
   -- a table that was begun with these
@@ -59,12 +60,12 @@ module _ (words flags : List ℕ) (plain moved d : ℕ) where
         let e : length t1 ≡ length t = ap length p ∙ simp (length-append, length-drop, length-tab) (omega arith) in
         omega (arith, e)
 
-    pub begun : t1 ≡ tab 128 (shownWord words flags plain moved d) ++ drop 128 t1
+    pub begun : t1 ≡ tab 128 (shownWord words flags line d) ++ drop 128 t1
     begun =
         let back : drop 128 t1 ≡ drop 128 t = rw p (drop-at (tab 128 noWord) (drop 128 t) 128 (length-tab 128 noWord)) in
         p ∙ ap₂ (λ (a b : List ℕ). a ++ b) low-codes (sym back)
 
-    pub ended : (out : List ℕ) → out ≡ tab 256 (shownWord words flags plain moved d) ++ drop 256 t1 → out ≡ tab 256 (shownWord words flags plain moved d) ++ drop 256 t
+    pub ended : (out : List ℕ) → out ≡ tab 256 (shownWord words flags line d) ++ drop 256 t1 → out ≡ tab 256 (shownWord words flags line d) ++ drop 256 t
     ended out q =
         let a : List ℕ = tab 128 noWord in
         let k : length a ≡ 128 = length-tab 128 noWord in
@@ -127,7 +128,7 @@ unfolding levelsAt
 levels-at b field xs rest n s i e h l = join-element (levelsAt b field) 128 (length-levels b field) xs rest n s i e h l ∙ getD-tab 128 _ i l
 
 pub word-at : (f : Font) (d : ℕ) (xs rest : List ℕ) (n s i : ℕ) → xs ≡ joined 0 n (wordsAt f d) ++ rest → s < n → i < 256
-    → getD xs (s * 256 + i) 0 ≡ shownWord (f .words) (f .flags) (positionOf (f .unshifted) s) (positionOf (f .shifted) s) d i
+    → getD xs (s * 256 + i) 0 ≡ shownWord (f .words) (f .flags) (lineIn f s) d i
 unfolding wordsAt
 word-at f d xs rest n s i e h l = join-element (wordsAt f d) 256 (length-words f d) xs rest n s i e h l ∙ getD-tab 256 _ i l
 
@@ -143,7 +144,7 @@ module _ (b : Board) (f : Font) (scan field : ℕ) (a : Accepted (b .page)) (k :
   d = b .page .video .dots .0
 
   abbrev word : ℕ
-  word = wordBy (f .words) (f .flags) (positionOf (f .unshifted) scan) (positionOf (f .shifted) scan) (k .code)
+  word = wordBy (f .words) (f .flags) (lineIn f scan) (k .code)
 
   abbrev here : Bool
   here = sceneOf b scan field .gate && k .here
@@ -158,4 +159,4 @@ module _ (b : Board) (f : Font) (scan field : ℕ) (a : Accepted (b .page)) (k :
   unfolding scanDots wordOf
   by-word =
       rw (levelled, symbol-of b scan field (k .attributes) here, under-of b scan field (k .attributes) here)
-      (cell-shades look word d (by-small _ _ _ _ _) (a .most))
+      (cell-shades look word d (by-small _ _ _ _) (a .most))

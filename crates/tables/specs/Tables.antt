@@ -12,7 +12,8 @@ use Rattle.raster.specs.declared.Buffer.{Buffer}
 use Rattle.raster.specs.Moves.{advanceBy}
 use Rattle.raster.specs.Latch.{setsOf, lastSet}
 use Rattle.board.specs.declared.Board.{Board}
-use Rattle.shape.specs.Font.{Font, positionOf, wordBy}
+use Rattle.shape.specs.declared.FontLine.{FontLine}
+use Rattle.shape.specs.Font.{Font, lineIn, wordBy}
 use Rattle.video.specs.declared.Scene.{Scene}
 use Rattle.video.specs.declared.Look.{Look}
 use Rattle.video.specs.declared.Reading.{Reading}
@@ -55,15 +56,15 @@ unfoldable pub levelsAt : Board → (field scan : ℕ) → List ℕ
 levelsAt b field scan = tab 128 (levelsOf (sceneOf b scan field))
 
 -- a code's dots on a scan line, as the low bits of a number
-unfoldable pub shownWord : (words flags : List ℕ) → (plain moved d code : ℕ) → ℕ
-shownWord words flags plain moved d code = wideOf (wordBy words flags plain moved code) d
+unfoldable pub shownWord : (words flags : List ℕ) → FontLine → (d code : ℕ) → ℕ
+shownWord words flags line d code = wideOf (wordBy words flags line code) d
 
 -- of a code below 128
 unfoldable pub noWord : ℕ → ℕ
 noWord code = 0
 
 unfoldable pub wordsAt : Font → (d scan : ℕ) → List ℕ
-wordsAt f d scan = tab 256 (shownWord (f .words) (f .flags) (positionOf (f .unshifted) scan) (positionOf (f .shifted) scan) d)
+wordsAt f d scan = tab 256 (shownWord (f .words) (f .flags) (lineIn f scan) d)
 
 -- ---- the lent tables afterwards; what stands beyond stays
 

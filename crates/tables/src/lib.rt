@@ -169,15 +169,15 @@ fn no_words(table: &mut [u16])
 }
 
 // A scan line's table by code: a number whose low bits are the dots.
-fn shown_words(table: &mut [u16], words: &[u16], flags: &[u8], plain: usize, moved: usize, d: usize)
+fn shown_words(table: &mut [u16], words: &[u16], flags: &[u8], line: shape::FontLine, d: usize)
     requires { ⌜ (length (now words) ≡ 1152) × (length (now flags) ≡ 128) × (256 ≤ length (now table)) ⌝ }
     ensures { λ _. ⌜ now (table .exit)
-        ≡ tab 256 (shownWord (now (words .entry)) (now (flags .entry)) plain moved d) ++ drop 256 (now (table .entry)) ⌝ }
+        ≡ tab 256 (shownWord (now (words .entry)) (now (flags .entry)) line d) ++ drop 256 (now (table .entry)) ⌝ }
 {
     no_words(table);
     let mut i: usize = 128;
     while i < 256 {
-        let word = shape::word_by(words, flags, plain, moved, i as u8);
+        let word = shape::word_by(words, flags, line, i as u8);
         table[i] = dots::wide(word, d);
         i += 1;
     }
@@ -200,10 +200,9 @@ pub fn fill_words(
     let mut s: usize = 0;
     while s < count {
         let scan = units::Lines(s as u32);
-        let plain = shape::position(unshifted, scan);
-        let moved = shape::position(shifted, scan);
+        let line = shape::font_line(unshifted, shifted, scan);
         let a = s * 256;
-        shown_words(&mut table[a..], words, flags, plain, moved, d);
+        shown_words(&mut table[a..], words, flags, line, d);
         s += 1;
     }
 }

@@ -7,12 +7,12 @@ use Rattle.line.proofs.put.Tie as tie
 
 -- where the function begins, from the place where the word is known
 abbrev begin : tie.After-word-by → tie.Start
-begin c = c .before .before .before .before .before .before
+begin c = c .before .before .before .before .before .before .before
 
 write-cell-requires : tie.Need-write-cell-requires
 write-cell-requires c κs =
     let pre = begin (c .before) .pre in
-    (rw (c .before .word-by .ensures) (by-small _ _ _ _ _), pre .1 .1, pre .1 .2, pre .1 .3)
+    (rw (c .before .word-by .ensures) (by-small _ _ _ _), pre .1 .1, pre .1 .2, pre .1 .3)
 
 returns : tie.Need-returns
 unfolding dotsFor

@@ -1,6 +1,6 @@
 -- Rests on prepared-of: the gathered cells and the looks make the columns of the line.
 use Prim.Native.Nat.{ℕ, _≤_, _<_}
-use mathlib.Core.Path.{_≡_}
+use mathlib.Core.Path.{_≡_, ap, _∙_}
 use native.Mathlib.Omega.{arith}
 use borrow.Author.Needs.{needs}
 use lib.ListN.{length, getD}
@@ -9,7 +9,7 @@ use Rattle.timing.specs.Laws.{buffer-bounded}
 use Rattle.fetch.specs.Laws.{row-start-lt, fetched-small}
 use Rattle.shape.specs.Font.{Font, fontOf}
 use Rattle.tables.specs.Marks.{blank-lt}
-use Rattle.line.specs.Walk.{Prepared, prepared-of, ready, drawn}
+use Rattle.line.specs.Walk.{walkOf, Prepared, prepared-of, ready, drawn}
 use Rattle.line.proofs.whole_line.Statement.{statement}
 use Rattle.line.proofs.whole_line.Tie as tie
 
@@ -28,19 +28,19 @@ code-at-requires : tie.Need-code-at-requires
 code-at-requires c κs = in-page c
 
 row-start-requires : tie.Need-row-start-requires
-row-start-requires c κs = in-page (c .before .before .before .before)
+row-start-requires c κs = in-page (c .before .before .before .before .before)
 
 held-for-requires : tie.Need-held-for-requires
 held-for-requires c κs =
-    let k = c .before .before .before .before .before in
+    let k = c .before .before .before .before .before .before in
     (in-page k .0, begin k .pre .attrs-all, in-page k .1, rw (c .row-start .ensures) (row-start-lt _ _ (begin k .pre .page) _))
 
 fetched-of-requires : tie.Need-fetched-of-requires
-fetched-of-requires c κs = in-page (c .before .before .before .before .before .before)
+fetched-of-requires c κs = in-page (c .before .before .before .before .before .before .before)
 
 -- the row again, from the place where its cells are counted
 abbrev counted : tie.After-fetched-of → tie.After-row-of
-counted c = c .before .before .before .before .before .before .before
+counted c = c .before .before .before .before .before .before .before .before
 
 gather-requires : tie.Need-gather-requires
 gather-requires c κs =
@@ -67,11 +67,11 @@ prepared : (c : tie.After-is-wide)
 prepared c =
     let k = started c in
     let n = cells c in
-    let read = n .before .before .before .before .before .before in
+    let read = n .before .before .before .before .before .before .before in
     let looked = c .before .before in
     let gathered = looked .before .before .before .before in
-    prepared-of (begin k .args .b) _ _ (font k) _ _ _ _ (k .before .timing-of .ensures) (k .row-of .ensures) (read .code-at .ensures) (n .before .before .before .before .before .code-of .ensures)
-    (n .before .before .before .before .scan-at .ensures) (n .before .before .before .walk-of .ensures) (begin k .pre .page) (n .before .before .row-start .ensures) (n .before .held-for .ensures)
+    prepared-of (begin k .args .b) _ _ (font k) _ _ _ _ (k .before .timing-of .ensures) (k .row-of .ensures) (read .code-at .ensures) (n .before .before .before .before .before .before .code-of .ensures)
+    (n .before .before .before .before .before .scan-at .ensures) (n .before .before .before .walk-of .ensures ∙ ap (walkOf (begin k .args .b .page)) (n .before .before .before .before .font-line .ensures)) (begin k .pre .page) (n .before .before .row-start .ensures) (n .before .held-for .ensures)
     (n .fetched-of .ensures) (gathered .before .before .reading-of .ensures) (gathered .before .buffer-of .ensures) (gathered .gather .ensures .1)
     (looked .before .scene-of .ensures) (looked .looks2 .ensures) (c .is-wide .ensures)
 
@@ -98,6 +98,7 @@ whole-line-spec =
     (λ c κs. search needs)
     (λ c κs. search needs)
     code-at-requires
+    (λ c κs. search needs)
     (λ c κs. search needs)
     (λ c κs. search needs)
     (λ c κs. search needs)

@@ -4,20 +4,16 @@ use borrow.Author.Needs.{needs}
 use Rattle.step.proofs.cell_shown.Statement.{statement}
 use Rattle.step.proofs.cell_shown.Tie as tie
 
-word-of-requires : tie.Need-word-of-requires
-word-of-requires c κs = c .before .before .before .before .before .before .before .before .before .before .before .before .before .before .before .before .before .before .before .before .pre .0 .font
-
 returns : tie.Need-returns
 unfolding cellShown
 returns c =
-    let valid = c .before .before .before .before .before .before in
+    let valid = c .before .before .before .before .before in
     let scene = valid .before .before .before .before .before .before .before in
     rw (
-      c .word-of .ensures,
-      c .before .scan-in .ensures,
-      c .before .before .look-of .ensures,
-      c .before .before .before .shown-code .ensures,
-      c .before .before .before .before .before .setters-hidden .ensures,
+      c .word-by .ensures,
+      c .before .look-of .ensures,
+      c .before .before .shown-code .ensures,
+      c .before .before .before .before .setters-hidden .ensures,
       valid .latched .ensures,
       valid .before .counted-byte .ensures,
       valid .before .before .reading-of .ensures,
@@ -44,5 +40,4 @@ cell-shown-spec =
     (λ c κs. search needs)
     (λ c κs. search needs)
     (λ c κs. search needs)
-    word-of-requires
     returns)

@@ -33,24 +33,24 @@ few c =
 loop-holds : tie.Need-loop-holds Inv-loop μ-loop
 loop-holds c = (omega arith, join-begins _ _ (length-words _ _) _ _)
 
-cast-t15 : tie.Need-cast-t15 Inv-loop μ-loop
-cast-t15 c = omega (arith, c .loop-test .taken, few c .0)
+cast-t14 : tie.Need-cast-t14 Inv-loop μ-loop
+cast-t14 c = omega (arith, c .loop-test .taken, few c .0)
 
 mul-a : tie.Need-mul-a Inv-loop μ-loop
-mul-a c = omega (arith, c .before .before .loop-test .taken, few (c .before .before) .0)
+mul-a c = omega (arith, c .before .loop-test .taken, few (c .before) .0)
 
 mul-shown-words : tie.Need-mul-shown-words Inv-loop μ-loop
-mul-shown-words c = omega (arith, c .before .before .loop-test .taken, few (c .before .before) .0)
+mul-shown-words c = omega (arith, c .before .loop-test .taken, few (c .before) .0)
 
 sub-shown-words : tie.Need-sub-shown-words Inv-loop μ-loop
-sub-shown-words c = omega (arith, c .before .before .before .loop .inv .1 .same, c .before .before .loop-test .taken, few (c .before .before))
+sub-shown-words c = omega (arith, c .before .before .loop .inv .1 .same, c .before .loop-test .taken, few (c .before))
 
 part-shown-words-start : tie.Need-part-shown-words-start Inv-loop μ-loop
-part-shown-words-start c = omega (arith, c .before .before .before .loop .inv .1 .same, c .before .before .loop-test .taken, few (c .before .before))
+part-shown-words-start c = omega (arith, c .before .before .loop .inv .1 .same, c .before .loop-test .taken, few (c .before))
 
 shown-words-requires : tie.Need-shown-words-requires Inv-loop μ-loop
 shown-words-requires c κs =
-    let i = c .before .before .before in
+    let i = c .before .before in
     let pre = start i .pre in
     (pre .0, pre .1, simp (length-take, length-drop) (omega (arith, i .before .loop .inv .1 .same, few i, i .loop-test .taken)))
 
@@ -58,10 +58,10 @@ loop-again : tie.Need-loop-again Inv-loop μ-loop
 unfolding wordsAt
 loop-again c =
     let call = c .before .before in
-    let second = call .before .before in
-    let i = second .before .before in (
+    let line = call .before .before in
+    let i = line .before in (
       omega (arith, i .loop-test .taken),
-      join-turn _ _ (length-words _ _) _ _ _ (i .before .loop .inv .1) (i .loop-test .taken) (few i .1) (rw (second .before .position .ensures, second .position2 .ensures) at (call .shown-words .ensures)),
+      join-turn _ _ (length-words _ _) _ _ _ (i .before .loop .inv .1) (i .loop-test .taken) (few i .1) (rw (line .font-line .ensures) at (call .shown-words .ensures)),
     )
 
 same-length : tie.Need-same-length Inv-loop μ-loop
@@ -78,8 +78,7 @@ fill-words-spec =
     μ-loop
     (λ c κs. search needs)
     loop-holds
-    cast-t15
-    (λ c κs. search needs)
+    cast-t14
     (λ c κs. search needs)
     mul-a
     mul-shown-words

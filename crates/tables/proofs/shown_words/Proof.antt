@@ -13,20 +13,20 @@ use Rattle.tables.proofs.shown_words.Statement.{statement}
 use Rattle.tables.proofs.shown_words.Tie as tie
 
 abbrev Inv-loop : tie.InvT-loop
-Inv-loop table₀ words flags plain moved d i₀ table i =
-    (i ≤ 256) × (length table ≡ length table₀) × (table ≡ tab i (shownWord words flags plain moved d) ++ drop i table₀)
+Inv-loop table₀ words flags line d i₀ table i =
+    (i ≤ 256) × (length table ≡ length table₀) × (table ≡ tab i (shownWord words flags line d) ++ drop i table₀)
 
 abbrev μ-loop : tie.MeasureT-loop
-μ-loop table₀ words flags plain moved d i₀ table i = 256 - i
+μ-loop table₀ words flags line d i₀ table i = 256 - i
 
 loop-holds : tie.Need-loop-holds Inv-loop μ-loop
 loop-holds c =
     let begin = c .before .before in
     let start = begin .before .before .before .before .before in
-    (omega arith, refl, begun _ _ _ _ _ (start .args .table .now) _ (start .pre .2) (begin .no-words .ensures))
+    (omega arith, refl, begun _ _ _ _ (start .args .table .now) _ (start .pre .2) (begin .no-words .ensures))
 
 wide-requires : tie.Need-wide-requires Inv-loop μ-loop
-wide-requires c κs = rw (c .word-by .ensures) (by-small _ _ _ _ _)
+wide-requires c κs = rw (c .word-by .ensures) (by-small _ _ _ _)
 
 loop-again : tie.Need-loop-again Inv-loop μ-loop
 unfolding shownWord
@@ -35,10 +35,10 @@ loop-again c =
     let begin = at .before .before .before in
     let start = begin .before .before .before .before .before in
     let a = start .args in
-    let room = begun-room (a .words .now) (a .flags .now) (a .plain) (a .moved) (a .d) (a .table .now) _ (start .pre .2) (begin .no-words .ensures) in (
+    let room = begun-room (a .words .now) (a .flags .now) (a .line) (a .d) (a .table .now) _ (start .pre .2) (begin .no-words .ensures) in (
       omega (arith, c .before .before .loop-test .taken),
       search needs,
-      tab-turn (shownWord (a .words .now) (a .flags .now) (a .plain) (a .moved) (a .d)) (begin .no-words .last .0) _ (at .loop .i) (at .loop .inv .2) _ (omega (arith, room, c .before .before .loop-test .taken))
+      tab-turn (shownWord (a .words .now) (a .flags .now) (a .line) (a .d)) (begin .no-words .last .0) _ (at .loop .i) (at .loop .inv .2) _ (omega (arith, room, c .before .before .loop-test .taken))
           (rw (c .wide .ensures, c .before .word-by .ensures)),
     )
 
@@ -47,7 +47,7 @@ returns c =
     let at = c .before in
     let begin = at .before .before .before in
     let start = begin .before .before .before .before .before in
-    ended _ _ _ _ _ (start .args .table .now) _ (start .pre .2) (begin .no-words .ensures) _
+    ended _ _ _ _ (start .args .table .now) _ (start .pre .2) (begin .no-words .ensures) _
     (tab-upto _ _ _ (at .loop .i) (at .loop .inv .2) 256 (at .loop .inv .0) (c .loop-test .left))
 
 pub shown-words-spec : {M : Type 1} → statement M
