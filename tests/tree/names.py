@@ -2,7 +2,7 @@
 
 Every public function has a law of one answer whose text is that of its contract, or its comment gives the reason, as
 `No law of one answer: ..`. A contract speaks of the result and of each buffer that is lent to be written. No call for C
-has a `requires`. The functions of promises* are promises and not answers, and have no law.
+has a `requires`. The functions of callers* are promises and not answers, and have no law.
 
 A name in backquotes in PROMISES.md is there: a definition or law, a function, a wrong program, a crate, a file. Of a
 command of `rt` the last word is a crate.
@@ -36,7 +36,7 @@ def judge(f):  # one public function
 
 
 for f in functions:
-    if f.public and not f.crate.startswith('promises'):
+    if f.public and not f.crate.startswith('callers'):
         judge(f)
 
 known = WORDS | {f.name for f in functions} | {f.full for f in functions} | {d.name for d in declared}

@@ -46,7 +46,7 @@ class Tree:
     def contracts(self, definitions):  # the functions whose contracts cite a definition
         found = []
         for d in definitions:
-            citing = [f for f in self.functions if self.cites(f, d.name) and not f.crate.startswith('promises')]
+            citing = [f for f in self.functions if self.cites(f, d.name) and not f.crate.startswith('callers')]
             found += [f for f in citing if f.crate == d.crate] or [f for f in citing if f.public]
         return found
 
@@ -123,18 +123,18 @@ def contract(tree, f):
 def public(tree, laws):
     for crate in dict.fromkeys(f.crate for f in tree.functions):
         own = [f for f in tree.functions if f.crate == crate and f.public and not f.name.startswith('feldrime_')]
-        if own and not crate.startswith('promises'):
+        if own and not crate.startswith('callers'):
             yield f'\n### `{crate}`\n'
             for f in own:
                 asks = f'; internal, requires `{f.requires}`' if f.requires else ''
                 yield item(f'`{f.name}`: {contract(tree, f)}; law {quoted(law_of(f, laws))}{asks}.')
 
 
-def promises(tree):
-    for f in (f for f in tree.functions if f.public and f.crate.startswith('promises')):
-        used = [g for g in tree.called(f) if not g.crate.startswith('promises')]
+def callers(tree):
+    for f in (f for f in tree.functions if f.public and f.crate.startswith('callers')):
+        used = [g for g in tree.called(f) if not g.crate.startswith('callers')]
         own = [g for g in tree.called(f) if g.crate == f.crate]
-        used += [h for g in own for h in tree.called(g) if h.public and not h.crate.startswith('promises')]
+        used += [h for g in own for h in tree.called(g) if h.public and not h.crate.startswith('callers')]
         edits = [e.label for g in [f] + own for e in tree.altering(g.crate, g.name)]
         wrong = f' Wrong programs: {quoted(edits)}.' if edits else ''
         yield item(f'`{f.name}` (`{f.crate}`): {f.comment} Calls {quoted(g.full for g in used)}.{wrong}')
@@ -150,7 +150,7 @@ def printed(tree):
     yield '\n## Public functions below the calls'
     yield from public(tree, laws)
     yield '\n## Functions that call the calls\n'
-    yield from promises(tree)
+    yield from callers(tree)
     yield '\n## Laws that carry a sentence\n'
     for d in (d for d in tree.declared if d.kind == 'law' and d.tags):
         yield item(f'`{d.crate}.{d.module}.{d.name}`: {d.comment or tree.sentences.get(d.tags[0])}.')

@@ -1,7 +1,7 @@
 -- Two pages that fetch the same bytes show the same (02, R-5): where their registers differ in IR2[7] at most, each row has the same start and code, and at each cell that a
 -- row fetches both memories have the same bytes. Assumes nothing.
---     same-place                 the place for clock n
---     same-line, same-picture    in every field and both attribute modes
+--     alike-place                 the place for clock n
+--     alike-line, alike-picture    in every field and both attribute modes
 use Prim.Native.Nat.{ℕ, min, _+_, _-_, _*_, _/_, _%_, _≤_, _<_}
 use mathlib.Core.Path.{_≡_, refl, sym, ap, ap₂, _∙_}
 use mathlib.Core.Bool.{Bool, false, not, _&&_, _||_}
@@ -226,9 +226,9 @@ module _ (p : Page) (irs′ : List ℕ) (s t : ℕ) (chars attrs chars′ attrs�
   same-before c line frame =
       rw (same-line-at c line, same-line-at (htOf p) (line - 1), same-last-row, clocks-are)
 
-  pub same-place : (n : ℕ) → placeAt p chars attrs n ≡ placeAt q chars′ attrs′ n
+  pub alike-place : (n : ℕ) → placeAt p chars attrs n ≡ placeAt q chars′ attrs′ n
   unfolding placeAt
-  same-place n =
+  alike-place n =
       ap (placed (frameIn p n % 256) (lineIn p n) (clockIn p n)) (same-before (clockIn p n) (lineIn p n) (frameIn p n))
       ∙ ap₂ (λ (t v : ℕ). placed (n / t / v % 256) (n / t % v) (n % t) (carriedBefore q chars′ attrs′ (n % t) (n / t % v) (n / t / v))) clocks-are lines-are
 
@@ -282,14 +282,14 @@ module _ (b : Board) (irs′ : List ℕ) (s t : ℕ) (chars attrs chars′ attrs
       parts : {k k′ L L′ v v′ x x′ : ℕ} → k ≡ k′ → L ≡ L′ → v ≡ v′ → x ≡ x′ → by line field c k L v x ≡ by line field c k′ L′ v′ x′
       parts ke le ve xe = rw (ke, le, ve, xe)
 
-  pub same-line : (line field : ℕ) → line < visibleOf (b .page) .0 → lineDots b chars attrs f line field ≡ lineDots n chars′ attrs′ f line field
+  pub alike-line : (line field : ℕ) → line < visibleOf (b .page) .0 → lineDots b chars attrs f line field ≡ lineDots n chars′ attrs′ f line field
   unfolding lineDots
-  same-line line field h =
+  alike-line line field h =
       same-joined 0 (hactOf (b .page)) _ _ (λ c _ l. same-column line field c (row-shown (b .page) line h) (omega (arith, l)))
       ∙ ap (λ (w : ℕ). joined 0 w (columnDots n chars′ attrs′ f line field)) (same-hact (b .page) (n .page) (a .registers))
 
-  pub same-picture : (field : ℕ) → pictureDots b chars attrs f field ≡ pictureDots n chars′ attrs′ f field
+  pub alike-picture : (field : ℕ) → pictureDots b chars attrs f field ≡ pictureDots n chars′ attrs′ f field
   unfolding pictureDots
-  same-picture field =
-      same-joined 0 (visibleOf (b .page) .0) _ _ (λ line _ l. same-line line field (omega (arith, l)))
+  alike-picture field =
+      same-joined 0 (visibleOf (b .page) .0) _ _ (λ line _ l. alike-line line field (omega (arith, l)))
       ∙ ap₂ (λ (x y : ℕ). joined 0 (x * y) (λ (line : ℕ). lineDots n chars′ attrs′ f line field)) (same-rows (b .page) (n .page) (a .registers)) (same-lines (b .page) (n .page) (a .registers))

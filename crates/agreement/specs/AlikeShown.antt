@@ -13,8 +13,8 @@ use Rattle.video.specs.At.{lentRefused}
 use Rattle.picture.specs.Picture.{pictureLength, pictureCheck, picturedOf}
 use Rattle.step.specs.Step.{stepCheck}
 use Rattle.catalogue.specs.There.{withPage}
-use Rattle.agreement.specs.Alike.{Same, Alike, changed, same-hact, same-rows, same-lines, same-state, same-picture}
-use Rattle.agreement.specs.AlikeSteps.{SameStep, same-step}
+use Rattle.agreement.specs.Alike.{Same, Alike, changed, same-hact, same-rows, same-lines, same-state, alike-picture}
+use Rattle.agreement.specs.AlikeSteps.{SameStep, alike-step}
 use Rattle.agreement.specs.Steps.{range-ok, call-ok}
 
 -- one board and character memory show what another board and memory show, with any attribute memory and font
@@ -73,10 +73,10 @@ module _ (b : Board) (irs′ : List ℕ) (s t : ℕ) (chars chars′ : List ℕ)
     sized = same-sizes;
     answered = λ attrs f room. rw (same-sizes attrs f) (same-answer (lentRefused chars′ attrs f) room);
     pictured = λ attrs f field out.
-        rw (same-sizes attrs f, same-answer (lentRefused chars′ attrs f) (length out), same-room, same-picture b irs′ s t chars attrs chars′ attrs f (alike attrs) field);
+        rw (same-sizes attrs f, same-answer (lentRefused chars′ attrs f) (length out), same-room, alike-picture b irs′ s t chars attrs chars′ attrs f (alike attrs) field);
     stepped = λ attrs f fine.
         let all = call-passed b (lentRefused chars attrs f) false false fine in
         let state = sym (same-state b irs′ s t registers) ∙ range-ok b (all .state) in
         let fine′ = call-ok n (lentRefused chars′ attrs f) (sym (same-sizes attrs f) ∙ all .sized) ok′ state in
-        (fine′, λ k. same-step b irs′ s t chars attrs chars′ attrs f (alike attrs) fine fine′ k);
+        (fine′, λ k. alike-step b irs′ s t chars attrs chars′ attrs f (alike attrs) fine fine′ k);
   }

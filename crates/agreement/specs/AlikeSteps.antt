@@ -33,7 +33,7 @@ use Rattle.step.specs.Step.{steppedOf, stepCheck, stepOf}
 use Rattle.catalogue.specs.There.{withPage}
 use Rattle.agreement.specs.Steps.{after, step-is, steps-are}
 use Rattle.agreement.specs.Lines.{beam-at}
-use Rattle.agreement.specs.Alike.{Alike, changed, same-scene, same-dots, same-cursor, same-rows, same-lines, same-cell, same-held, same-place}
+use Rattle.agreement.specs.Alike.{Alike, changed, same-scene, same-dots, same-cursor, same-rows, same-lines, same-cell, same-held, alike-place}
 
 -- after k steps from clock 0: a board that gets the other page there is the other board, and the next step shows the same
 pub record SameStep (b n : Board) (chars attrs chars′ attrs′ : List ℕ) (f : Font) (k : ℕ) : Type 0 where
@@ -73,7 +73,7 @@ module _ (b : Board) (irs′ : List ℕ) (s t : ℕ) (chars attrs chars′ attrs
     x′ = placeAt (n .page) chars′ attrs′ k
 
     same-x : x ≡ x′
-    same-x = same-place p irs′ s t chars attrs chars′ attrs′ a k
+    same-x = alike-place p irs′ s t chars attrs chars′ attrs′ a k
 
     pub same-loaded : loadedIn p chars x .beam ≡ loadedIn (n .page) chars′ x′ .beam
     same-loaded = go (decLt (x .line .0) (visibleOf p .0))
@@ -189,16 +189,16 @@ module _ (b : Board) (irs′ : List ℕ) (s t : ℕ) (chars attrs chars′ attrs
         let at = ap (λ (z : Row). z .address) (visible b chars attrs f ok k l) in
         (rw at (a .letter _ _ h c), rw at (a .byte _ _ h c))
 
-    pub same-step : SameStep b n chars attrs chars′ attrs′ f k
+    pub alike-step : SameStep b n chars attrs chars′ attrs′ f k
     unfolding steppedOf
-    same-step =
+    alike-step =
         let before = steps-are b chars attrs f ok k in
         let before′ = steps-are n chars′ attrs′ f ok′ k in
         let step = step-is b chars attrs f ok k in
         let step′ = step-is n chars′ attrs′ f ok′ k in
         let z = loadedIn p chars y .beam in
         let loaded = same-loaded ok ok′ k in
-        let place = same-place p irs′ s t chars attrs chars′ attrs′ a k in
+        let place = alike-place p irs′ s t chars attrs chars′ attrs′ a k in
         record {
           board = ap (λ (x : Board). withPage x (n .page)) before ∙ ap (withPlace n) place ∙ sym before′;
           signals = rw (before, step, before′, step′)

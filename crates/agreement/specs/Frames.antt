@@ -9,7 +9,7 @@ use Rattle.units.specs.Units.{clocksOf}
 use Rattle.refusal.specs.declared.Refusal.the-variants.{Done}
 use Rattle.raster.specs.Moves.{Inside}
 use Rattle.raster.specs.Tick.{by-frame}
-use Rattle.raster.specs.Raster.{Good, scanAt}
+use Rattle.raster.specs.Raster.{Good, atOnce}
 use Rattle.raster.specs.Frame.{frame→, frame←}
 use Rattle.raster.specs.Cells.{cells-inside}
 use Rattle.raster.specs.Beams.{row}
@@ -47,7 +47,7 @@ module _ (b : Board) (chars attrs : List ℕ) (f : Font) (ok : stepCheck b chars
   -- [demand frame] a frame takes exactly clocks per line times lines per frame
   -- so every frame, and not the first alone, takes exactly its clocks
   pub every-frame : (n : ℕ) → Framed n
-  unfolding placeAt scanAt countsOf
+  unfolding placeAt atOnce countsOf
   every-frame n =
       let at-n = steps-are b chars attrs f ok n in
       let counts = countsOf (b .page) in

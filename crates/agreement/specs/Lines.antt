@@ -12,7 +12,7 @@ use lib.Seq.{take-at}
 use Rattle.lists.specs.Join.{joined, same-joined}
 use Rattle.refusal.specs.declared.Refusal.the-variants.{Done}
 use Rattle.raster.specs.declared.Row.{Row}
-use Rattle.raster.specs.Raster.{Pair, Scan, loaded, scanAt}
+use Rattle.raster.specs.Raster.{Pair, Scan, loaded, atOnce}
 use Rattle.raster.specs.Agree.{loaded-meets}
 use Rattle.raster.specs.Wide.{isWide, againAt}
 use Rattle.raster.specs.Beams.{row}
@@ -76,7 +76,7 @@ module _ (b : Board) (chars attrs : List ℕ) (f : Font) (ok : stepCheck b chars
       ≡ row (cellAt (b .page) chars (lineIn (b .page) n / linesOf (b .page)) (clockIn (b .page) n))
       (heldAt (b .page) chars attrs (lineIn (b .page) n / linesOf (b .page)) (clockIn (b .page) n))
       (codeAt (b .page) chars (lineIn (b .page) n / linesOf (b .page)))
-  unfolding placeAt scanAt countsOf
+  unfolding placeAt atOnce countsOf
   beam-at n h =
       let p = b .page in
       let page = fits b chars attrs f ok .page in

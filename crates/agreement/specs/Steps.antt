@@ -9,7 +9,7 @@ use borrow.Author.Tests.{lt-leb, le-ltb, eq-eqb}
 use lib.ListN.{length}
 use Rattle.refusal.specs.declared.Refusal.the-variants.{Done, Size}
 use Rattle.refusal.specs.Laws.{not-refused, passed}
-use Rattle.raster.specs.Raster.{Pair, Scan, pair, scan, step, scanAt}
+use Rattle.raster.specs.Raster.{Pair, Scan, pair, scan, step, atOnce}
 use Rattle.raster.specs.Agree.{Laws, step-meets}
 use Rattle.raster.specs.Latch.{setsOf}
 use Rattle.raster.specs.declared.Row.{Row}
@@ -81,8 +81,8 @@ module _ (p : Page) (chars attrs : List ℕ) (a : Accepted p) where
   one-code = carried-all p chars attrs (λ (x : Carried). x .beam .code ≡ x .row .code) (λ r c. refl) refl
 
   -- so that nothing of the raster is lost in a place
-  pub raster-at : (n : ℕ) → rasterOf (placeAt p chars attrs n) ≡ scanAt (countsOf p) (rowsIn p chars attrs) (row 0 0 0) n
-  unfolding placeAt scanAt countsOf
+  pub raster-at : (n : ℕ) → rasterOf (placeAt p chars attrs n) ≡ atOnce (countsOf p) (rowsIn p chars attrs) (row 0 0 0) n
+  unfolding placeAt atOnce countsOf
   raster-at n =
       let x = carriedBefore p chars attrs (clockIn p n) (lineIn p n) (frameIn p n) in
       let to : Pair Row → Scan Row = λ y. scan (frameIn p n % 256) (lineIn p n) (clockIn p n) y in

@@ -37,7 +37,7 @@ use Rattle.fetch.specs.Laws.{cell-shown, row-start-lt}
 use Rattle.latch.specs.Held.{heldAt}
 use Rattle.latch.specs.Laws.{held-along, held-plain}
 use Rattle.shape.specs.declared.FontLine.{FontLine}
-use Rattle.shape.specs.Font.{Font, Whole, fontRefused, lineIn, wordBy}
+use Rattle.shape.specs.Font.{Font, Whole, fontRefused, fontLineIn, wordBy}
 use Rattle.shape.specs.Laws.{font-whole}
 use Rattle.video.specs.declared.Scene.{Scene}
 use Rattle.video.specs.declared.Reading.{Reading}
@@ -253,7 +253,7 @@ column-content b chars attrs f line field c h =
 -- what the drawer has before it goes along the line: how many columns, the line's constants, the row's cells, and the levels of the scan line's marks
 pub record Prepared (b : Board) (chars attrs : List ℕ) (f : Font) (line field n : ℕ) (w : Walk) (wide : Bool) (row looks : List ℕ) : Type 0 where
   pub counted : n ≡ hactOf (b .page)
-  pub walked : w ≡ walkOf (b .page) (lineIn f (scanFor b chars line))
+  pub walked : w ≡ walkOf (b .page) (fontLineIn f (scanFor b chars line))
   pub widened : wide ≡ isWide (codeFor b chars line)
   pub beyond : List ℕ
   pub row-is : row
@@ -265,7 +265,7 @@ pub record Prepared (b : Board) (chars attrs : List ℕ) (f : Font) (line field 
 -- the same in the words of the calls that made it
 pub prepared-of : (b : Board) (chars attrs : List ℕ) (f : Font) (line field : ℕ) {row looks : List ℕ} (beyond above : List ℕ) {t : Timing} {r byte n : ℕ} {k : Code} {wide : Bool} {s : Lines} {w : Walk} {start : Cell} {v : ℕ} {g : Reading} {u : Buffer} {scene : Scene}
     → t ≡ timingOf (b .page) → r ≡ rowFor b line → byte ≡ codeAt (b .page) chars r → k ≡ codeOf byte → s ≡ lines (scanAt (b .page) k line)
-    → w ≡ walkOf (b .page) (lineIn f (s .0))
+    → w ≡ walkOf (b .page) (fontLineIn f (s .0))
     → Accepted (b .page) → start ≡ cell (rowStart (b .page) chars r) → v ≡ heldFor (b .page) chars attrs r (start .address) → n ≡ fetchedOf (b .page) chars r → g ≡ readingOf (b .page) → u ≡ bufferOf (b .page)
     → row ≡ tab n (cellBy g chars attrs u v (start .address)) ++ beyond → scene ≡ sceneOf b (s .0) field → looks ≡ tab 128 (levelsOf scene) ++ above → wide ≡ isWide k
     → Prepared b chars attrs f line field (t .counts .hact .0) w wide row looks

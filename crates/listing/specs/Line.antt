@@ -23,7 +23,7 @@ use Rattle.line.specs.Length.{length-line}
 use Rattle.video.specs.At.{lentRefused}
 use Rattle.line.specs.Line.{lineDots, lineLength, drawCheck, drawnOf}
 use Rattle.listing.specs.declared.Listed.{Listed}
-use Rattle.listing.specs.Listing.{lineFeed, markOf, listingLine, lineCheck, listedOf, listedIn}
+use Rattle.listing.specs.Listing.{lineFeed, letterOf, listingLine, lineCheck, listedOf, listedIn}
 use Rattle.listing.specs.Answers.{listed, refused-so, done-so, listed-within}
 
 -- ---- the check: drawing into all but one byte is refused as the line is
@@ -124,7 +124,7 @@ module _ (b : Board) (chars attrs : List ℕ) (f : Font) (line field : ℕ) (out
     pub line-fits : n < length (part ++ drop k out)
     line-fits = rw (drawn, length-append dots (drop n out), length-drop n out, length-dots) (omega (arith, roomy))
 
-    pub line-put : (x : List ℕ) → x ≡ (map markOf (take n (part ++ drop k out)) ++ (lineFeed ∷ [])) ++ drop (n + 1) (part ++ drop k out)
+    pub line-put : (x : List ℕ) → x ≡ (map letterOf (take n (part ++ drop k out)) ++ (lineFeed ∷ [])) ++ drop (n + 1) (part ++ drop k out)
         → (listed r (n + 1) ≡ listedOf check bytes) × (x ≡ listedIn check bytes out)
     unfolding listingLine
     line-put x e =

@@ -26,14 +26,14 @@ abbrev pub space : ℕ
 space = 32
 
 -- black `.`, gray `o`, white `#`
-abbrev pub markOf : ℕ → ℕ
-markOf level = pick (eqb level 0) 46 (pick (eqb level 1) 111 35)
+abbrev pub letterOf : ℕ → ℕ
+letterOf level = pick (eqb level 0) 46 (pick (eqb level 1) 111 35)
 
 unfoldable pub listingHead : Page → List ℕ
 listingHead p = (decimal (sizeOf p .lines .0) ++ (space ∷ [])) ++ (decimal (sizeOf p .dots .0) ++ (lineFeed ∷ []))
 
 unfoldable pub listingLine : Board → (chars attrs : List ℕ) → Font → (line field : ℕ) → List ℕ
-listingLine b chars attrs f line field = map markOf (lineDots b chars attrs f line field) ++ (lineFeed ∷ [])
+listingLine b chars attrs f line field = map letterOf (lineDots b chars attrs f line field) ++ (lineFeed ∷ [])
 
 -- ---- the calls
 

@@ -6,7 +6,7 @@ ghost use lib.ListN.{length, take, drop};
 ghost use Rattle.shape.specs.Font.{lentFont};
 ghost use Rattle.listing.specs.Decimal.{Spelled};
 ghost use Rattle.listing.specs.Answers.{listed};
-ghost use Rattle.listing.specs.Listing.{lineFeed, markOf, ListsHead, ListsLine};
+ghost use Rattle.listing.specs.Listing.{lineFeed, letterOf, ListsHead, ListsLine};
 
 // How many bytes were written.
 pub struct Listed {
@@ -76,8 +76,8 @@ pub fn listing_head(p: board::Page, out: &mut [u8]) -> Listed
     }
 }
 
-fn mark_of(level: u8) -> u8
-    ensures { λ r. ⌜ r ≡ markOf level ⌝ }
+fn letter_of(level: u8) -> u8
+    ensures { λ r. ⌜ r ≡ letterOf level ⌝ }
 {
     match level {
         0 => b'.',
@@ -88,11 +88,11 @@ fn mark_of(level: u8) -> u8
 
 // Turns levels to marks where they stand.
 fn mark_all(levels: &mut [u8])
-    ensures { λ _. ⌜ now (levels .exit) ≡ map markOf (now (levels .entry)) ⌝ }
+    ensures { λ _. ⌜ now (levels .exit) ≡ map letterOf (now (levels .entry)) ⌝ }
 {
     let mut i = 0;
     while i < levels.len() {
-        levels[i] = mark_of(levels[i]);
+        levels[i] = letter_of(levels[i]);
         i += 1;
     }
 }
@@ -100,7 +100,7 @@ fn mark_all(levels: &mut [u8])
 // The first n levels as marks, and a line feed after them.
 fn finish_line(out: &mut [u8], n: usize)
     requires { ⌜ n < length (now out) ⌝ }
-    ensures { λ _. ⌜ now (out .exit) ≡ (map markOf (take n (now (out .entry))) ++ (lineFeed ∷ [])) ++ drop (n + 1) (now (out .entry)) ⌝ }
+    ensures { λ _. ⌜ now (out .exit) ≡ (map letterOf (take n (now (out .entry))) ++ (lineFeed ∷ [])) ++ drop (n + 1) (now (out .entry)) ⌝ }
 {
     mark_all(&mut out[..n]);
     out[n] = b'\n';

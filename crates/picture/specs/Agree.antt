@@ -36,7 +36,7 @@ use Rattle.line.specs.Line.{lineDots, lineLength}
 use Rattle.line.specs.Length.{length-line}
 use Rattle.line.specs.Walk.{Drawn, validBy, contentBy, column-content}
 use Rattle.picture.specs.declared.Plan.{Plan}
-use Rattle.picture.specs.Plan.{planOf, cellDotsOf, scan-lt, rowLine, rowFrom, rowDrawn, Sheet}
+use Rattle.picture.specs.Plan.{planOf, cellDotsOf, scan-lt, rowLine, rowFrom, rowDrawn, TablesFit}
 use Rattle.picture.specs.Picture.{pictureDots, pictureLength, pictureCheck, picturedOf}
 
 -- ---- a call that is not refused
@@ -136,7 +136,7 @@ module _ (b : Board) (chars attrs : List ℕ) (f : Font) (field : ℕ) (shown lo
 
 -- what the drawer asks of its tables
 pub sheet-of : (b : Board) (f : Font) (field : ℕ) (shown looks inks : List ℕ) → Accepted (b .page) → Made b f field shown looks
-    → length shown ≡ 4096 → length looks ≡ 2048 → inks ≡ tab 288 inkOf → (p : Plan) → p ≡ planOf (b .page) → Sheet p shown looks inks
+    → length shown ≡ 4096 → length looks ≡ 2048 → inks ≡ tab 288 inkOf → (p : Plan) → p ≡ planOf (b .page) → TablesFit p shown looks inks
 unfolding planOf
 sheet-of b f field shown looks inks page made ls lk ink p q = rw q (record {
   least = page .least;

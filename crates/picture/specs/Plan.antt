@@ -41,7 +41,7 @@ cellFrom cells shown looks d scan i = cellDotsOf shown looks d scan (getD cells 
 unfoldable pub lineFrom : Plan → Code → (cells shown looks : List ℕ) → (s : ℕ) → List ℕ
 lineFrom p k cells shown looks s = joined 0 (p .columns .0) (shownOf (isWide k) (cellFrom cells shown looks (p .dots .0) (scanOf k (p .lines .0) s)))
 
-pub record Sheet (p : Plan) (shown looks inks : List ℕ) : Type 0 where
+pub record TablesFit (p : Plan) (shown looks inks : List ℕ) : Type 0 where
   pub least : 6 ≤ p .dots .0
   pub most : p .dots .0 ≤ 12
   pub some : 0 < p .columns .0

@@ -14,7 +14,7 @@ ghost use Rattle.dots.specs.Half.{shownOf, fetchedFor};
 ghost use Rattle.tables.specs.Tables.{heldBy};
 ghost use Rattle.line.specs.Walk.{lastOf};
 ghost use Rattle.picture.specs.Picture.{pictureCheck, pictureLength, pictureOver, DrawsPicture};
-ghost use Rattle.picture.specs.Plan.{planOf, cellDotsOf, cellFrom, lineFrom, rowFrom, rowDrawn, Sheet, Numbered};
+ghost use Rattle.picture.specs.Plan.{planOf, cellDotsOf, cellFrom, lineFrom, rowFrom, rowDrawn, TablesFit, Numbered};
 ghost use Rattle.picture.specs.Agree.{Pictured};
 
 // What is the same for all rows: columns, dots a cell, lines a row, its scan lines, rows, the bytes of a line and of a row, the buffer, how cells are read.
@@ -41,7 +41,7 @@ fn put(
     number: u16,
     tight: bool,
 )
-    requires { ⌜ Sheet p (now shown) (now looks) (now inks) × (scan .0 < p .scans .0) × (number < 32768) ⌝ }
+    requires { ⌜ TablesFit p (now shown) (now looks) (now inks) × (scan .0 < p .scans .0) × (number < 32768) ⌝ }
     requires { ⌜ reachOf tight (p .dots .0) ≤ length (now out) ⌝ }
     ensures { λ _. ⌜ now (out .exit)
         ≡ cellDotsOf (now (shown .entry)) (now (looks .entry)) (reachOf tight (p .dots .0)) (scan .0) number
@@ -64,7 +64,7 @@ fn draw_cells(
     scan: units::Lines,
     n: usize,
 )
-    requires { ⌜ Sheet p (now shown) (now looks) (now inks) × (length (now cells) ≡ 256) × ((i : ℕ) → i < n → getD (now cells) i 0 < 32768) ⌝ }
+    requires { ⌜ TablesFit p (now shown) (now looks) (now inks) × (length (now cells) ≡ 256) × ((i : ℕ) → i < n → getD (now cells) i 0 < 32768) ⌝ }
     requires { ⌜ (scan .0 < p .scans .0) × (0 < n) × (n ≤ 256) × (n * p .dots .0 ≤ length (now out)) ⌝ }
     ensures { λ _. ⌜ now (out .exit)
         ≡ joined 0 n (cellFrom (now (cells .entry)) (now (shown .entry)) (now (looks .entry)) (p .dots .0) (scan .0))
@@ -102,7 +102,7 @@ fn draw_columns(
     inks: &[u64],
     scan: units::Lines,
 )
-    requires { ⌜ Sheet p (now shown) (now looks) (now inks) × (length (now cells) ≡ 256) × Numbered wide p (now cells) ⌝ }
+    requires { ⌜ TablesFit p (now shown) (now looks) (now inks) × (length (now cells) ≡ 256) × Numbered wide p (now cells) ⌝ }
     requires { ⌜ (scan .0 < p .scans .0) × (p .width ≤ length (now out)) ⌝ }
     ensures { λ _. ⌜ now (out .exit)
         ≡ joined 0 (p .columns .0) (shownOf wide (cellFrom (now (cells .entry)) (now (shown .entry)) (now (looks .entry)) (p .dots .0) (scan .0)))
@@ -130,7 +130,7 @@ fn draw_lines(
     looks: &[u8],
     inks: &[u64],
 )
-    requires { ⌜ Sheet p (now shown) (now looks) (now inks) × (length (now cells) ≡ 256) × Numbered (isWide k) p (now cells) ⌝ }
+    requires { ⌜ TablesFit p (now shown) (now looks) (now inks) × (length (now cells) ≡ 256) × Numbered (isWide k) p (now cells) ⌝ }
     requires { ⌜ p .lines .0 * p .width ≤ length (now out) ⌝ }
     ensures { λ _. ⌜ now (out .exit)
         ≡ joined 0 (p .lines .0) (lineFrom p k (now (cells .entry)) (now (shown .entry)) (now (looks .entry)))
@@ -162,7 +162,7 @@ fn draw_row(
     start: raster::Cell,
     held: u8,
 ) -> u8
-    requires { ⌜ Sheet p (now shown) (now looks) (now inks) × (length (now chars) ≡ 16384) × (length (now attrs) ≡ 16384) ⌝ }
+    requires { ⌜ TablesFit p (now shown) (now looks) (now inks) × (length (now chars) ≡ 16384) × (length (now attrs) ≡ 16384) ⌝ }
     requires { ⌜ (n ≡ fetchedFor (isWide k) (p .columns .0)) × (start .address < 16384) × (p .lines .0 * p .width ≤ length (now out)) ⌝ }
     ensures { λ r. ⌜ (r ≡ heldBy (p .reading .runs) (now (attrs .entry)) (p .buffer) held (start .address) (fetchedFor (isWide k) (p .columns .0)))
         × (now (out .exit)
@@ -197,7 +197,7 @@ fn draw_rows(
     looks: &[u8],
     inks: &[u64],
 )
-    requires { ⌜ Sheet p (now shown) (now looks) (now inks) × (length (now chars) ≡ 16384) × (length (now attrs) ≡ 16384) ⌝ }
+    requires { ⌜ TablesFit p (now shown) (now looks) (now inks) × (length (now chars) ≡ 16384) × (length (now attrs) ≡ 16384) ⌝ }
     requires { ⌜ Accepted page × (p ≡ planOf page) × (p .rows * p .size ≤ length (now out)) ⌝ }
     ensures { λ _. ⌜ now (out .exit)
         ≡ joined 0 (p .rows) (rowDrawn p page (now (chars .entry)) (now (attrs .entry)) (now (shown .entry)) (now (looks .entry)))

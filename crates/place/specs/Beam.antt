@@ -13,7 +13,7 @@ use lib.Dec.{ltb, eqb}
 use Rattle.lists.specs.Choice.{pick}
 use Rattle.raster.specs.declared.Row.{Row}
 use Rattle.raster.specs.Moves.{advance}
-use Rattle.raster.specs.Raster.{Carrier, Rows, Pair, pair, Scan, scan, loaded, onward, turn, step, tail, inLine, carriedAt, scanAt}
+use Rattle.raster.specs.Raster.{Carrier, Rows, Pair, pair, Scan, scan, loaded, onward, turn, step, tail, inLine, carriedAt, atOnce}
 use Rattle.raster.specs.Cells.{begins}
 use Rattle.raster.specs.Latch.{latched, setsOf}
 use Rattle.raster.specs.Wide.{codeOf, againAt, endsAt}
@@ -169,6 +169,6 @@ module _ (p : Page) (chars attrs : List ℕ) where
   carried-beam zero zero (suc frame) = rw (lt-ltb 0 (suc frame) (omega arith)) last-beam
   carried-beam zero zero zero = refl
 
-  pub at-beam : (n : ℕ) → placeAt p chars attrs n ≡ placeOf (scanAt (countsOf p) (rowsIn p chars attrs) (row 0 0 0) n)
-  unfolding placeAt scanAt countsOf
+  pub at-beam : (n : ℕ) → placeAt p chars attrs n ≡ placeOf (atOnce (countsOf p) (rowsIn p chars attrs) (row 0 0 0) n)
+  unfolding placeAt atOnce countsOf
   at-beam n = ap (placed (frameIn p n % 256) (lineIn p n) (clockIn p n)) (carried-beam (clockIn p n) (lineIn p n) (frameIn p n))

@@ -1,6 +1,6 @@
 -- One clock at a time, and at once: they agree for every n, whatever is carried. Assumes nothing.
 --     Laws         the four equations by which Rows fits a Carrier
---     steps-meet   with those, n single steps from clock 0 come to `scanAt n`
+--     steps-meet   with those, n single steps from clock 0 come to `atOnce n`
 --     loaded-meets what a clock of a visible line works on, once it has loaded
 use mathlib.Core.Path.{_≡_, refl, sym, ap, ap₂, _∙_}
 use Prim.Native.Nat.{ℕ, zero, suc, pred, _+_, _*_, _/_, _%_, _≤_, _<_}
@@ -11,7 +11,7 @@ use native.Mathlib.Omega.{arith}
 use borrow.Author.Tests.{lt-ltb, le-ltb, eq-eqb, ne-eqb}
 use Rattle.raster.specs.declared.Counts.{Counts}
 use Rattle.raster.specs.Tick.{Tick, up, carry, tick}
-use Rattle.raster.specs.Raster.{HT, VT, L, R, Good, clocks-some, frame-some, Carrier, Pair, pair, scan, turn, loaded, onward, step, steps, origin, Rows, tail, inLine, carriedAt, scanAt}
+use Rattle.raster.specs.Raster.{HT, VT, L, R, Good, clocks-some, frame-some, Carrier, Pair, pair, scan, turn, loaded, onward, step, steps, origin, Rows, tail, inLine, carriedAt, atOnce}
 
 pub record Laws {D : Type 0} (g : Counts) (m : Carrier D) (w : Rows D) : Type 0 where
   pub walk-zero : (r : ℕ) → r < R g → w .walk r 0 ≡ w .start r
@@ -151,8 +151,8 @@ module _ {D : Type 0} (g : Counts) (m : Carrier D) (w : Rows D) (s : Good g) (k 
   counted : (f : ℕ) → (f % 256 + 1) % 256 ≡ suc f % 256
   counted f = omega arith
 
-  pub step-meets : (z : D) (n : ℕ) → step g m (scanAt g w z n) ≡ scanAt g w z (suc n)
-  unfolding step scanAt carriedAt
+  pub step-meets : (z : D) (n : ℕ) → step g m (atOnce g w z n) ≡ atOnce g w z (suc n)
+  unfolding step atOnce carriedAt
   step-meets z n =
       ap (turn g (f % 256) l c) (onward-meets z c l f (mod-lt n (clocks-some g s)))
       ∙ go (tick n (clocks-some g s))
@@ -178,17 +178,17 @@ module _ {D : Type 0} (g : Counts) (m : Carrier D) (w : Rows D) (s : Good g) (k 
           (turn-frame (f % 256) l c (inLine g w (HT g) l) e a
           ∙ ap₂ (λ (x : ℕ) (d : Pair D). scan x 0 0 d) (counted f) (hidden g w (HT g) l (omega (arith, s .porch))))
 
-      go : Tick (HT g) n → turn g (f % 256) l c (inLine g w (suc c) l) ≡ scanAt g w z (suc n)
+      go : Tick (HT g) n → turn g (f % 256) l c (inLine g w (suc c) l) ≡ atOnce g w z (suc n)
       go (up a p q) = rw (p, q) (turn-on (f % 256) l c (inLine g w (suc c) l) a)
       go (carry a p q) = rw (p, q, a) (below a (tick y (frame-some g s)))
 
-  at-origin : origin g m ≡ scanAt g w (m .zeroth) 0
-  unfolding origin scanAt carriedAt
+  at-origin : origin g m ≡ atOnce g w (m .zeroth) 0
+  unfolding origin atOnce carriedAt
   at-origin = simp (zero-div, zero-mod)
 
   -- [demand at-once]
   -- n single steps from clock 0 come to the state for clock n
-  pub steps-meet : (n : ℕ) → steps g m n (origin g m) ≡ scanAt g w (m .zeroth) n
+  pub steps-meet : (n : ℕ) → steps g m n (origin g m) ≡ atOnce g w (m .zeroth) n
   unfolding steps
   steps-meet zero = at-origin
   steps-meet (suc n) = ap (step g m) (steps-meet n) ∙ step-meets (m .zeroth) n

@@ -18,7 +18,7 @@ use Rattle.raster.specs.declared.Beam.{Beam}
 use Rattle.raster.specs.declared.Row.{Row}
 use Rattle.raster.specs.declared.Cell.{Cell}
 use Rattle.raster.specs.Moves.{cell, advance}
-use Rattle.raster.specs.Raster.{HT, HACT, Good, Carrier, Rows, steps, origin, scanAt}
+use Rattle.raster.specs.Raster.{HT, HACT, Good, Carrier, Rows, steps, origin, atOnce}
 use Rattle.raster.specs.Agree.{Laws, steps-meet}
 use Rattle.raster.specs.Wide.{codeOf, fetchesAt, movesAt}
 use Rattle.raster.specs.Cells.{Feed, Tally, begins, movesOn, movesBy, startOf, cellOf, Fed, Tallied, cells-lawful}
@@ -132,5 +132,5 @@ module _ (g : Counts) (e : Feed) (code sets : ℕ → ℕ) where
                 ap₂ (λ (a l : ℕ). row a l (code (suc r))) (ap (λ (y : Cell). y .address) (k .start-suc r h)) (rw (ne-eqb (suc r) 0 (omega arith)) (valid-next o r));
           }
 
-      pub beams-meet : (n : ℕ) → steps g beamCarrier n (origin g beamCarrier) ≡ scanAt g beamRows (row 0 0 0) n
+      pub beams-meet : (n : ℕ) → steps g beamCarrier n (origin g beamCarrier) ≡ atOnce g beamRows (row 0 0 0) n
       beams-meet n = steps-meet g beamCarrier beamRows o beams-lawful n

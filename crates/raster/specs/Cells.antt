@@ -3,7 +3,7 @@
 --     Tally         how often it has moved on by a column of a row, at once
 --     carrier       the cell as the beam carries it
 --     cellRows        each row's start, and the cell at each of its columns, at once
---     cells-meet    n single steps from clock 0 come to `scanAt` of these
+--     cells-meet    n single steps from clock 0 come to `atOnce` of these
 --     cells-inside  with the table off and an ordered buffer every cell is in the buffer
 use mathlib.Core.Path.{_≡_, refl, sym, ap, _∙_}
 use mathlib.Core.Bool.{Bool, true, false}
@@ -17,7 +17,7 @@ use Rattle.raster.specs.declared.Counts.{Counts}
 use Rattle.raster.specs.declared.Buffer.{Buffer}
 use Rattle.raster.specs.declared.Cell.{Cell}
 use Rattle.raster.specs.Moves.{cell, advance, advanceBy, Bounded, advanceBy-zero, advanceBy-suc, advanceBy-add, advanceBy-lt, advanceBy-inside, Inside}
-use Rattle.raster.specs.Raster.{HT, HACT, Good, Carrier, Rows, steps, origin, scanAt}
+use Rattle.raster.specs.Raster.{HT, HACT, Good, Carrier, Rows, steps, origin, atOnce}
 use Rattle.raster.specs.Agree.{Laws, steps-meet}
 use Rattle.raster.specs.Wide.{codeOf, movesAt, movedAt, moved-zero, moved-suc, moved-all}
 
@@ -151,7 +151,7 @@ module _ (g : Counts) (e : Feed) (t : Tally) (d : Fed e) (v : Tallied g e t) whe
     start-suc = λ r h. ap cell (begin-suc r);
   }
 
-  pub cells-meet : Good g → (n : ℕ) → steps g (carrier e) n (origin g (carrier e)) ≡ scanAt g (cellRows e t) (cell 0) n
+  pub cells-meet : Good g → (n : ℕ) → steps g (carrier e) n (origin g (carrier e)) ≡ atOnce g (cellRows e t) (cell 0) n
   cells-meet o n = steps-meet g (carrier e) (cellRows e t) o cells-lawful n
 
 -- ---- the range

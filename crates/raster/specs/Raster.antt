@@ -4,7 +4,7 @@
 --     Scan D       the state: field, line, clock, what is carried now, and what the row began with
 --     step         one clock
 --     Rows D       what each row begins with, and what is carried at each column of each row, at once
---     scanAt       the state at clock n, at once, by n's quotients and remainders
+--     atOnce       the state at clock n, at once, by n's quotients and remainders
 use Prim.Native.Nat.{ℕ, zero, suc, pred, _+_, _*_, _/_, _%_, _≤_, _<_}
 use native.Mathlib.Omega.{arith}
 use lib.Dec.{ltb, eqb}
@@ -131,7 +131,7 @@ module _ {D : Type 0} (g : Counts) (w : Rows D) where
   carriedAt z zero zero (suc frame) = tail
   carriedAt z zero zero zero = pair z z
 
-  unfoldable pub scanAt : D → ℕ → Scan D
-  scanAt z n =
+  unfoldable pub atOnce : D → ℕ → Scan D
+  atOnce z n =
       scan (n / HT g / VT g % 256) (n / HT g % VT g) (n % HT g)
       (carriedAt z (n % HT g) (n / HT g % VT g) (n / HT g / VT g))

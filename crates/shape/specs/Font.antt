@@ -53,8 +53,8 @@ positionOf (x ∷ xs) scan = pick (eqb (x % 16) scan) 0 (suc (positionOf xs scan
 unfoldable pub fontLineOf : (unshifted shifted : List ℕ) → (scan : ℕ) → FontLine
 fontLineOf unshifted shifted scan = record { unshifted = positionOf unshifted scan; shifted = positionOf shifted scan }
 
-abbrev pub lineIn : Font → (scan : ℕ) → FontLine
-lineIn f scan = fontLineOf (f .unshifted) (f .shifted) scan
+abbrev pub fontLineIn : Font → (scan : ℕ) → FontLine
+fontLineIn f scan = fontLineOf (f .unshifted) (f .shifted) scan
 
 -- [board font] the font: words of which ten bits count, shift flags, two lists of which four bits count
 -- the font word of a character at a position of nine (low ten bits count); zeros past the nine
@@ -70,4 +70,4 @@ wordBy words flags line code =
 -- [dots shape]
 -- the word that a code shows on a scan line
 unfoldable pub wordOf : Font → (code scan : ℕ) → ℕ
-wordOf f code scan = wordBy (f .words) (f .flags) (lineIn f scan) code
+wordOf f code scan = wordBy (f .words) (f .flags) (fontLineIn f scan) code

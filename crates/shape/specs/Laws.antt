@@ -9,7 +9,7 @@ use lib.ListN.{length, getD}
 use lib.Dec.{eqb, ltb}
 use Rattle.lists.specs.Choice.{pick, neither, pick-lt}
 use Rattle.shape.specs.declared.FontLine.{FontLine}
-use Rattle.shape.specs.Font.{Font, Whole, fontRefused, lineIn, fontWord, wordBy, wordOf}
+use Rattle.shape.specs.Font.{Font, Whole, fontRefused, fontLineIn, fontWord, wordBy, wordOf}
 
 pub font-whole : (f : Font) → fontRefused f ≡ false → Whole f
 font-whole f e =
@@ -38,7 +38,7 @@ by-small words flags line code =
 
 pub word-of-small : (f : Font) (code scan : ℕ) → wordOf f code scan < 1024
 unfolding wordOf
-word-of-small f code scan = by-small (f .words) (f .flags) (lineIn f scan) code
+word-of-small f code scan = by-small (f .words) (f .flags) (fontLineIn f scan) code
 
 -- the shift flag chooses the position
 module _ (words flags : List ℕ) (line : FontLine) (code : ℕ) (shown : 128 ≤ code) where

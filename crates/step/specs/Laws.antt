@@ -19,7 +19,7 @@ use Rattle.board.specs.Range.{memoriesRefused}
 use Rattle.board.specs.Laws.{memories-all}
 use Rattle.timing.specs.Check.{pageCheck, stateRefused, callCheck}
 use Rattle.timing.specs.Laws.{InRange, call-passed, ht-bound, vt-bound}
-use Rattle.shape.specs.Font.{Font, fontRefused, lineIn, wordOf}
+use Rattle.shape.specs.Font.{Font, fontRefused, fontLineIn, wordOf}
 use Rattle.shape.specs.Laws.{font-whole, by-small}
 use Rattle.video.specs.declared.Look.{Look}
 use Rattle.video.specs.Scene.{sceneOf, cursorAt}
@@ -89,15 +89,15 @@ module _ (b : Board) (chars attrs : List ℕ) (f : Font) (row held a : ℕ) wher
   unfolding shownIn cellShown blankShown
   shown-small = go (activeAt (b .page) (b .place))
     where
-      go : (t : Bool) → (pick t (cellShown b chars attrs (f .words) (f .flags) (lineIn f (scanIn b row)) row held a) (blankShown b)) .word < 1024
-      go true = by-small (f .words) (f .flags) (lineIn f (scanIn b row)) _
+      go : (t : Bool) → (pick t (cellShown b chars attrs (f .words) (f .flags) (fontLineIn f (scanIn b row)) row held a) (blankShown b)) .word < 1024
+      go true = by-small (f .words) (f .flags) (fontLineIn f (scanIn b row)) _
       go false = omega arith
 
   shown-cursor : shownIn b chars attrs f row held a .cursor ≡ (activeAt (b .page) (b .place) && cursorAt (sceneOf b (scanIn b row) (b .place .field)) a)
   unfolding shownIn cellShown blankShown
   shown-cursor = go (activeAt (b .page) (b .place))
     where
-      go : (t : Bool) → (pick t (cellShown b chars attrs (f .words) (f .flags) (lineIn f (scanIn b row)) row held a) (blankShown b)) .cursor ≡ (t && cursorAt (sceneOf b (scanIn b row) (b .place .field)) a)
+      go : (t : Bool) → (pick t (cellShown b chars attrs (f .words) (f .flags) (fontLineIn f (scanIn b row)) row held a) (blankShown b)) .cursor ≡ (t && cursorAt (sceneOf b (scanIn b row) (b .place .field)) a)
       go true = refl
       go false = refl
 
@@ -123,7 +123,7 @@ module _ (b : Board) (chars attrs : List ℕ) (f : Font) (row held a : ℕ) wher
       x = sceneOf b 0 (b .place .field) .blank
 
       s : Bool → Shown
-      s t = pick t (cellShown b chars attrs (f .words) (f .flags) (lineIn f (scanIn b row)) row held a) (blankShown b)
+      s t = pick t (cellShown b chars attrs (f .words) (f .flags) (fontLineIn f (scanIn b row)) row held a) (blankShown b)
 
       go : (t : Bool) → columnOf (t && isWide (codeOf row)) (oddIn b) (cellDots (s t .look) (s t .word) d)
           ≡ pick t (columnOf (isWide (codeOf row)) (oddIn b) (dotsAt b chars attrs f (scanIn b row) (b .place .field) (againAt (codeOf row) (b .place .clock .0)) held a)) (replicate d x)

@@ -11,7 +11,7 @@ use Rattle.board.specs.declared.Board.{Board}
 use Rattle.board.specs.Modes.{settersHidden}
 use Rattle.timing.specs.Fields.{blinkOf}
 use Rattle.shape.specs.declared.FontLine.{FontLine}
-use Rattle.shape.specs.Font.{Font, lineIn, wordBy}
+use Rattle.shape.specs.Font.{Font, fontLineIn, wordBy}
 use Rattle.video.specs.Scene.{displayed, blinkAt, sceneOf, cursorAt}
 use Rattle.video.specs.Look.{blankLook, lookOf}
 use Rattle.video.specs.At.{readingOf, countedByte, shownCode}
@@ -46,4 +46,4 @@ unfoldable pub blankShown : Board → Shown
 blankShown b = record { cursor = false; look = blankLook (sceneOf b 0 (b .place .field) .blank); word = 0 }
 
 unfoldable pub shownIn : Board → (chars attrs : List ℕ) → Font → (row held address : ℕ) → Shown
-shownIn b chars attrs f k held a = pick (activeAt (b .page) (b .place)) (cellShown b chars attrs (f .words) (f .flags) (lineIn f (scanIn b k)) k held a) (blankShown b)
+shownIn b chars attrs f k held a = pick (activeAt (b .page) (b .place)) (cellShown b chars attrs (f .words) (f .flags) (fontLineIn f (scanIn b k)) k held a) (blankShown b)

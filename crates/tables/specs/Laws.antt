@@ -19,7 +19,7 @@ use Rattle.raster.specs.Latch.{latched, lastSet, sets-or}
 use Rattle.board.specs.declared.Board.{Board}
 use Rattle.timing.specs.Laws.{Accepted}
 use Rattle.shape.specs.declared.FontLine.{FontLine}
-use Rattle.shape.specs.Font.{Font, lineIn, wordBy, wordOf}
+use Rattle.shape.specs.Font.{Font, fontLineIn, wordBy, wordOf}
 use Rattle.shape.specs.Laws.{by-small}
 use Rattle.video.specs.declared.Scene.{Scene}
 use Rattle.video.specs.declared.Look.{Look}
@@ -128,7 +128,7 @@ unfolding levelsAt
 levels-at b field xs rest n s i e h l = join-element (levelsAt b field) 128 (length-levels b field) xs rest n s i e h l ∙ getD-tab 128 _ i l
 
 pub word-at : (f : Font) (d : ℕ) (xs rest : List ℕ) (n s i : ℕ) → xs ≡ joined 0 n (wordsAt f d) ++ rest → s < n → i < 256
-    → getD xs (s * 256 + i) 0 ≡ shownWord (f .words) (f .flags) (lineIn f s) d i
+    → getD xs (s * 256 + i) 0 ≡ shownWord (f .words) (f .flags) (fontLineIn f s) d i
 unfolding wordsAt
 word-at f d xs rest n s i e h l = join-element (wordsAt f d) 256 (length-words f d) xs rest n s i e h l ∙ getD-tab 256 _ i l
 
@@ -144,7 +144,7 @@ module _ (b : Board) (f : Font) (scan field : ℕ) (a : Accepted (b .page)) (k :
   d = b .page .video .dots .0
 
   abbrev word : ℕ
-  word = wordBy (f .words) (f .flags) (lineIn f scan) (k .code)
+  word = wordBy (f .words) (f .flags) (fontLineIn f scan) (k .code)
 
   abbrev here : Bool
   here = sceneOf b scan field .gate && k .here

@@ -13,7 +13,7 @@ use Rattle.raster.specs.Moves.{advanceBy}
 use Rattle.raster.specs.Latch.{setsOf, lastSet}
 use Rattle.board.specs.declared.Board.{Board}
 use Rattle.shape.specs.declared.FontLine.{FontLine}
-use Rattle.shape.specs.Font.{Font, lineIn, wordBy}
+use Rattle.shape.specs.Font.{Font, fontLineIn, wordBy}
 use Rattle.video.specs.declared.Scene.{Scene}
 use Rattle.video.specs.declared.Look.{Look}
 use Rattle.video.specs.declared.Reading.{Reading}
@@ -64,7 +64,7 @@ unfoldable pub noWord : ℕ → ℕ
 noWord code = 0
 
 unfoldable pub wordsAt : Font → (d scan : ℕ) → List ℕ
-wordsAt f d scan = tab 256 (shownWord (f .words) (f .flags) (lineIn f scan) d)
+wordsAt f d scan = tab 256 (shownWord (f .words) (f .flags) (fontLineIn f scan) d)
 
 -- ---- the lent tables afterwards; what stands beyond stays
 

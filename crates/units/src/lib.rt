@@ -1,7 +1,7 @@
 // The three units of the papers: character clocks, scan lines, dots. A count of one is never added to a count of another.
 // Only here is a count's plain number worked with: sums and comparisons within a unit, the conversions between them, and
 // those to cells of a row and places of a buffer, which are plain numbers. Elsewhere it is only handed on: to C, as the
-// number next to a refusal, to a file, to the listing. The functions of `promises*` read it as C does.
+// number next to a refusal, to a file, to the listing. The functions of `callers*` read it as C does.
 ghost use mathlib.Core.Path.{_≡_};
 ghost use Prim.Native.Nat.{min, _+_, _-_, _*_, _/_, _%_, _<_, _^_};
 ghost use lib.Dec.{eqb, ltb, leb};
