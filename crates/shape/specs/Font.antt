@@ -56,16 +56,20 @@ fontLineOf unshifted shifted scan = record { unshifted = positionOf unshifted sc
 abbrev pub fontLineIn : Font → (scan : ℕ) → FontLine
 fontLineIn f scan = fontLineOf (f .unshifted) (f .shifted) scan
 
+-- a shift flag that is not 0 is shifted, and chooses the shifted list
+abbrev pub chosenBy : (flag : ℕ) → FontLine → ℕ
+chosenBy flag line = pick (eqb flag 0) (line .unshifted) (line .shifted)
+
 -- [board font] the font: words of which ten bits count, shift flags, two lists of which four bits count
 -- the font word of a character at a position of nine (low ten bits count); zeros past the nine
 unfoldable pub fontWord : List ℕ → ℕ → ℕ → ℕ
 fontWord words character position = pick (ltb position 9) (getD words (character * 9 + position) 0 % 1024) 0
 
 -- [dots shape] CA7 = 0 gives zeros; else the flag chooses a list, and the first position of the scan line gives the word
--- CA7 = 0 gives zeros; a shift flag that is not 0 is shifted, and chooses the list whose position gives the font word
+-- CA7 = 0 gives zeros; else the position in the list that the character's flag chooses gives the font word
 unfoldable pub wordBy : (words flags : List ℕ) → FontLine → (code : ℕ) → ℕ
 wordBy words flags line code =
-    pick (ltb code 128) 0 (fontWord words (code % 128) (pick (eqb (getD flags (code % 128) 0) 0) (line .unshifted) (line .shifted)))
+    pick (ltb code 128) 0 (fontWord words (code % 128) (chosenBy (getD flags (code % 128) 0) line))
 
 -- [dots shape]
 -- the word that a code shows on a scan line

@@ -1,15 +1,15 @@
 -- What callers use of a font: which parts were passed, and that a word has ten bits. Assumes nothing.
-use Prim.Native.Nat.{ℕ, _+_, _*_, _%_, _≤_, _<_}
+use Prim.Native.Nat.{ℕ, _+_, _*_, _%_, _<_}
 use mathlib.Core.Path.{_≡_}
 use mathlib.Core.Bool.{false, _||_, not}
 use mathlib.Core.List.{List}
 use native.Mathlib.Omega.{arith}
-use borrow.Author.Tests.{eqb-true, not-false, le-ltb, eq-eqb, ne-eqb}
+use borrow.Author.Tests.{eqb-true, not-false}
 use lib.ListN.{length, getD}
 use lib.Dec.{eqb, ltb}
-use Rattle.lists.specs.Choice.{pick, neither, pick-lt}
+use Rattle.lists.specs.Choice.{neither, pick-lt}
 use Rattle.shape.specs.declared.FontLine.{FontLine}
-use Rattle.shape.specs.Font.{Font, Whole, fontRefused, fontLineIn, fontWord, wordBy, wordOf}
+use Rattle.shape.specs.Font.{Font, Whole, fontRefused, fontLineIn, chosenBy, fontWord, wordBy, wordOf}
 
 pub font-whole : (f : Font) → fontRefused f ≡ false → Whole f
 font-whole f e =
@@ -34,18 +34,8 @@ pub by-small : (words flags : List ℕ) (line : FontLine) (code : ℕ) → wordB
 unfolding wordBy
 by-small words flags line code =
     pick-lt 1024 (ltb code 128) 0 _ (omega arith)
-    (word-small words (code % 128) (pick (eqb (getD flags (code % 128) 0) 0) (line .unshifted) (line .shifted)))
+    (word-small words (code % 128) (chosenBy (getD flags (code % 128) 0) line))
 
 pub word-of-small : (f : Font) (code scan : ℕ) → wordOf f code scan < 1024
 unfolding wordOf
 word-of-small f code scan = by-small (f .words) (f .flags) (fontLineIn f scan) code
-
--- the shift flag chooses the position
-module _ (words flags : List ℕ) (line : FontLine) (code : ℕ) (shown : 128 ≤ code) where
-  pub by-unshifted : getD flags (code % 128) 0 ≡ 0 → fontWord words (code % 128) (line .unshifted) ≡ wordBy words flags line code
-  unfolding wordBy
-  by-unshifted e = rw (le-ltb code 128 shown, eq-eqb _ _ e)
-
-  pub by-shifted : (getD flags (code % 128) 0 ≡ 0 → ⊥) → fontWord words (code % 128) (line .shifted) ≡ wordBy words flags line code
-  unfolding wordBy
-  by-shifted e = rw (le-ltb code 128 shown, ne-eqb _ _ e)

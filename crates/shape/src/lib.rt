@@ -2,7 +2,7 @@
 ghost use mathlib.Core.Path.{_≡_};
 ghost use Prim.Native.Nat.{_<_};
 ghost use lib.ListN.{length};
-ghost use Rattle.shape.specs.Font.{fontRefused, positionOf, fontLineOf, fontWord, wordBy, lentFont};
+ghost use Rattle.shape.specs.Font.{fontRefused, positionOf, fontLineOf, chosenBy, fontWord, wordBy, lentFont};
 
 // What a scan line takes from a font: the first position in each of its two lists that equals the scan line, or the list's length.
 pub struct FontLine {
@@ -53,6 +53,17 @@ fn font_word(words: &[u16], character: usize, position: usize) -> u16
     }
 }
 
+// The shift flag chooses a list.
+fn chosen(flag: u8, line: FontLine) -> usize
+    ensures { λ r. ⌜ r ≡ chosenBy flag line ⌝ }
+{
+    if flag == 0 {
+        line.unshifted
+    } else {
+        line.shifted
+    }
+}
+
 // The word that a code shows on a scan line.
 pub fn word_by(words: &[u16], flags: &[u8], line: FontLine, code: u8) -> u16
     requires { ⌜ (length (now words) ≡ 1152) × (length (now flags) ≡ 128) ⌝ }
@@ -62,9 +73,5 @@ pub fn word_by(words: &[u16], flags: &[u8], line: FontLine, code: u8) -> u16
         return 0;
     }
     let character = (code % 128) as usize;
-    if flags[character] == 0 {
-        font_word(words, character, line.unshifted)
-    } else {
-        font_word(words, character, line.shifted)
-    }
+    font_word(words, character, chosen(flags[character], line))
 }

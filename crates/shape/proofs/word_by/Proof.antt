@@ -1,11 +1,11 @@
--- Rests on by-unshifted and by-shifted, one for each value of the shift flag.
-use mathlib.Core.Path.{refl, _∙_}
+-- Rests on the definition: CA7, then the position that the flag chooses.
+use mathlib.Core.Path.{refl, ap, _∙_}
+use Prim.Native.Nat.{_%_}
 use native.Mathlib.Omega.{arith}
-use borrow.Author.Tests.{lt-ltb}
+use borrow.Author.Tests.{lt-ltb, le-ltb}
 use borrow.Author.Needs.{needs}
-use Rattle.lists.specs.Choice.{stop}
-use Rattle.shape.specs.Font.{wordBy}
-use Rattle.shape.specs.Laws.{by-unshifted, by-shifted}
+use Rattle.lists.specs.Choice.{stop, pass}
+use Rattle.shape.specs.Font.{fontWord, wordBy}
 use Rattle.shape.proofs.word_by.Statement.{statement}
 use Rattle.shape.proofs.word_by.Tie as tie
 
@@ -14,10 +14,10 @@ unfolding wordBy
 returns c = stop _ (lt-ltb _ _ (c .if1 .taken)) refl
 
 returns-2 : tie.Need-returns-2
-returns-2 c = c .font-word .ensures ∙ by-unshifted _ _ _ _ (omega arith) (c .before .if2 .taken)
-
-returns-3 : tie.Need-returns-3
-returns-3 c = c .font-word2 .ensures ∙ by-shifted _ _ _ _ (omega arith) (c .before .if2 .left)
+unfolding wordBy
+returns-2 c =
+    let code = c .before .before .before .before .before .before .args .code in
+    pass _ (le-ltb code 128 (omega arith)) (c .font-word .ensures ∙ ap (fontWord (c .before .before .before .before .before .before .args .words .now) (code % 128)) (c .before .chosen .ensures))
 
 pub word-by-spec : {M : Type 1} → statement M
 word-by-spec =
@@ -28,5 +28,4 @@ word-by-spec =
     (λ c. search needs)
     (λ c κs. search needs)
     (λ c κs. search needs)
-    returns-2
-    returns-3)
+    returns-2)
