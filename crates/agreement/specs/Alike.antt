@@ -42,19 +42,13 @@ use Rattle.line.specs.Line.{columnDots, lineDots}
 use Rattle.picture.specs.Picture.{pictureDots}
 use Rattle.place.specs.Place.{carried, placed, rowAt, lastAt, lineAt, carriedBefore, placeAt, clockIn, lineIn, frameIn}
 use Rattle.place.specs.Laws.{line-shown, line-idle}
-use Rattle.catalogue.specs.There.{withPage}
+use Rattle.board.specs.Parts.{withIrs, withStarts, withPage}
 
 -- ---- two pages
 
 -- a page with other registers and screen starts
 abbrev pub changed : Page → (irs : List ℕ) → (start1 start2 : ℕ) → Page
-changed p irs s t = record {
-  version = p .version;
-  irs = irs;
-  starts = record { start1 = s; cursor = p .starts .cursor; start2 = t };
-  switches = p .switches;
-  video = p .video;
-}
+changed p irs s t = withStarts (withIrs p irs) (record { start1 = s; cursor = p .starts .cursor; start2 = t })
 
 -- registers that differ in IR2[7] at most
 pub record Same (irs irs′ : List ℕ) : Type 0 where

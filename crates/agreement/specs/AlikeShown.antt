@@ -12,7 +12,7 @@ use Rattle.shape.specs.Font.{Font}
 use Rattle.video.specs.At.{lentRefused}
 use Rattle.picture.specs.Picture.{pictureLength, pictureCheck, picturedOf}
 use Rattle.step.specs.Step.{stepCheck}
-use Rattle.catalogue.specs.There.{withPage}
+use Rattle.board.specs.Parts.{withPage}
 use Rattle.agreement.specs.Alike.{Same, Alike, changed, same-hact, same-rows, same-lines, same-state, alike-picture}
 use Rattle.agreement.specs.AlikeSteps.{SameStep, alike-step}
 use Rattle.agreement.specs.Steps.{range-ok, call-ok}

@@ -27,10 +27,9 @@ use Rattle.video.specs.At.{scanOf, dotsAt}
 use Rattle.place.specs.Place.{activeAt, loadedIn, placeAt}
 use Rattle.place.specs.Beam.{rasterOf}
 use Rattle.place.specs.Settled.{at-settled}
-use Rattle.place.specs.State.{withPlace}
+use Rattle.board.specs.Parts.{withPlace, withPage}
 use Rattle.step.specs.Signals.{signalsOf, padded, oddIn, clockDots}
 use Rattle.step.specs.Step.{steppedOf, stepCheck, stepOf}
-use Rattle.catalogue.specs.There.{withPage}
 use Rattle.agreement.specs.Steps.{after, step-is, steps-are}
 use Rattle.agreement.specs.Lines.{beam-at}
 use Rattle.agreement.specs.Alike.{Alike, changed, same-scene, same-dots, same-cursor, same-rows, same-lines, same-cell, same-held, alike-place}

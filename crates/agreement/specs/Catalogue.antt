@@ -29,7 +29,8 @@ use Rattle.timing.specs.Fields.{ir, codedOf, rowsOf, hactOf, tableOf, bufferOf}
 use Rattle.timing.specs.Laws.{call-passed, buffer-bounded}
 use Rattle.fetch.specs.Rows.{byteAt, entryOf, rowStart, cellAt, fetchedOf}
 use Rattle.fetch.specs.Laws.{no-codes, entry-lt, row-start-lt, start-table, start-sheet, cell-shown}
-use Rattle.catalogue.specs.There.{fetchesCell, tableSize, tablePlaces, unfetchedAt, tablePlace, tableByte, therePage, thereChars, ownCheck, thereCheck, movedTo, withPage, thereOf, thereLeft}
+use Rattle.board.specs.Parts.{withPage}
+use Rattle.catalogue.specs.There.{fetchesCell, tableSize, tablePlaces, unfetchedAt, tablePlace, tableByte, therePage, thereChars, ownCheck, thereCheck, movedTo, thereOf, thereLeft}
 use Rattle.catalogue.specs.Back.{followsRow, rowsApart, backPage, backCheck, backOf}
 use Rattle.catalogue.specs.Marks.{Movable, Returnable, there-passed, back-passed}
 use Rattle.agreement.specs.Rows.{nthCell, cell-in}

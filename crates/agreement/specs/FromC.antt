@@ -32,7 +32,8 @@ use Rattle.line.specs.Line.{rowFor, lineLength, drawCheck, drawnOf}
 use Rattle.picture.specs.Picture.{picturedOf}
 use Rattle.video.specs.At.{lentRefused}
 use Rattle.step.specs.Step.{steppedOf, stepCheck, stepOf}
-use Rattle.place.specs.State.{withPlace, stateOf}
+use Rattle.board.specs.Parts.{withPlace}
+use Rattle.place.specs.State.{stateOf}
 use Rattle.files.specs.Page.{pageAt}
 use Rattle.numbers.specs.Numbers.{numbersRefused, numbersBoard, numbersCheck}
 use Rattle.numbers.specs.Laws.{numbers-passed}

@@ -52,7 +52,8 @@ use Rattle.video.specs.At.{lentRefused, scanOf, scanAt, readingOf, countedByte,
 use Rattle.step.specs.Step.{stepOf}
 use Rattle.place.specs.declared.Carried.{Carried}
 use Rattle.place.specs.Place.{activeAt, loadedIn, movedIn, turnedIn}
-use Rattle.place.specs.State.{withPlace, stateOf}
+use Rattle.board.specs.Parts.{withPlace}
+use Rattle.place.specs.State.{stateOf}
 use Rattle.fetch.specs.declared.Span.{Span}
 
 -- ---- `fetch`

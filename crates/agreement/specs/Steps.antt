@@ -33,7 +33,8 @@ use Rattle.place.specs.declared.Carried.{Carried}
 use Rattle.place.specs.Place.{nextPlace, clockIn, lineIn, frameIn, rowAt, carriedBefore, placeAt}
 use Rattle.place.specs.Beam.{rasterOf, placeOf, carrierOf, rowsIn, next-beam, carried-beam, at-beam}
 use Rattle.step.specs.Step.{steppedOf, stepCheck, stepOf, Fit}
-use Rattle.place.specs.State.{withPlace, stateCheck, stateOf}
+use Rattle.board.specs.Parts.{withPlace}
+use Rattle.place.specs.State.{stateCheck, stateOf}
 use Rattle.step.specs.Laws.{fit}
 use Rattle.place.specs.Laws.{carried-all}
 use Rattle.place.specs.Settled.{at-settled}

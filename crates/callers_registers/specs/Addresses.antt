@@ -13,7 +13,8 @@ use Rattle.board.specs.declared.Board.{Board}
 use Rattle.board.specs.Range.{startsRefused}
 use Rattle.registers.specs.declared.Written.{Written}
 use Rattle.registers.specs.declared.ByteRead.{ByteRead}
-use Rattle.registers.specs.Parts.{withStarts, withPage, answer, byteRead}
+use Rattle.board.specs.Parts.{withStarts, withPage}
+use Rattle.registers.specs.Answers.{answer, byteRead}
 use Rattle.registers.specs.Write.{registerCheck, lowerOf, upperOf, startsAfter, startedOf, activeOf}
 use Rattle.registers.specs.Read.{lowerShown, upperShown, shownAt, readAt, readOf}
 use Rattle.feldrime.specs.declared.BoardAnswer.{BoardAnswer}

@@ -17,7 +17,8 @@ use Rattle.board.specs.Layout.{layoutOf, lastIr}
 use Rattle.board.specs.Range.{addressRefused, pointerRefused}
 use Rattle.board.specs.Laws.{layout-fits}
 use Rattle.registers.specs.declared.Written.{Written}
-use Rattle.registers.specs.Parts.{withIrs, withSwitches, withPage, withPointer, answer}
+use Rattle.board.specs.Parts.{withIrs, withSwitches, withPage, withPointer}
+use Rattle.registers.specs.Answers.{answer}
 use Rattle.registers.specs.Write.{registerCheck, pointedOf, switchesAfter, switchedOf, commandOf, nextPointer, activeOf, inactiveOf, writeOf}
 use Rattle.feldrime.specs.declared.BoardAnswer.{BoardAnswer}
 use Rattle.feldrime.specs.Answers.{boardAnswer}

@@ -14,7 +14,7 @@ use Rattle.board.specs.declared.Board.{Board}
 use Rattle.board.specs.Range.{pointerRefused}
 use Rattle.place.specs.State.{stateCheck, stateOf}
 use Rattle.registers.specs.declared.Written.{Written}
-use Rattle.registers.specs.Parts.{answer}
+use Rattle.registers.specs.Answers.{answer}
 use Rattle.registers.specs.Write.{registerCheck, commandOf, activeOf, inactiveOf, writeOf}
 use Rattle.registers.specs.Video.{videoCheck, setVideoOf}
 use Rattle.feldrime.specs.declared.BoardAnswer.{BoardAnswer}

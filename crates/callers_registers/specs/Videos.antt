@@ -11,7 +11,7 @@ use Rattle.units.specs.declared.Dots.{Dots}
 use Rattle.refusal.specs.declared.Refusal.{Refusal}
 use Rattle.refusal.specs.Number.{numberOf, doneOf}
 use Rattle.board.specs.declared.Board.{Board}
-use Rattle.registers.specs.Parts.{withSwitches, withVideo, withPage}
+use Rattle.board.specs.Parts.{withSwitches, withVideo, withPage}
 use Rattle.registers.specs.Video.{videoCheck, switchesSet, videoSet, setVideoOf}
 use Rattle.feldrime.specs.declared.BoardAnswer.{BoardAnswer}
 use Rattle.feldrime.specs.Answers.{boardAnswer}

@@ -15,7 +15,8 @@ use Rattle.board.specs.declared.Board.{Board}
 use Rattle.timing.specs.Fields.{ir, codedOf, tableOf, rowsOf, hactOf, bufferOf}
 use Rattle.fetch.specs.Rows.{entryOf}
 use Rattle.catalogue.specs.declared.Moved.{Moved}
-use Rattle.catalogue.specs.There.{ownCheck, movedTo, withPage}
+use Rattle.board.specs.Parts.{withIrs, withStarts, withPage}
+use Rattle.catalogue.specs.There.{ownCheck, movedTo}
 
 -- [R-5 back] the way back takes a plain page whose every later entry is where the row before ended; row 0's is anything
 -- the entry of the row after row r is where row r ended; of its high byte six bits count
@@ -30,13 +31,8 @@ rowsApart p chars = anyBelow (λ r. not (followsRow p chars r)) (rowsOf p - 1)
 -- [R-5 sheet]
 -- IR2[7] is cleared and screen start 1 is the first entry; memory stays
 abbrev pub sheetAt : Page → (first : ℕ) → Page
-sheetAt p a = record {
-  version = p .version;
-  irs = set (p .irs) 2 (ir p 2 % 128);
-  starts = record { start1 = a; cursor = p .starts .cursor; start2 = p .starts .start2 };
-  switches = p .switches;
-  video = p .video;
-}
+sheetAt p a =
+    withStarts (withIrs p (set (p .irs) 2 (ir p 2 % 128))) (record { start1 = a; cursor = p .starts .cursor; start2 = p .starts .start2 })
 
 -- [R-5 sheet] it clears IR2[7], sets screen start 1 to the first entry, and leaves memory
 unfoldable pub backPage : Page → (chars : List ℕ) → Page

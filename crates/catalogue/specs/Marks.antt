@@ -36,7 +36,8 @@ use Rattle.fetch.specs.Rows.{entryOf, fetchedOf, fetchAt}
 use Rattle.fetch.specs.Laws.{no-codes, start-sheet}
 use Rattle.catalogue.specs.declared.Moved.{Moved}
 use Rattle.catalogue.specs.Back.{followsRow, rowsApart, backPage, backOrder, backCheck, backOf}
-use Rattle.catalogue.specs.There.{fetchesCell, tableSize, tablePlaces, unfetchedAt, tablePlace, tableByte, therePage, thereChars, ownCheck, thereOrder, thereCheck, movedTo, withPage, thereOf, thereLeft}
+use Rattle.board.specs.Parts.{withPage}
+use Rattle.catalogue.specs.There.{fetchesCell, tableSize, tablePlaces, unfetchedAt, tablePlace, tableByte, therePage, thereChars, ownCheck, thereOrder, thereCheck, movedTo, thereOf, thereLeft}
 
 -- a move on from the cell n moves after another
 pub one-on : (b : Buffer) → Bounded b → (n a : ℕ) (x : Cell) → a < 16384 → x ≡ cell (advanceBy b n a) → cell (advance b (x .address)) ≡ cell (advanceBy b (n + 1) a)

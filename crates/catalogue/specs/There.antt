@@ -13,6 +13,7 @@ use Rattle.refusal.specs.declared.Refusal.the-variants.{Done, Kind, Coded, Stre
 use Rattle.refusal.specs.Number.{doneOf}
 use Rattle.board.specs.declared.Page.{Page}
 use Rattle.board.specs.declared.Board.{Board}
+use Rattle.board.specs.Parts.{withIrs, withStarts, withPage}
 use Rattle.board.specs.Range.{memoryRefused}
 use Rattle.timing.specs.Fields.{ir, codedOf, tableOf, rowsOf}
 use Rattle.timing.specs.Check.{callCheck}
@@ -51,13 +52,8 @@ tableByte p chars i = pick (eqb (i % 2) 0) (rowStart p chars (i / 2) % 256) (row
 -- [R-5 table]
 -- the page with it: screen start 2 is its place and IR2[7] is set, nothing else changes
 unfoldable pub therePage : Page → (place : ℕ) → Page
-therePage p a = record {
-  version = p .version;
-  irs = set (p .irs) 2 (ir p 2 % 128 + 128);
-  starts = record { start1 = p .starts .start1; cursor = p .starts .cursor; start2 = a };
-  switches = p .switches;
-  video = p .video;
-}
+therePage p a =
+    withStarts (withIrs p (set (p .irs) 2 (ir p 2 % 128 + 128))) (record { start1 = p .starts .start1; cursor = p .starts .cursor; start2 = a })
 
 -- [R-5 table]
 -- character memory with it
@@ -81,11 +77,8 @@ thereCheck b chars = pick (doneOf (ownCheck b (length chars))) (thereOrder (b .p
 abbrev pub movedTo : Refusal → Board → Moved
 movedTo r b = record { refusal = r; board = b }
 
--- pointer, place and power state stay; a refusal gives the old board and leaves memory
-abbrev pub withPage : Board → Page → Board
-withPage b p = record { page = p; place = b .place; pointer = b .pointer; resets = b .resets }
-
 -- [R-5 same] typed sheets become row table pages with the same picture in every frame
+-- pointer, place and power state stay; a refusal gives the old board and leaves memory
 unfoldable pub thereOf : Board → (chars : List ℕ) → Moved
 thereOf b chars =
     movedTo (thereCheck b chars) (pick (doneOf (thereCheck b chars)) (withPage b (therePage (b .page) (tablePlace (b .page) chars))) b)

@@ -10,7 +10,8 @@ ghost use Rattle.lists.specs.Search.{firstBelow};
 ghost use Rattle.raster.specs.Moves.{Bounded};
 ghost use Rattle.timing.specs.Fields.{hactOf, bufferOf};
 ghost use Rattle.timing.specs.Laws.{Accepted};
-ghost use Rattle.catalogue.specs.There.{tableSize, therePage, ownCheck, thereOrder, withPage, MovesToTable};
+ghost use Rattle.board.specs.Parts.{withPage};
+ghost use Rattle.catalogue.specs.There.{tableSize, therePage, ownCheck, thereOrder, MovesToTable};
 ghost use Rattle.catalogue.specs.Back.{rowsApart, backPage, backOrder, backCheck, backOf};
 ghost use Rattle.catalogue.specs.Marks.{markedBy, freeIn, sheetPlace, entryByte, sheetCheck};
 

@@ -9,6 +9,7 @@ use Rattle.board.specs.declared.Page.{Page}
 use Rattle.board.specs.declared.Board.{Board}
 use Rattle.board.specs.State.{boardOf}
 use Rattle.board.specs.Layout.{layoutOf}
+use Rattle.board.specs.Parts.{withVersion}
 use Rattle.board.specs.Modes.{versionOf}
 
 -- two bytes big-endian: the high byte first
@@ -73,4 +74,4 @@ pageBytes p = take (layoutOf (p .version) .irs) (p .irs) ++ tailOf p
 
 -- the page that is kept: a version that is not known is written as 1
 abbrev pub keptPage : Page → Page
-keptPage p = record { version = versionOf p; irs = p .irs; starts = p .starts; switches = p .switches; video = p .video }
+keptPage p = withVersion p (versionOf p)

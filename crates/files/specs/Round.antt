@@ -21,6 +21,7 @@ use Rattle.units.specs.Units.{dots}
 use Rattle.board.specs.declared.Page.{Page}
 use Rattle.board.specs.declared.Layout.{Layout}
 use Rattle.board.specs.Layout.{newestVersion, layoutOf, pageLength, lengthField, charsPlace, attrsPlace, fileSize}
+use Rattle.board.specs.Parts.{withVersion}
 use Rattle.board.specs.Modes.{versionOf}
 use Rattle.board.specs.Range.{addressRefused}
 use Rattle.board.specs.Laws.{layout-kept}
@@ -141,7 +142,7 @@ unfolding pageAt
 version-again f at e = let k = version-known f newestVersion e in version-same (versionIn f) (k .0) (k .1)
 
 pub kept-same : (p : Page) → 1 ≤ p .version → p .version ≤ newestVersion → keptPage p ≡ p
-kept-same p a b = λ i. record { version = version-same (p .version) a b i; irs = p .irs; starts = p .starts; switches = p .switches; video = p .video }
+kept-same p a b = ap (withVersion p) (version-same (p .version) a b)
 
 -- what is written is known, and is 2 where the version is
 pub written-known : (p : Page) → not (within 1 newestVersion (versionOf p)) ≡ false

@@ -6,15 +6,12 @@ use lib.ListN.{length}
 use Rattle.lists.specs.Choice.{pick}
 use Rattle.refusal.specs.declared.Refusal.{Refusal}
 use Rattle.refusal.specs.Number.{doneOf}
-use Rattle.board.specs.declared.Place.{Place}
 use Rattle.board.specs.declared.Board.{Board}
+use Rattle.board.specs.Parts.{withPlace}
 use Rattle.board.specs.Range.{memoriesRefused}
 use Rattle.timing.specs.Check.{callCheck}
 use Rattle.place.specs.declared.StateAt.{StateAt}
 use Rattle.place.specs.Place.{placeAt}
-
-abbrev pub withPlace : Board → Place → Board
-withPlace b q = record { page = b .page; place = q; pointer = b .pointer; resets = b .resets }
 
 -- 3 for the memories, 12, 4, 13, 14, 15, 6, 7
 abbrev pub stateCheck : Board → (chars attrs : List ℕ) → Refusal

@@ -11,7 +11,8 @@ ghost use Rattle.raster.specs.Wide.{endsAt};
 ghost use Rattle.timing.specs.Fields.{bufferOf, countsOf};
 ghost use Rattle.place.specs.Place.{setBy, countedCode, settled, activeAt, loadsAt, beginsAt, begunIn, loadedIn, pastCell, movedIn, turnedIn, rowAt, carriedBefore, placeAt};
 ghost use Rattle.place.specs.Spot.{lastSpot, spotIn, spotBefore, originAt};
-ghost use Rattle.place.specs.State.{withPlace, stateOf};
+ghost use Rattle.board.specs.Parts.{withPlace};
+ghost use Rattle.place.specs.State.{stateOf};
 
 // What the beam carries along, with its row's code, and what its row began with.
 pub struct Carried {

@@ -1,5 +1,5 @@
 -- The register calls.
-pub mod Parts
+pub mod Answers
 pub mod Write
 pub mod Read
 pub mod Video

@@ -7,7 +7,7 @@ use Rattle.refusal.specs.Number.{doneOf}
 use Rattle.board.specs.declared.Starts.{Starts}
 use Rattle.board.specs.declared.Board.{Board}
 use Rattle.registers.specs.declared.ByteRead.{ByteRead}
-use Rattle.registers.specs.Parts.{byteRead}
+use Rattle.registers.specs.Answers.{byteRead}
 use Rattle.registers.specs.Write.{registerCheck}
 
 -- bits 7 and 6 of an upper register read 0

@@ -13,7 +13,8 @@ use Rattle.board.specs.declared.Board.{Board}
 use Rattle.board.specs.Range.{startsRefused, switchesRefused}
 use Rattle.timing.specs.Check.{widthRefused}
 use Rattle.registers.specs.declared.Written.{Written}
-use Rattle.registers.specs.Parts.{withSwitches, withVideo, withPage, answer}
+use Rattle.board.specs.Parts.{withSwitches, withVideo, withPage}
+use Rattle.registers.specs.Answers.{answer}
 
 -- [register video] a call of its own sets dots, strike line, BKGND and RBLANK, refusing 12, then 6
 unfoldable pub videoCheck : Starts → (version switches : ℕ) → Dots → ℕ → Refusal

@@ -14,7 +14,8 @@ use Rattle.board.specs.State.{clockZero}
 use Rattle.board.specs.Layout.{lastIr}
 use Rattle.board.specs.Range.{addressRefused, pointerRefused}
 use Rattle.registers.specs.declared.Written.{Written}
-use Rattle.registers.specs.Parts.{withIrs, withStarts, withSwitches, withPage, withPointer, withResets, answer}
+use Rattle.board.specs.Parts.{withIrs, withStarts, withSwitches, withPage, withPointer, withResets}
+use Rattle.registers.specs.Answers.{answer}
 
 -- [refusal kinds] which numbers each kind of call gives; after 9 an inactive board answers 0
 -- register calls give 12, then 7 for the pointer

@@ -7,7 +7,7 @@ ghost use Rattle.refusal.specs.declared.Refusal.{Refusal};
 ghost use Rattle.board.specs.Layout.{lastIr};
 ghost use Rattle.registers.specs.Write.{registerCheck, brokenOf, resetOf, pointedOf, pointOf, nextPointer, loadedOf, lowerOf, upperOf, startsAfter, startedOf, switchesAfter, switchedOf, commandOf, activeOf, inactiveOf, writeOf};
 ghost use Rattle.registers.specs.Read.{shownAt, readAt, readOf};
-ghost use Rattle.registers.specs.Parts.{answer, byteRead};
+ghost use Rattle.registers.specs.Answers.{answer, byteRead};
 ghost use Rattle.registers.specs.Video.{videoCheck, videoSet, setVideoOf};
 
 pub struct Written {

@@ -31,7 +31,7 @@ use Rattle.dots.specs.Half.{halfBy, half-column}
 use Rattle.dots.specs.Width.{length-cell}
 use Rattle.place.specs.declared.Carried.{Carried}
 use Rattle.place.specs.Place.{activeAt, loadedIn, movedIn, turnedIn}
-use Rattle.place.specs.State.{withPlace}
+use Rattle.board.specs.Parts.{withPlace}
 use Rattle.place.specs.Laws.{loaded-lt}
 use Rattle.step.specs.declared.Signals.{Signals}
 use Rattle.step.specs.declared.Stepped.{Stepped}

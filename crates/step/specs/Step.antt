@@ -17,7 +17,7 @@ use Rattle.step.specs.declared.Signals.{Signals}
 use Rattle.step.specs.declared.Stepped.{Stepped}
 use Rattle.step.specs.declared.Clock.{Clock}
 use Rattle.place.specs.Place.{loadedIn, nextPlace}
-use Rattle.place.specs.State.{withPlace}
+use Rattle.board.specs.Parts.{withPlace}
 use Rattle.step.specs.Signals.{signalsOf, clockDots}
 
 -- [dots step]

@@ -6,7 +6,7 @@ use borrow.Author.Tests.{eq-eqb, ne-eqb}
 use borrow.Author.Needs.{needs}
 use Rattle.lists.specs.Choice.{stop, pass, inside, over}
 use Rattle.refusal.specs.declared.Refusal.the-variants.{Done}
-use Rattle.registers.specs.Parts.{answer}
+use Rattle.registers.specs.Answers.{answer}
 use Rattle.registers.specs.Write.{activeOf}
 use Rattle.registers.proofs.active.Statement.{statement}
 use Rattle.registers.proofs.active.Tie as tie

@@ -5,7 +5,7 @@ use borrow.Author.Tests.{eq-eqb, ne-eqb}
 use borrow.Author.Needs.{needs}
 use Rattle.lists.specs.Choice.{stop, pass, inside, under, over}
 use Rattle.refusal.specs.declared.Refusal.the-variants.{Done}
-use Rattle.registers.specs.Parts.{answer}
+use Rattle.registers.specs.Answers.{answer}
 use Rattle.registers.specs.Write.{commandOf}
 use Rattle.registers.proofs.command.Statement.{statement}
 use Rattle.registers.proofs.command.Tie as tie

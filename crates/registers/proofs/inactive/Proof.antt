@@ -4,7 +4,7 @@ use native.Mathlib.Omega.{arith}
 use borrow.Author.Needs.{needs}
 use Rattle.lists.specs.Choice.{stop, pass, inside, over}
 use Rattle.refusal.specs.declared.Refusal.the-variants.{Done}
-use Rattle.registers.specs.Parts.{answer}
+use Rattle.registers.specs.Answers.{answer}
 use Rattle.registers.specs.Write.{inactiveOf}
 use Rattle.registers.proofs.inactive.Statement.{statement}
 use Rattle.registers.proofs.inactive.Tie as tie

@@ -3,7 +3,7 @@ use borrow.Author.Needs.{needs}
 use Rattle.lists.specs.Choice.{stop, pass}
 use Rattle.refusal.specs.declared.Refusal.{Refusal}
 use Rattle.refusal.specs.Laws.{checked}
-use Rattle.registers.specs.Parts.{byteRead}
+use Rattle.registers.specs.Answers.{byteRead}
 use Rattle.registers.specs.Read.{readOf}
 use Rattle.registers.proofs.read.Statement.{statement}
 use Rattle.registers.proofs.read.Tie as tie

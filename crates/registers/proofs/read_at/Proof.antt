@@ -4,7 +4,7 @@ use native.Mathlib.Omega.{arith}
 use borrow.Author.Needs.{needs}
 use Rattle.lists.specs.Choice.{stop, pass, inside, over}
 use Rattle.refusal.specs.declared.Refusal.the-variants.{Done}
-use Rattle.registers.specs.Parts.{byteRead}
+use Rattle.registers.specs.Answers.{byteRead}
 use Rattle.registers.specs.Read.{readAt}
 use Rattle.registers.proofs.read_at.Statement.{statement}
 use Rattle.registers.proofs.read_at.Tie as tie

@@ -5,7 +5,7 @@ use Rattle.lists.specs.Choice.{stop, pass}
 use Rattle.refusal.specs.declared.Refusal.{Refusal}
 use Rattle.refusal.specs.declared.Refusal.the-variants.{Done}
 use Rattle.refusal.specs.Laws.{checked}
-use Rattle.registers.specs.Parts.{answer}
+use Rattle.registers.specs.Answers.{answer}
 use Rattle.registers.specs.Video.{setVideoOf}
 use Rattle.registers.proofs.set_video.Statement.{statement}
 use Rattle.registers.proofs.set_video.Tie as tie

@@ -5,7 +5,7 @@ use borrow.Author.Needs.{needs}
 use Rattle.lists.specs.Choice.{stop, pass}
 use Rattle.refusal.specs.declared.Refusal.{Refusal}
 use Rattle.refusal.specs.Laws.{checked, done-is}
-use Rattle.registers.specs.Parts.{answer}
+use Rattle.registers.specs.Answers.{answer}
 use Rattle.registers.specs.Write.{writeOf}
 use Rattle.registers.specs.Laws.{pointer-in}
 use Rattle.registers.proofs.write.Statement.{statement}

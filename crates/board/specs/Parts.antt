@@ -1,13 +1,14 @@
--- A board with one part of it replaced, all else kept, and the answers that carry a board or a byte.
+-- A page and a board with one part replaced, all else kept.
 use Prim.Native.Nat.{ℕ}
 use mathlib.Core.List.{List}
-use Rattle.refusal.specs.declared.Refusal.{Refusal}
 use Rattle.board.specs.declared.Starts.{Starts}
 use Rattle.board.specs.declared.Video.{Video}
 use Rattle.board.specs.declared.Page.{Page}
+use Rattle.board.specs.declared.Place.{Place}
 use Rattle.board.specs.declared.Board.{Board}
-use Rattle.registers.specs.declared.Written.{Written}
-use Rattle.registers.specs.declared.ByteRead.{ByteRead}
+
+abbrev pub withVersion : Page → ℕ → Page
+withVersion p x = record { version = x; irs = p .irs; starts = p .starts; switches = p .switches; video = p .video }
 
 abbrev pub withIrs : Page → List ℕ → Page
 withIrs p x = record { version = p .version; irs = x; starts = p .starts; switches = p .switches; video = p .video }
@@ -24,14 +25,11 @@ withVideo p x = record { version = p .version; irs = p .irs; starts = p .starts;
 abbrev pub withPage : Board → Page → Board
 withPage b x = record { page = x; place = b .place; pointer = b .pointer; resets = b .resets }
 
+abbrev pub withPlace : Board → Place → Board
+withPlace b x = record { page = b .page; place = x; pointer = b .pointer; resets = b .resets }
+
 abbrev pub withPointer : Board → ℕ → Board
 withPointer b x = record { page = b .page; place = b .place; pointer = x; resets = b .resets }
 
 abbrev pub withResets : Board → ℕ → Board
 withResets b x = record { page = b .page; place = b .place; pointer = b .pointer; resets = x }
-
-abbrev pub answer : Refusal → Board → Written
-answer r b = record { refusal = r; board = b }
-
-abbrev pub byteRead : Refusal → ℕ → ByteRead
-byteRead r n = record { refusal = r; byte = n }
