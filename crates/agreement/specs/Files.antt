@@ -23,7 +23,7 @@ use Rattle.shape.specs.Font.{Font, fontRefused}
 use Rattle.copies.specs.Put.{length-part}
 use Rattle.files.specs.Page.{wordAt, versionIn, pageAt, keptPage}
 use Rattle.files.specs.File.{longAt, versionRefused, lengthRefused, fileCheck, readCheck, pageRead, readPageOf, charsRead, attrsRead, headOf, fileOf, writeCheck, written}
-use Rattle.files.specs.FontFile.{fontCheck, fontIn, fontRead, fontWriteCheck, fontWritten}
+use Rattle.files.specs.FontFile.{fontLength, fontSize, fontCheck, fontIn, fontRead, fontWriteCheck, fontWritten}
 use Rattle.files.specs.Laws.{file-sized, FilePassed, file-passed, head-all, write-passed}
 use Rattle.files.specs.Round.{Bytes, page-again, page-kept, kept-check, written-known}
 use Rattle.files.specs.FontRound.{font-again}
@@ -164,11 +164,11 @@ module _ (b : Board) (irs-all : length (b .page .irs) ≡ 15) (chars attrs out :
 -- ---- a font file, read and written again
 
 module _ (file : List ℕ) (f : Font) (ok : fontCheck file (fontRefused f) ≡ Done) where
-  font-ok : FilePassed file 1 2450 (fontRefused f) Done
-  font-ok = file-passed file 1 2450 (fontRefused f) Done ok
+  font-ok : FilePassed file 1 fontLength (fontRefused f) Done
+  font-ok = file-passed file 1 fontLength (fontRefused f) Done ok
 
-  font-length : length file ≡ 2455
-  font-length = file-sized file 2450 (font-ok .length-ok)
+  font-length : length file ≡ fontSize
+  font-length = file-sized file fontLength (font-ok .length-ok)
 
   parts-fine : fontRefused (fontIn file) ≡ false
   unfolding fontIn
@@ -186,9 +186,9 @@ module _ (file : List ℕ) (f : Font) (ok : fontCheck file (fontRefused f) ≡ D
 
   -- [demand round]
   -- the write answers 0, and out begins with the file
-  pub font-same : Bytes file → (out : List ℕ) → 2455 ≤ length out
-      → (fontWriteCheck (fontRead file f) (length out) ≡ Done) × (fontWritten (fontRead file f) out ≡ file ++ drop 2455 out)
+  pub font-same : Bytes file → (out : List ℕ) → fontSize ≤ length out
+      → (fontWriteCheck (fontRead file f) (length out) ≡ Done) × (fontWritten (fontRead file f) out ≡ file ++ drop fontSize out)
   unfolding fontRead fontWriteCheck fontWritten
   font-same bytes out l =
-      rw (ok, parts-fine, le-ltb (length out) 2455 l)
-      (refl, rw (font-again file bytes font-length (font-ok .version-ok) (length-is file 2450 (font-ok .length-ok))))
+      rw (ok, parts-fine, le-ltb (length out) fontSize l)
+      (refl, rw (font-again file bytes font-length (font-ok .version-ok) (length-is file fontLength (font-ok .length-ok))))

@@ -25,7 +25,7 @@ use Rattle.catalogue.specs.Back.{followsRow, rowsApart, backCheck}
 use Rattle.step.specs.Step.{stepCheck}
 use Rattle.files.specs.File.{readCheck, fileCheck, lengthRefused, longAt, headOf, fileOf}
 use Rattle.files.specs.Page.{wordAt, pageAt, tailOf}
-use Rattle.files.specs.FontFile.{fontCheck, fontHead}
+use Rattle.files.specs.FontFile.{fontLength, fontCheck, fontHead}
 use Rattle.numbers.specs.Numbers.{numbersOfCheck}
 use Rattle.numbers.specs.Files.{pageReadSize}
 use Rattle.feldrime.specs.Answers.{answerOf}
@@ -89,7 +89,7 @@ abbrev pub file : List ℕ
 file = fileOf (sheet .page) memory memory
 
 abbrev pub fontFile : List ℕ
-fontFile = fontHead ++ replicate 2450 0
+fontFile = fontHead ++ replicate fontLength 0
 
 abbrev pub numbers : List ℕ
 numbers = replicate 32 0

@@ -18,7 +18,7 @@ use Rattle.timing.specs.Check.{callCheck}
 use Rattle.shape.specs.Font.{Font, fontOf, fontRefused}
 use Rattle.files.specs.Page.{versionIn, pageAt}
 use Rattle.files.specs.File.{readCheck, charsRead, attrsRead, writeCheck, written}
-use Rattle.files.specs.FontFile.{fontCheck, fontRead, fontWriteCheck, fontWritten}
+use Rattle.files.specs.FontFile.{fontSize, fontCheck, fontRead, fontWriteCheck, fontWritten}
 use Rattle.files.specs.Round.{Bytes}
 use Rattle.numbers.specs.Numbers.{numbersRefused, numbersBoard}
 use Rattle.numbers.specs.Files.{numbersRead, pageWriteCheck, pageWritten}
@@ -102,19 +102,19 @@ module _ (file : List ℕ) (bytes : Bytes file) (out : List ℕ) {a : Answer} {n
 abbrev noFont : Font
 noFont = fontOf (zeros 1152) (zeros 128) (zeros 9) (zeros 9)
 
-font-short : (f : Font) (out : List ℕ) → ltb (length out) 2455 ≡ true → (fontWriteCheck f (length out) ≡ Size) × (fontWritten f out ≡ out)
+font-short : (f : Font) (out : List ℕ) → ltb (length out) fontSize ≡ true → (fontWriteCheck f (length out) ≡ Size) × (fontWritten f out ≡ out)
 unfolding fontWriteCheck fontWritten
 font-short f out t = rw (t, or-true (fontRefused f)) (refl, refl)
 
 module _ (file : List ℕ) (bytes : Bytes file) (out : List ℕ) {a : Answer} {f : Font}
     (read : (a ≡ answerOf (fontCheck file false)) × (f ≡ fontRead file noFont)) where
-  pub font-refused : (a .refusal ≡ 0 → ⊥) → (a ≡ answerOf (againCheck (fontCheck file false) 2455 (length out))) × (out ≡ writtenAgain (fontCheck file false) 2455 file out)
-  font-refused e = read-stops (fontCheck file false) 2455 file out (read .0) e
+  pub font-refused : (a .refusal ≡ 0 → ⊥) → (a ≡ answerOf (againCheck (fontCheck file false) fontSize (length out))) × (out ≡ writtenAgain (fontCheck file false) fontSize file out)
+  font-refused e = read-stops (fontCheck file false) fontSize file out (read .0) e
 
   pub font-wrote : a .refusal ≡ 0 → {w : Refusal} {out′ : List ℕ} → (w ≡ fontWriteCheck f (length out)) × (out′ ≡ fontWritten f out) → {n k : ℕ} → n ≡ numberOf w → k ≡ besideOf w
-      → (record { refusal = n; beside = k } ≡ answerOf (againCheck (fontCheck file false) 2455 (length out))) × (out′ ≡ writtenAgain (fontCheck file false) 2455 file out)
+      → (record { refusal = n; beside = k } ≡ answerOf (againCheck (fontCheck file false) fontSize (length out))) × (out′ ≡ writtenAgain (fontCheck file false) fontSize file out)
   font-wrote e {w} {out′} write number beside =
       let ok : fontCheck file false ≡ Done = answer-done _ (read .0) e in
-      wrote 2455 file out ok (λ i. record { refusal = number i; beside = beside i })
+      wrote fontSize file out ok (λ i. record { refusal = number i; beside = beside i })
       (λ l. let s = font-same file noFont ok bytes out l in (write .0 ∙ rw (read .1) (s .0), write .1 ∙ rw (read .1) (s .1)))
       (λ t. let s = font-short f out t in (write .0 ∙ s .0, write .1 ∙ s .1))

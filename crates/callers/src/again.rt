@@ -6,7 +6,7 @@ ghost use lib.ListN.{length};
 ghost use Rattle.board.specs.Layout.{fileSize};
 ghost use Rattle.files.specs.Page.{versionIn};
 ghost use Rattle.files.specs.File.{readCheck};
-ghost use Rattle.files.specs.FontFile.{fontCheck};
+ghost use Rattle.files.specs.FontFile.{fontSize, fontCheck};
 ghost use Rattle.feldrime.specs.Answers.{answerOf};
 ghost use Rattle.callers.specs.Again.{againCheck, writtenAgain};
 ghost use Rattle.callers.specs.Numbers.{numbersAgainCheck, numbersAgain};
@@ -28,8 +28,8 @@ pub fn page_again(file: &[u8], out: &mut [u8]) -> Answer
 
 // A font file that is accepted is written as the same bytes. C has no call that writes a font.
 pub fn font_again(file: &[u8], out: &mut [u8]) -> Answer
-    ensures { λ r. ⌜ (r ≡ answerOf (againCheck (fontCheck (now (file .entry)) false) 2455 (length (now (out .entry)))))
-        × (now (out .exit) ≡ writtenAgain (fontCheck (now (file .entry)) false) 2455 (now (file .entry)) (now (out .entry))) ⌝ }
+    ensures { λ r. ⌜ (r ≡ answerOf (againCheck (fontCheck (now (file .entry)) false) fontSize (length (now (out .entry)))))
+        × (now (out .exit) ≡ writtenAgain (fontCheck (now (file .entry)) false) fontSize (now (file .entry)) (now (out .entry))) ⌝ }
 {
     let mut words = [0u16; 1152];
     let mut flags = [0u8; 128];

@@ -1,6 +1,6 @@
 -- 01, "Files": the font file.
 use mathlib.Core.Path.{_≡_}
-use Prim.Native.Nat.{ℕ, _*_, _/_, _%_}
+use Prim.Native.Nat.{ℕ, _+_, _*_, _/_, _%_}
 use mathlib.Core.Bool.{Bool, _||_}
 use mathlib.Core.List.{List, [], _∷_, _++_}
 use lib.ListN.{length, getD, take, drop}
@@ -11,7 +11,7 @@ use Rattle.refusal.specs.declared.Refusal.{Refusal}
 use Rattle.refusal.specs.declared.Refusal.the-variants.{Done, Size}
 use Rattle.refusal.specs.Number.{doneOf}
 use Rattle.shape.specs.Font.{Font, fontOf, fontRefused}
-use Rattle.files.specs.Page.{wordAt}
+use Rattle.files.specs.Page.{wordAt, longBytes}
 use Rattle.files.specs.File.{fileCheck}
 
 -- n words big-endian
@@ -26,9 +26,16 @@ byteOf words k = pick (eqb (k % 2) 0) (getD words (k / 2) 0 / 256) (getD words (
 abbrev pub bytesIn : List ℕ → List ℕ
 bytesIn words = tab 2304 (byteOf words)
 
+-- how many bytes follow the length: 1,152 words, 128 flags, two lists of nine; and the file's size
+abbrev pub fontLength : ℕ
+fontLength = 2304 + 128 + 9 + 9
+
+abbrev pub fontSize : ℕ
+fontSize = fontLength + 5
+
 -- 1, 2, and 3 where a lent part has another size; version 1 alone is known
 abbrev pub fontCheck : List ℕ → (size : Bool) → Refusal
-fontCheck file size = fileCheck file 1 2450 size Done
+fontCheck file size = fileCheck file 1 fontLength size Done
 
 -- [file font] the font file, byte by byte
 -- 1,152 words, 128 flags, unshifted list, shifted list
@@ -41,9 +48,9 @@ fontRead file f = pick (doneOf (fontCheck file (fontRefused f))) (fontIn file) f
 
 -- ---- writing
 
--- version 1, the length 2,450 in four bytes
+-- version 1, the length in four bytes
 abbrev pub fontHead : List ℕ
-fontHead = 1 ∷ 0 ∷ 0 ∷ 9 ∷ 146 ∷ []
+fontHead = 1 ∷ longBytes fontLength
 
 -- [file font]
 -- then words, flags, unshifted list, shifted list
@@ -52,7 +59,7 @@ fontFileOf f = fontHead ++ (bytesIn (f .words) ++ (f .flags ++ (f .unshifted ++ 
 
 -- 3: a font part of wrong size, or room for less than the file
 abbrev pub fontWriteRefused : Font → (out : ℕ) → Bool
-fontWriteRefused f out = fontRefused f || ltb out 2455
+fontWriteRefused f out = fontRefused f || ltb out fontSize
 
 unfoldable pub fontWriteCheck : Font → (out : ℕ) → Refusal
 fontWriteCheck f out = pick (fontWriteRefused f out) Size Done
@@ -60,7 +67,7 @@ fontWriteCheck f out = pick (fontWriteRefused f out) Size Done
 -- [file beyond]
 -- the buffer afterwards: the file, and what stood beyond it; on a refusal as it was
 unfoldable pub fontWritten : Font → List ℕ → List ℕ
-fontWritten f out = pick (fontWriteRefused f (length out)) out (fontFileOf f ++ drop 2455 out)
+fontWritten f out = pick (fontWriteRefused f (length out)) out (fontFileOf f ++ drop fontSize out)
 
 -- ---- the calls: the refusal, and what was lent afterwards
 

@@ -13,14 +13,14 @@ use Rattle.refusal.specs.declared.Refusal.the-variants.{Done, Size}
 use Rattle.refusal.specs.Number.{doneOf}
 use Rattle.shape.specs.Font.{Font, fontOf, fontRefused, Whole}
 use Rattle.shape.specs.Laws.{font-whole}
-use Rattle.files.specs.FontFile.{wordsOf, byteOf, bytesIn, fontCheck, fontIn, fontRead, fontHead, fontFileOf, fontWriteCheck, fontWritten}
+use Rattle.files.specs.FontFile.{wordsOf, fontLength, fontSize, byteOf, bytesIn, fontCheck, fontIn, fontRead, fontHead, fontFileOf, fontWriteCheck, fontWritten}
 use Rattle.copies.specs.Put.{length-part, putAt, laid-none, put-on}
 use Rattle.files.specs.Laws.{file-sized, file-passed}
 
-pub font-passed : (file : List ℕ) (f : Font) → fontCheck file (fontRefused f) ≡ Done → (length file ≡ 2455) × Whole f
+pub font-passed : (file : List ℕ) (f : Font) → fontCheck file (fontRefused f) ≡ Done → (length file ≡ fontSize) × Whole f
 font-passed file f e =
-    let p = file-passed file 1 2450 (fontRefused f) Done e in
-    (file-sized file 2450 (p .length-ok), font-whole f (p .size-ok))
+    let p = file-passed file 1 fontLength (fontRefused f) Done e in
+    (file-sized file fontLength (p .length-ok), font-whole f (p .size-ok))
 
 -- what a read leaves
 module _ (file : List ℕ) (f : Font) where
@@ -48,7 +48,7 @@ in-order a b c d e = append-assoc ((a ++ b) ++ c) d e ∙ append-assoc (a ++ b) 
 pub font-put : (f : Font) → Whole f → (out : List ℕ) {one two three four five : List ℕ}
     → one ≡ putAt 0 fontHead out → two ≡ putAt 5 (bytesIn (f .words)) one
     → three ≡ putAt 2309 (f .flags) two → four ≡ putAt 2437 (f .unshifted) three → five ≡ putAt 2446 (f .shifted) four
-    → five ≡ fontFileOf f ++ drop 2455 out
+    → five ≡ fontFileOf f ++ drop fontSize out
 unfolding fontFileOf
 font-put f w out e₁ e₂ e₃ e₄ e₅ =
     let b = bytesIn (f .words) in
@@ -57,20 +57,20 @@ font-put f w out e₁ e₂ e₃ e₄ e₅ =
     let l₃ = put-on (fontHead ++ b) (f .flags) out 2309 128 l₂ (w .flags-all) e₃ in
     let l₄ = put-on ((fontHead ++ b) ++ f .flags) (f .unshifted) out 2437 9 l₃ (w .unshifted-all) e₄ in
     put-on (((fontHead ++ b) ++ f .flags) ++ f .unshifted) (f .shifted) out 2446 9 l₄ (w .shifted-all) e₅ .1
-    ∙ ap (λ (x : List ℕ). x ++ drop 2455 out) (in-order fontHead b (f .flags) (f .unshifted) (f .shifted))
+    ∙ ap (λ (x : List ℕ). x ++ drop fontSize out) (in-order fontHead b (f .flags) (f .unshifted) (f .shifted))
 
 -- what a write leaves
 module _ (f : Font) (out₀ : List ℕ) {t : Bool} (e : t ≡ fontRefused f) where
-  pub font-write-refused : (t || ltb (length out₀) 2455) ≡ true → (Size ≡ fontWriteCheck f (length out₀)) × (out₀ ≡ fontWritten f out₀)
+  pub font-write-refused : (t || ltb (length out₀) fontSize) ≡ true → (Size ≡ fontWriteCheck f (length out₀)) × (out₀ ≡ fontWritten f out₀)
   unfolding fontWriteCheck fontWritten
   font-write-refused q = let r = rw e at q in (rw r, rw r)
 
-  pub font-write-done : (t || ltb (length out₀) 2455) ≡ false → {out : List ℕ} → out ≡ fontFileOf f ++ drop 2455 out₀
+  pub font-write-done : (t || ltb (length out₀) fontSize) ≡ false → {out : List ℕ} → out ≡ fontFileOf f ++ drop fontSize out₀
       → (Done ≡ fontWriteCheck f (length out₀)) × (out ≡ fontWritten f out₀)
   unfolding fontWriteCheck fontWritten
   font-write-done q p = let r = rw e at q in (rw r, rw r p)
 
-pub font-write-passed : (f : Font) (n : ℕ) {t : Bool} → t ≡ fontRefused f → (t || ltb n 2455) ≡ false → Whole f × (2455 ≤ n)
+pub font-write-passed : (f : Font) (n : ℕ) {t : Bool} → t ≡ fontRefused f → (t || ltb n fontSize) ≡ false → Whole f × (fontSize ≤ n)
 font-write-passed f n {t} e q =
-    let s = neither t (ltb n 2455) q in
+    let s = neither t (ltb n fontSize) q in
     (font-whole f (sym e ∙ s .0), ltb-false _ _ (s .1))

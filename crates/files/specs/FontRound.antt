@@ -13,7 +13,7 @@ use lib.Seq.{take-all, ext-getD, getD-drop, getD-take}
 use Rattle.lists.specs.Tab.{length-tab, getD-tab}
 use Rattle.files.specs.Page.{wordAt}
 use Rattle.files.specs.File.{longAt, versionRefused}
-use Rattle.files.specs.FontFile.{wordsOf, byteOf, bytesIn, fontIn, fontFileOf}
+use Rattle.files.specs.FontFile.{wordsOf, byteOf, bytesIn, fontLength, fontSize, fontIn, fontFileOf}
 use Rattle.copies.specs.Put.{length-part}
 use Rattle.files.specs.Laws.{version-known}
 use Rattle.files.specs.Round.{Bytes, word-high, word-low, word-kept, front-again, on}
@@ -79,7 +79,7 @@ part-bytes f a n fits i = go (decLt i n)
         rw (List·getD-eq-default (take n (drop a f)) 0 short) (omega arith)
 
 -- a font file's parts, written again, are the same bytes
-pub font-again : (f : List ℕ) → Bytes f → length f ≡ 2455 → versionRefused f 1 ≡ false → longAt f 1 ≡ 2450 → fontFileOf (fontIn f) ≡ f
+pub font-again : (f : List ℕ) → Bytes f → length f ≡ fontSize → versionRefused f 1 ≡ false → longAt f 1 ≡ fontLength → fontFileOf (fontIn f) ≡ f
 unfolding fontFileOf fontIn
 font-again f fits n v e =
     let k = version-known f 1 v in
@@ -87,4 +87,4 @@ font-again f fits n v e =
     let last : take 9 (drop 2446 f) ≡ drop 2446 f = take-all 9 (drop 2446 f) (rw (length-drop 2446 f) (omega (arith, n))) in
     let words = bytes-again (take 2304 (drop 5 f)) (part-bytes f 5 2304 fits) (length-part f 5 2304 (omega (arith, n))) in
     rw (words, last, on f 2437 9, on f 2309 128, on f 5 2304)
-    (ap (λ (x : List ℕ). x ++ drop 5 f) (rw one at (sym (front-again f fits 2450 n e))) ∙ take-append-drop 5 f)
+    (ap (λ (x : List ℕ). x ++ drop 5 f) (rw one at (sym (front-again f fits fontLength n e))) ∙ take-append-drop 5 f)

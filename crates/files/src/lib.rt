@@ -6,7 +6,7 @@ ghost use lib.ListN.{length, take, drop};
 ghost use Rattle.board.specs.Layout.{layoutOf, pageLength, lengthField, charsPlace, attrsPlace, fileSize};
 ghost use Rattle.files.specs.Page.{wordAt, startsAt, videoOf, versionIn, irsAt, pageAt, boardAt, longBytes, tailOf, pageBytes};
 ghost use Rattle.files.specs.File.{longAt, versionRefused, lengthRefused, fileCheck, readCheck, pageHead, fileOf, writeCheck, ReadsPage, WritesPage};
-ghost use Rattle.files.specs.FontFile.{wordsOf, byteOf, bytesIn, fontFileOf, ReadsFont, WritesFont};
+ghost use Rattle.files.specs.FontFile.{wordsOf, byteOf, bytesIn, fontSize, fontFileOf, ReadsFont, WritesFont};
 ghost use Rattle.copies.specs.Put.{putAt};
 ghost use Rattle.lists.specs.Tab.{tab};
 ghost use Rattle.refusal.specs.declared.Refusal.{Refusal};
@@ -323,6 +323,11 @@ fn write_words(src: &[u16], dst: &mut [u8])
     }
 }
 
+// The bytes that follow a font file's length, and the file's size.
+const FONT_LENGTH: u32 = 2450;
+
+const FONT_SIZE: usize = 2455;
+
 // Reads a font file into the four parts. A refusal leaves them as they were.
 pub fn read_font(
     file: &[u8],
@@ -334,7 +339,7 @@ pub fn read_font(
     ensures { λ r. ⌜ ReadsFont (now (file .entry)) (lentFont words flags unshifted shifted) r (leftFont words flags unshifted shifted) ⌝ }
 {
     let size = shape::font_refused(words, flags, unshifted, shifted);
-    let refused = file_check(file, 1, 2450, size);
+    let refused = file_check(file, 1, FONT_LENGTH, size);
     if refusal::is_done(refused) {
         read_words(&file[5..2309], words);
         copies::take_from(file, 2309, flags);
@@ -355,8 +360,8 @@ fn put_words(words: &[u16], at: usize, out: &mut [u8])
 
 // A font's file into the front of out; bytes beyond it stay.
 fn put_font(words: &[u16], flags: &[u8], unshifted: &[u8], shifted: &[u8], out: &mut [u8])
-    requires { ⌜ Whole (fontNow words flags unshifted shifted) × (2455 ≤ length (now out)) ⌝ }
-    ensures { λ _. ⌜ now (out .exit) ≡ fontFileOf (lentFont words flags unshifted shifted) ++ drop 2455 (now (out .entry)) ⌝ }
+    requires { ⌜ Whole (fontNow words flags unshifted shifted) × (fontSize ≤ length (now out)) ⌝ }
+    ensures { λ _. ⌜ now (out .exit) ≡ fontFileOf (lentFont words flags unshifted shifted) ++ drop fontSize (now (out .entry)) ⌝ }
 {
     let head = [1, 0, 0, 9, 146];
     copies::put(&head, 0, out);
@@ -376,7 +381,7 @@ pub fn write_font(
 ) -> refusal::Refusal
     ensures { λ r. ⌜ WritesFont (lentFont words flags unshifted shifted) (now (out .entry)) r (now (out .exit)) ⌝ }
 {
-    if shape::font_refused(words, flags, unshifted, shifted) | (out.len() < 2455) {
+    if shape::font_refused(words, flags, unshifted, shifted) | (out.len() < FONT_SIZE) {
         return refusal::Refusal::Size;
     }
     put_font(words, flags, unshifted, shifted, out);

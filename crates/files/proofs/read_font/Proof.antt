@@ -6,7 +6,7 @@ use borrow.Author.Needs.{needs}
 use lib.ListN.{length, take, drop}
 use Rattle.refusal.specs.Laws.{done-is, checked}
 use Rattle.shape.specs.Font.{Font, fontOf, fontRefused, Whole}
-use Rattle.files.specs.FontFile.{fontCheck}
+use Rattle.files.specs.FontFile.{fontSize, fontCheck}
 use Rattle.copies.specs.Put.{length-part}
 use Rattle.files.specs.FontLaws.{font-passed, font-done, font-kept}
 use Rattle.files.proofs.read_font.Statement.{statement}
@@ -22,7 +22,7 @@ lent c = fontOf (c .args .words .now) (c .args .flags .now) (c .args .unshifted 
 check-is : (c : tie.After-file-check) → c .file-check .result ≡ fontCheck (begin c .args .file .now) (fontRefused (lent (begin c)))
 check-is c = c .file-check .ensures ∙ ap (fontCheck _) (c .before .font-refused .ensures)
 
-fits : (c : tie.Then1) → (length (begin (c .before .before) .args .file .now) ≡ 2455) × Whole (lent (begin (c .before .before)))
+fits : (c : tie.Then1) → (length (begin (c .before .before) .args .file .now) ≡ fontSize) × Whole (lent (begin (c .before .before)))
 fits c = font-passed _ (lent (begin (c .before .before))) (done-is _ (checked (check-is (c .before .before)) (c .before .is-done .ensures) (c .if1 .taken)))
 
 part-read-words-end : tie.Need-part-read-words-end
