@@ -98,7 +98,8 @@ ends 1 "standard input: cannot be read twice" env -C "$work/out" "${feldrime[@]}
 misused "a site is a folder and cannot go to standard output" site env -C "$work/out" "${feldrime[@]}" site "$font" - "$page"
 only site
 
-# what is missing, and what the first build says: nothing is installed but by ./draw and ./check, which say so first
+# what is missing, and what the first build says: nothing is installed but by ./draw and ./check, which say so first; this
+# test may itself run in ./check
 mkdir -p "$work/bin" "$work/tree/crates" "$work/tree/samples"
 cp -r feldrime draw Makefile include programs tools "$work/tree"
 printf '#!/bin/sh\necho "ran apt-get $*"\n' > "$work/bin/apt-get"
@@ -106,7 +107,7 @@ chmod +x "$work/bin/apt-get"
 for name in awk basename cat find id make mkdir tail tee uname; do
     ln -s "$(command -v "$name")" "$work/few"
 done
-lacking=(env -C "$work/tree" PATH="$work/bin:$work/few")
+lacking=(env -u FELDRIME_INSTALL -C "$work/tree" PATH="$work/bin:$work/few")
 packages=$(. tools/need.sh; for name in "${compiler[@]}"; do packages_of "$name"; done | xargs)
 for command in "./feldrime check en.page" "./feldrime --none" "make"; do
     status=1
