@@ -22,8 +22,8 @@ use Rattle.raster.specs.declared.Counts.{Counts}
 use Rattle.raster.specs.Moves.{advanceBy}
 use Rattle.raster.specs.Raster.{L, scan}
 use Rattle.raster.specs.Beams.{row}
-use Rattle.raster.specs.Wide.{codeOf, isWide, againAt, fetchesAt}
-use Rattle.raster.specs.Latch.{lastSet, same-last}
+use Rattle.raster.specs.Wide.{codeOf, isWide, fetchesAt}
+use Rattle.raster.specs.Latch.{latched, lastSet, same-last}
 use Rattle.board.specs.declared.Page.{Page}
 use Rattle.board.specs.declared.Board.{Board}
 use Rattle.board.specs.Modes.{fieldMode}
@@ -33,7 +33,7 @@ use Rattle.timing.specs.Check.{reservedRefused, backPorchRefused, lineShort, fr
 use Rattle.timing.specs.Laws.{row-shown}
 use Rattle.fetch.specs.Rows.{codeAt, rowStart, fetchAt, fetchedOf, movedOf, cellAt}
 use Rattle.fetch.specs.Laws.{cell-moved}
-use Rattle.latch.specs.Held.{setIn, byteOf, heldAt}
+use Rattle.latch.specs.Held.{setIn, byteOf, heldAt, attributesAt}
 use Rattle.shape.specs.Font.{Font}
 use Rattle.video.specs.Scene.{sceneOf}
 use Rattle.video.specs.Cell.{columnOf}
@@ -175,6 +175,11 @@ module _ (p : Page) (irs′ : List ℕ) (s t : ℕ) (chars attrs chars′ attrs�
           same-set (k / H) (k % H) (few k l) (mod-lt k some)
           ∙ ap (λ (n : ℕ). setIn q chars′ attrs′ (k / n) (k % n)) (same-hact p q (a .registers))
 
+  pub same-attributes : (r c : ℕ) → r < rowsOf p → c < H → attributesAt p chars attrs r c ≡ attributesAt q chars′ attrs′ r c
+  unfolding attributesAt
+  same-attributes r c h l =
+      ap₂ (λ (held byte : ℕ). pick (fieldMode p) held (latched byte 0)) (same-held r (c + 1) h) (a .byte r c h l ∙ ap (λ (x : ℕ). getD attrs′ x 0) (same-cell r c h))
+
   -- ---- the place for clock n
 
   same-row : (r c : ℕ) → r < rowsOf p → rowAt p chars attrs r c ≡ rowAt q chars′ attrs′ r c
@@ -252,15 +257,15 @@ module _ (b : Board) (irs′ : List ℕ) (s t : ℕ) (chars attrs chars′ attrs
   n = withPage b (changed (b .page) irs′ s t)
 
   -- the dots of a cell that has the same bytes
-  pub same-dots : (scan field : ℕ) (again : Bool) (held x : ℕ) → getD chars x 0 ≡ getD chars′ x 0 → getD attrs x 0 ≡ getD attrs′ x 0
-      → dotsAt b chars attrs f scan field again held x ≡ dotsAt n chars′ attrs′ f scan field again held x
+  pub same-dots : (scan field valid x : ℕ) → getD chars x 0 ≡ getD chars′ x 0 → getD attrs x 0 ≡ getD attrs′ x 0
+      → dotsAt b chars attrs f scan field valid x ≡ dotsAt n chars′ attrs′ f scan field valid x
   unfolding dotsAt scanDots
-  same-dots scan field again held x ce ae = rw (ce, ae, same-scene b irs′ s t (a .registers) scan field)
+  same-dots scan field valid x ce ae = rw (ce, ae, same-scene b irs′ s t (a .registers) scan field)
 
-  -- a column of a line, by its row's code, the lines of a row, what is valid before it, and its cell
-  abbrev by : (line field c : ℕ) → (code L held x : ℕ) → List ℕ
-  by line field c k L held x =
-      columnOf (isWide (codeOf k)) (eqb (c % 2) 1) (dotsAt n chars′ attrs′ f (scanOf (codeOf k) L (line % L)) field (againAt (codeOf k) c) held x)
+  -- a column of a line, by its row's code, the lines of a row, the attributes valid there, and its cell
+  abbrev by : (line field c : ℕ) → (code L valid x : ℕ) → List ℕ
+  by line field c k L valid x =
+      columnOf (isWide (codeOf k)) (eqb (c % 2) 1) (dotsAt n chars′ attrs′ f (scanOf (codeOf k) L (line % L)) field valid x)
 
   pub same-column : (line field c : ℕ) → line / linesOf (b .page) < rowsOf (b .page) → c < hactOf (b .page) → columnDots b chars attrs f line field c ≡ columnDots n chars′ attrs′ f line field c
   unfolding columnDots
@@ -269,9 +274,9 @@ module _ (b : Board) (irs′ : List ℕ) (s t : ℕ) (chars attrs chars′ attrs
       let r = line / linesOf p in
       let k = codeOf (codeAt p chars r) in
       let L = same-lines p (n .page) (a .registers) in
-      ap (columnOf (isWide k) (eqb (c % 2) 1)) (same-dots (scanOf k (linesOf p) (line % linesOf p)) field (againAt k c) (heldAt p chars attrs r c) (cellAt p chars r c) (a .letter r c h l) (a .byte r c h l))
-      ∙ parts (a .code r h) L (same-held p irs′ s t chars attrs chars′ attrs′ a r c h) (same-cell p irs′ s t chars attrs chars′ attrs′ a r c h)
-      ∙ ap (λ (x : ℕ). by line field c (codeAt (n .page) chars′ x) (linesOf (n .page)) (heldAt (n .page) chars′ attrs′ x c) (cellAt (n .page) chars′ x c)) (ap (λ (x : ℕ). line / x) L)
+      ap (columnOf (isWide k) (eqb (c % 2) 1)) (same-dots (scanOf k (linesOf p) (line % linesOf p)) field (attributesAt p chars attrs r c) (cellAt p chars r c) (a .letter r c h l) (a .byte r c h l))
+      ∙ parts (a .code r h) L (same-attributes p irs′ s t chars attrs chars′ attrs′ a r c h l) (same-cell p irs′ s t chars attrs chars′ attrs′ a r c h)
+      ∙ ap (λ (x : ℕ). by line field c (codeAt (n .page) chars′ x) (linesOf (n .page)) (attributesAt (n .page) chars′ attrs′ x c) (cellAt (n .page) chars′ x c)) (ap (λ (x : ℕ). line / x) L)
     where
       parts : {k k′ L L′ v v′ x x′ : ℕ} → k ≡ k′ → L ≡ L′ → v ≡ v′ → x ≡ x′ → by line field c k L v x ≡ by line field c k′ L′ v′ x′
       parts ke le ve xe = rw (ke, le, ve, xe)

@@ -10,6 +10,7 @@ use lib.ListN.{getD, replicate}
 use Rattle.lists.specs.Choice.{pick, both}
 use Rattle.refusal.specs.declared.Refusal.the-variants.{Done}
 use Rattle.raster.specs.declared.Row.{Row}
+use Rattle.raster.specs.Latch.{latched}
 use Rattle.raster.specs.Wide.{codeOf, isWide, againAt}
 use Rattle.raster.specs.Beams.{row}
 use Rattle.board.specs.declared.Page.{Page}
@@ -23,12 +24,12 @@ use Rattle.shape.specs.Font.{Font}
 use Rattle.video.specs.declared.Scene.{Scene}
 use Rattle.video.specs.Scene.{sceneOf}
 use Rattle.video.specs.Cell.{columnOf}
-use Rattle.video.specs.At.{scanOf, dotsAt}
+use Rattle.video.specs.At.{scanOf, readingOf, countedByte, dotsAt}
 use Rattle.place.specs.Place.{activeAt, loadedIn, placeAt}
 use Rattle.place.specs.Beam.{rasterOf}
 use Rattle.place.specs.Settled.{at-settled}
 use Rattle.board.specs.Parts.{withPlace, withPage}
-use Rattle.step.specs.Signals.{signalsOf, padded, oddIn, clockDots}
+use Rattle.step.specs.Signals.{signalsOf, padded, oddIn, clockDots, validIn}
 use Rattle.step.specs.Step.{steppedOf, stepCheck, stepOf}
 use Rattle.agreement.specs.Steps.{after, step-is, steps-are}
 use Rattle.agreement.specs.Lines.{beam-at}
@@ -147,8 +148,8 @@ module _ (b : Board) (irs′ : List ℕ) (s t : ℕ) (chars attrs chars′ attrs
       d : ℕ
       d = p .video .dots .0
 
-      dots : (L : ℕ) → List ℕ
-      dots L = columnOf (isWide (codeOf c)) (oddIn (withPlace b y)) (dotsAt (withPlace n y) chars′ attrs′ f (scanOf (codeOf c) L (y .line .0 % L)) (y .field) (againAt (codeOf c) (y .clock .0)) held x)
+      dots : (L valid : ℕ) → List ℕ
+      dots L valid = columnOf (isWide (codeOf c)) (oddIn (withPlace b y)) (dotsAt (withPlace n y) chars′ attrs′ f (scanOf (codeOf c) L (y .line .0 % L)) (y .field) valid x)
 
       blank : (L : ℕ) → List ℕ
       blank L = replicate d (sceneOf (withPlace n y) (scanOf (codeOf c) L (y .line .0 % L)) (y .field) .blank)
@@ -157,14 +158,14 @@ module _ (b : Board) (irs′ : List ℕ) (s t : ℕ) (chars attrs chars′ attrs
       scan = scanOf (codeOf c) (linesOf p) (y .line .0 % linesOf p)
 
       go : (t : Bool) → activeAt p y ≡ t → (u : Bool) → u ≡ activeAt p y
-          → padded (pick t (columnOf (isWide (codeOf c)) (oddIn (withPlace b y)) (dotsAt (withPlace b y) chars attrs f scan (y .field) (againAt (codeOf c) (y .clock .0)) held x)) (replicate d (sceneOf (withPlace b y) scan (y .field) .blank))) d
-          ≡ padded (pick u (dots (linesOf (n .page))) (blank (linesOf (n .page)))) d
+          → padded (pick t (columnOf (isWide (codeOf c)) (oddIn (withPlace b y)) (dotsAt (withPlace b y) chars attrs f scan (y .field) (validIn (withPlace b y) attrs c held x) x)) (replicate d (sceneOf (withPlace b y) scan (y .field) .blank))) d
+          ≡ padded (pick u (dots (linesOf (n .page)) (validIn (withPlace n y) attrs′ c held x)) (blank (linesOf (n .page)))) d
       go true e u q =
           let k = bytes e in
           rw (q, e)
           (ap (λ (l : List ℕ). padded l d)
-          (ap (columnOf (isWide (codeOf c)) (oddIn (withPlace b y))) (same-dots (withPlace b y) irs′ s t chars attrs chars′ attrs′ f a scan (y .field) (againAt (codeOf c) (y .clock .0)) held x (k .0) (k .1))
-          ∙ ap dots L))
+          (ap (columnOf (isWide (codeOf c)) (oddIn (withPlace b y))) (same-dots (withPlace b y) irs′ s t chars attrs chars′ attrs′ f a scan (y .field) (validIn (withPlace b y) attrs c held x) x (k .0) (k .1))
+          ∙ ap₂ dots L (ap (λ (z : ℕ). latched (countedByte (readingOf p) (againAt (codeOf c) (y .clock .0)) z) held) (k .1))))
       go false e u q =
           rw (q, e)
           (ap (λ (l : List ℕ). padded l d)

@@ -26,7 +26,7 @@ use Rattle.fetch.specs.Rows.{entryOf, fetchedOf}
 use Rattle.fetch.specs.Run.{spanOf}
 use Rattle.fetch.specs.RowCells.{cellsPut}
 use Rattle.fetch.specs.Laws.{span-number}
-use Rattle.latch.specs.Held.{heldAt}
+use Rattle.latch.specs.Held.{attributesAt}
 use Rattle.shape.specs.Font.{Font, fontOf}
 use Rattle.line.specs.Line.{rowFor, lineLength, drawCheck, drawnOf}
 use Rattle.picture.specs.Picture.{picturedOf}
@@ -274,7 +274,7 @@ module _ (numbers chars attrs words flags unshifted shifted : List ℕ) where
     abbrev pub DrawnFromC : (line : ℕ) → (address : ℕ → ℕ) → Type 0
     DrawnFromC line address = (field : ℕ) (out : List ℕ) → sizeFor numbers .dots ≤ length out
         → drawnC line field out
-        ≡ joined 0 (hactOf (b .page)) (λ c. shownAt b chars attrs f line field c (heldAt (b .page) chars attrs (rowFor b line) c) (address c))
+        ≡ joined 0 (hactOf (b .page)) (λ c. shownAt b chars attrs f line field c (attributesAt (b .page) chars attrs (rowFor b line) c) (address c))
         ++ drop (sizeFor numbers .dots) out
 
     drawn-from-c : (line : ℕ) (address : ℕ → ℕ) → DrawnFrom b chars attrs f line address → DrawnFromC line address
@@ -299,7 +299,7 @@ module _ (numbers chars attrs words flags unshifted shifted : List ℕ) where
               drawn-from-c l _ (s .drawn) field out room
               ∙ ap (λ (d : List ℕ). d ++ drop (sizeFor numbers .dots) out)
               (same-joined 0 (hactOf (b .page)) _ _ (λ c _ h.
-              ap (λ (x : Board). shownAt b chars attrs f l field c (heldAt (b .page) chars attrs (rowFor b l) c) (stepOf x chars attrs f .address)) (sym (steps-from-c (clockOf b k l c)))));
+              ap (λ (x : Board). shownAt b chars attrs f l field c (attributesAt (b .page) chars attrs (rowFor b l) c) (stepOf x chars attrs f .address)) (sym (steps-from-c (clockOf b k l c)))));
         }
 
     -- line l of row r, where the row's cells follow from an address: the addresses that feldrime_step answers in every frame, and the cells whose dots
@@ -375,7 +375,7 @@ module _ (numbers chars attrs words flags unshifted shifted : List ℕ) where
     pub picture-from-cells-from-c : (field : ℕ) (cells : List ℕ) → 256 ≤ length cells → (out : List ℕ) → sizeFor numbers .lines * sizeFor numbers .dots ≤ length out
         → picturedC field out
         ≡ joined 0 (rowsOf (b .page)) (λ r. joined 0 (linesOf (b .page)) (λ l.
-        joined 0 (hactOf (b .page)) (λ c. shownAt b chars attrs f (lineOf b r l) field c (heldAt (b .page) chars attrs r c) (getD (cellsPutFor numbers chars r cells) (nthCell b chars r c) 0))))
+        joined 0 (hactOf (b .page)) (λ c. shownAt b chars attrs f (lineOf b r l) field c (attributesAt (b .page) chars attrs r c) (getD (cellsPutFor numbers chars r cells) (nthCell b chars r c) 0))))
         ++ drop (sizeFor numbers .lines * sizeFor numbers .dots) out
     unfolding cellsPutFor
     picture-from-cells-from-c field cells wide out room =

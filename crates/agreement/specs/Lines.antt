@@ -14,7 +14,7 @@ use Rattle.refusal.specs.declared.Refusal.the-variants.{Done}
 use Rattle.raster.specs.declared.Row.{Row}
 use Rattle.raster.specs.Raster.{Pair, Scan, loaded, atOnce}
 use Rattle.raster.specs.Agree.{loaded-meets}
-use Rattle.raster.specs.Wide.{isWide, againAt}
+use Rattle.raster.specs.Wide.{isWide}
 use Rattle.raster.specs.Beams.{row}
 use Rattle.board.specs.declared.Page.{Page}
 use Rattle.board.specs.declared.Place.{Place}
@@ -22,7 +22,8 @@ use Rattle.board.specs.declared.Board.{Board}
 use Rattle.timing.specs.Fields.{htOf, vtOf, hactOf, linesOf, visibleOf, countsOf}
 use Rattle.timing.specs.Laws.{accepted-good}
 use Rattle.fetch.specs.Rows.{codeAt, cellAt}
-use Rattle.latch.specs.Held.{heldAt}
+use Rattle.latch.specs.Held.{heldAt, attributesAt}
+use Rattle.latch.specs.Laws.{attributes-are}
 use Rattle.shape.specs.Font.{Font}
 use Rattle.video.specs.Scene.{sceneOf}
 use Rattle.line.specs.Length.{length-dots}
@@ -48,18 +49,18 @@ clockOf b k l c = lineCount b k l * htOf (b .page) + c
 abbrev pub addressAt : Board → (chars attrs : List ℕ) → Font → (k l c : ℕ) → ℕ
 addressAt b chars attrs f k l c = stepOf (after b chars attrs f (clockOf b k l c)) chars attrs f .address
 
--- the dots of a column of a line, where held is valid before it and it shows the cell at an address
-abbrev pub shownAt : Board → (chars attrs : List ℕ) → Font → (line field c held address : ℕ) → List ℕ
-shownAt b chars attrs f line field c held a =
-    columnOf (isWide (codeFor b chars line)) (eqb (c % 2) 1) (dotsAt b chars attrs f (scanFor b chars line) field (againAt (codeFor b chars line) c) held a)
+-- the dots of a column of a line that shows the cell at an address, with the attributes that are valid there
+abbrev pub shownAt : Board → (chars attrs : List ℕ) → Font → (line field c valid address : ℕ) → List ℕ
+shownAt b chars attrs f line field c valid a =
+    columnOf (isWide (codeFor b chars line)) (eqb (c % 2) 1) (dotsAt b chars attrs f (scanFor b chars line) field valid a)
 
 -- what is drawn of a line, in any field and into any buffer that has room, is the dots of the cells at these addresses, end to end; bytes beyond stay.
--- Beside its own bytes a cell's dots depend on what is valid before it: in field mode on the cells that were fetched before it in the frame, those of the rows
--- above too (`latch` Held); in character mode on nothing (`plain-row` in Rows)
+-- Besides its own bytes a cell's dots depend on the attributes that are valid there: in field mode on the cells that were fetched before it in the frame, those
+-- of the rows above too (`latch` Held); in character mode on nothing else (`plain-row` in Rows)
 abbrev pub DrawnFrom : Board → (chars attrs : List ℕ) → Font → (line : ℕ) → (address : ℕ → ℕ) → Type 0
 DrawnFrom b chars attrs f line address = (field : ℕ) (out : List ℕ) → lineLength b ≤ length out
     → drawnOf b chars attrs f line field out
-    ≡ joined 0 (hactOf (b .page)) (λ c. shownAt b chars attrs f line field c (heldAt (b .page) chars attrs (rowFor b line) c) (address c))
+    ≡ joined 0 (hactOf (b .page)) (λ c. shownAt b chars attrs f line field c (attributesAt (b .page) chars attrs (rowFor b line) c) (address c))
     ++ drop (lineLength b) out
 
 loaded-visible : (p : Page) (chars attrs : List ℕ) (q : Place) → settledIn p q ≡ q → q .line .0 < visibleOf p .0
@@ -130,7 +131,10 @@ module _ (b : Board) (chars attrs : List ℕ) (f : Font) (ok : stepCheck b chars
     dots-are =
         let n = clockOf b k l c in
         rw (steps-are b chars attrs f ok n, step-is b chars attrs f ok n)
-        (ap (λ (x : Row). clockDots (atClock b chars attrs f ok n) chars attrs f (x .code) (x .latch) (x .address)) worked-on ∙ rw (active, line-is, clock-is, frame-is))
+        (ap (λ (x : Row). clockDots (atClock b chars attrs f ok n) chars attrs f (x .code) (x .latch) (x .address)) worked-on
+        ∙ rw (active, line-is, clock-is, frame-is)
+        (ap (λ (v : ℕ). padded (shownAt b chars attrs f l (k % 256) c v (cellAt (b .page) chars (rowFor b l) c)) (b .page .video .dots .0))
+        (sym (attributes-are (b .page) chars attrs (rowFor b l) c hc))))
 
   -- ---- the line
 
@@ -152,7 +156,7 @@ module _ (b : Board) (chars attrs : List ℕ) (f : Font) (ok : stepCheck b chars
       draw-is l hl field out room
       ∙ ap (λ (d : List ℕ). d ++ drop (lineLength b) out)
       (same-joined 0 (hactOf (b .page)) _ _
-      (λ c _ h. ap (shownAt b chars attrs f l field c (heldAt (b .page) chars attrs (rowFor b l) c)) (sym (same c (omega arith)))))
+      (λ c _ h. ap (shownAt b chars attrs f l field c (attributesAt (b .page) chars attrs (rowFor b l) c)) (sym (same c (omega arith)))))
 
   module _ (k l : ℕ) (hl : l < visibleOf (b .page) .0) where
     -- the dots that the step at column c puts out, without the places past them

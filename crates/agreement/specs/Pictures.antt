@@ -1,5 +1,5 @@
 -- A picture is its visible lines as the line drawer writes them, the dots of all active clocks of a frame, in order, and the dots of its rows' cells. Assumes nothing.
-use Prim.Native.Nat.{ℕ, _+_, _/_, _%_, _≤_, _<_}
+use Prim.Native.Nat.{ℕ, _/_, _%_, _≤_, _<_}
 use mathlib.Core.Path.{_≡_, sym, ap, _∙_}
 use mathlib.Core.List.{List, _++_}
 use native.Mathlib.Omega.{arith}
@@ -13,7 +13,7 @@ use Rattle.board.specs.declared.Board.{Board}
 use Rattle.timing.specs.Fields.{hactOf, linesOf, rowsOf, visibleOf}
 use Rattle.fetch.specs.RowCells.{cellsPut}
 use Rattle.fetch.specs.Rows.{cellAt}
-use Rattle.latch.specs.Held.{heldAt}
+use Rattle.latch.specs.Held.{attributesAt}
 use Rattle.shape.specs.Font.{Font}
 use Rattle.video.specs.At.{lentRefused}
 use Rattle.line.specs.Line.{columnDots, lineDots, lineLength, drawnOf}
@@ -73,18 +73,18 @@ module _ (b : Board) (chars attrs : List ℕ) (f : Font) (ok : stepCheck b chars
   -- ---- the cells of its rows
 
   module _ (field : ℕ) (cells : List ℕ) (wide : 256 ≤ length cells) where
-    -- line l of row r from what `row_cells` leaves of the row in a buffer, and what is valid before each of its cells
+    -- line l of row r from what `row_cells` leaves of the row in a buffer, and the attributes that are valid at each of its columns
     abbrev pub cellLine : (r l : ℕ) → List ℕ
     cellLine r l =
-        joined 0 (hactOf (b .page)) (λ c. shownAt b chars attrs f (lineOf b r l) field c (heldAt (b .page) chars attrs r c) (getD (cellsPut b chars r cells) (nthCell b chars r c) 0))
+        joined 0 (hactOf (b .page)) (λ c. shownAt b chars attrs f (lineOf b r l) field c (attributesAt (b .page) chars attrs r c) (getD (cellsPut b chars r cells) (nthCell b chars r c) 0))
 
     line-from-cells : (r l : ℕ) → r < rowsOf (b .page) → l < linesOf (b .page) → lineDots b chars attrs f (lineOf b r l) field ≡ cellLine r l
     unfolding lineDots columnDots
     line-from-cells r l hr hl =
         let q : lineOf b r l / linesOf (b .page) ≡ r = digits-div r hl in
         same-joined 0 (hactOf (b .page)) _ _ (λ c _ h.
-        ap (λ (x : ℕ). shownAt b chars attrs f (lineOf b r l) field c (heldAt (b .page) chars attrs x c) (cellAt (b .page) chars x c)) q
-        ∙ ap (shownAt b chars attrs f (lineOf b r l) field c (heldAt (b .page) chars attrs r c)) (sym (at-column b chars attrs f ok r l hr hl cells wide c (omega arith))))
+        ap (λ (x : ℕ). shownAt b chars attrs f (lineOf b r l) field c (attributesAt (b .page) chars attrs x c) (cellAt (b .page) chars x c)) q
+        ∙ ap (shownAt b chars attrs f (lineOf b r l) field c (attributesAt (b .page) chars attrs r c)) (sym (at-column b chars attrs f ok r l hr hl cells wide c (omega arith))))
 
     -- [more cells]
     -- the picture is the dots of the cells that `row_cells` gives, row by row, line by line, column by column; bytes beyond stay

@@ -25,7 +25,8 @@ use Rattle.fetch.specs.Run.{runCheck, spanOf}
 use Rattle.fetch.specs.RowCells.{cellsOf, cellsCheck, rowOf, cellsGiven, cellsPut}
 use Rattle.fetch.specs.Laws.{cell-shown, start-table, start-sheet}
 use Rattle.fetch.specs.RowLaws.{cells-as-run, cells-at, run-at}
-use Rattle.latch.specs.Laws.{held-plain}
+use Rattle.raster.specs.Latch.{latched}
+use Rattle.latch.specs.Held.{attributesAt}
 use Rattle.shape.specs.Font.{Font}
 use Rattle.line.specs.Line.{lineLength, drawnOf}
 use Rattle.step.specs.Step.{stepCheck}
@@ -102,15 +103,16 @@ module _ (b : Board) (chars attrs : List ℕ) (f : Font) (ok : stepCheck b chars
   pub row-from-start : tableOf (b .page) ≡ false → Shown (follows b (b .page .starts .start1) (r * hactOf (b .page)))
   row-from-start t = shown (follows b (b .page .starts .start1) (r * hactOf (b .page))) (start-sheet (b .page) chars r t)
 
-  -- in character mode nothing that stands before a cell plays a part in its dots
+  -- in character mode a cell's own byte gives its attributes, and nothing that stands before it plays a part in its dots
   pub plain-row : fieldMode (b .page) ≡ false → (start : ℕ) → Shown start → (field : ℕ) (out : List ℕ) → lineLength b ≤ length out
       → drawnOf b chars attrs f (lineOf b r l) field out
-      ≡ joined 0 (hactOf (b .page)) (λ c. shownAt b chars attrs f (lineOf b r l) field c 0 (follows b start (nthCell b chars r c))) ++ drop (lineLength b) out
+      ≡ joined 0 (hactOf (b .page)) (λ c. shownAt b chars attrs f (lineOf b r l) field c (latched (getD attrs (cellAt (b .page) chars r c) 0) 0) (follows b start (nthCell b chars r c))) ++ drop (lineLength b) out
+  unfolding attributesAt
   plain-row m start s field out room =
       s .drawn field out room
       ∙ ap (λ (d : List ℕ). d ++ drop (lineLength b) out)
       (same-joined 0 (hactOf (b .page)) _ _ (λ c _ h.
-      ap (λ (held : ℕ). shownAt b chars attrs f (lineOf b r l) field c held (follows b start (nthCell b chars r c))) (held-plain (b .page) chars attrs m _ c)))
+      rw (row-is, m)))
 
   -- ---- the row's run
 

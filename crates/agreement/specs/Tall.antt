@@ -10,19 +10,19 @@ use native.Mathlib.Omega.{arith}
 use borrow.Author.Tests.{lt-ltb, le-ltb}
 use lib.Arith.{digits-div, digits-mod}
 use lib.Dec.{eqb, ltb}
+use lib.ListN.{getD}
 use Rattle.lists.specs.Choice.{pick}
 use Rattle.lists.specs.Join.{joined, same-joined}
 use Rattle.raster.specs.declared.Code.{Code}
-use Rattle.raster.specs.declared.Code.the-variants.{Wide}
 use Rattle.raster.specs.Moves.{advanceBy}
-use Rattle.raster.specs.Wide.{codeOf, isWide, againAt}
+use Rattle.raster.specs.Latch.{latched}
+use Rattle.raster.specs.Wide.{codeOf, isWide}
 use Rattle.board.specs.declared.Board.{Board}
 use Rattle.board.specs.Modes.{fieldMode}
 use Rattle.timing.specs.Fields.{hactOf, linesOf, bufferOf}
 use Rattle.fetch.specs.Rows.{codeAt, rowStart, cellAt, fetchAt}
 use Rattle.fetch.specs.Laws.{cell-shown}
-use Rattle.latch.specs.Held.{heldAt}
-use Rattle.latch.specs.Laws.{held-plain}
+use Rattle.latch.specs.Held.{attributesAt}
 use Rattle.shape.specs.Font.{Font}
 use Rattle.video.specs.Cell.{columnOf}
 use Rattle.video.specs.At.{scanOf, dotsAt}
@@ -38,7 +38,7 @@ module _ (b : Board) (chars attrs : List ℕ) (f : Font) (field r s : ℕ) (top 
   abbrev pub tallLine : (scan : ℕ) → List ℕ
   tallLine scan =
       joined 0 (hactOf (b .page))
-      (λ (c : ℕ). columnOf true (eqb (c % 2) 1) (dotsAt b chars attrs f scan field (againAt Wide c) (heldAt (b .page) chars attrs r c) (cellAt (b .page) chars r c)))
+      (λ (c : ℕ). columnOf true (eqb (c % 2) 1) (dotsAt b chars attrs f scan field (attributesAt (b .page) chars attrs r c) (cellAt (b .page) chars r c)))
 
   -- line j of the two rows
   abbrev pub pairLine : (j : ℕ) → List ℕ
@@ -55,7 +55,7 @@ module _ (b : Board) (chars attrs : List ℕ) (f : Font) (field r s : ℕ) (top 
   abbrev lineBy : Code → (scan row : ℕ) → List ℕ
   lineBy k scan q =
       joined 0 (hactOf (b .page))
-      (λ (c : ℕ). columnOf (isWide k) (eqb (c % 2) 1) (dotsAt b chars attrs f scan field (againAt k c) (heldAt (b .page) chars attrs q c) (cellAt (b .page) chars q c)))
+      (λ (c : ℕ). columnOf (isWide k) (eqb (c % 2) 1) (dotsAt b chars attrs f scan field (attributesAt (b .page) chars attrs q c) (cellAt (b .page) chars q c)))
 
   in-row : (q l : ℕ) → l < L → (k : ℕ) → codeAt (b .page) chars q ≡ k → lineDots b chars attrs f (lineOf b q l) field ≡ lineBy (codeOf k) (scanOf (codeOf k) L l) q
   unfolding lineDots columnDots
@@ -66,13 +66,13 @@ module _ (b : Board) (chars attrs : List ℕ) (f : Font) (field r s : ℕ) (top 
   in-top : (j : ℕ) → j < L → lineDots b chars attrs f (lineOf b r j) field ≡ tallLine (j / 2)
   in-top j h = in-row r j h 2 top
 
-  -- where what is valid before each column is the same in both rows
-  module _ (valid : (c : ℕ) → c < hactOf (b .page) → heldAt (b .page) chars attrs s c ≡ heldAt (b .page) chars attrs r c) where
+  -- where the attributes valid at each column are the same in both rows
+  module _ (valid : (c : ℕ) → c < hactOf (b .page) → attributesAt (b .page) chars attrs s c ≡ attributesAt (b .page) chars attrs r c) where
     in-bottom : (l : ℕ) → l < L → lineDots b chars attrs f (lineOf b s l) field ≡ tallLine ((L + l) / 2)
     in-bottom l h =
         in-row s l h 3 bottom
         ∙ same-joined 0 (hactOf (b .page)) _ _ (λ c _ k.
-        ap₂ (λ (held a : ℕ). columnOf true (eqb (c % 2) 1) (dotsAt b chars attrs f ((L + l) / 2) field (againAt Wide c) held a)) (valid c (omega arith)) (same-cell c (omega arith)))
+        ap₂ (λ (v a : ℕ). columnOf true (eqb (c % 2) 1) (dotsAt b chars attrs f ((L + l) / 2) field v a)) (valid c (omega arith)) (same-cell c (omega arith)))
 
     -- [R-4 halves]
     -- line j of a top and a bottom row together shows scan line j / 2 of their cells in double width
@@ -97,4 +97,5 @@ module _ (b : Board) (chars attrs : List ℕ) (f : Font) (field r s : ℕ) (top 
   -- [R-4 halves]
   -- in character mode nothing more is asked
   pub always-twice : fieldMode (b .page) ≡ false → (i : ℕ) → i < L → (pairLine (2 * i) ≡ tallLine i) × (pairLine (2 * i + 1) ≡ tallLine i)
-  always-twice m = each-twice (λ c h. held-plain (b .page) chars attrs m s c ∙ sym (held-plain (b .page) chars attrs m r c))
+  unfolding attributesAt
+  always-twice m = each-twice (λ c h. rw m (ap (λ (a : ℕ). latched (getD attrs a 0) 0) (same-cell c h)))

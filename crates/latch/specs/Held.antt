@@ -1,9 +1,10 @@
--- 000, field mode (02, R-1): what is valid before the cell at a column of a row.
+-- 000 (02, R-1): the attributes that are valid at a column of a row, and before its cell.
 use Prim.Native.Nat.{ℕ, min, _+_, _*_, _/_, _%_}
 use mathlib.Core.List.{List}
+use lib.ListN.{getD}
 use Rattle.lists.specs.Choice.{pick}
 use Rattle.raster.specs.Wide.{codeOf, fetchesAt}
-use Rattle.raster.specs.Latch.{setsOf, lastSet}
+use Rattle.raster.specs.Latch.{latched, setsOf, lastSet}
 use Rattle.board.specs.declared.Page.{Page}
 use Rattle.board.specs.Modes.{fieldMode}
 use Rattle.timing.specs.Fields.{hactOf, countsOf}
@@ -22,3 +23,8 @@ byteOf p chars attrs k = setIn p chars attrs (k / hactOf p) (k % hactOf p)
 -- of the last cell with AFLG that is fetched in the frame before column c of row r, or 0 for none
 unfoldable pub heldAt : Page → (chars attrs : List ℕ) → (row column : ℕ) → ℕ
 heldAt p chars attrs r c = lastSet (byteOf p chars attrs) 0 (r * hactOf p + min c (hactOf p))
+
+-- the attributes valid at column c of row r: in field mode those of the last cell with AFLG that is fetched in the frame up to there; in character
+-- mode those of the column's own cell, if it has AFLG
+unfoldable pub attributesAt : Page → (chars attrs : List ℕ) → (row column : ℕ) → ℕ
+attributesAt p chars attrs r c = pick (fieldMode p) (heldAt p chars attrs r (c + 1)) (latched (getD attrs (cellAt p chars r c) 0) 0)

@@ -7,11 +7,13 @@
 --     held-plain     in character mode nothing is ever latched
 --     run-part       the bytes of cells that are one run
 --     held-kept      a latch byte has AFLG or is 0
+--     attributes-are what is valid at a column is what its cell sets there, over what is valid before it
 use Prim.Native.Nat.{ℕ, suc, min, _+_, _-_, _*_, _/_, _%_, _≤_, _<_}
-use mathlib.Core.Path.{_≡_, refl, sym, ap, _∙_}
-use mathlib.Core.Bool.{Bool, true, false, not}
+use mathlib.Core.Path.{_≡_, refl, sym, ap, ap₂, _∙_}
+use mathlib.Core.Bool.{Bool, true, false, not, _&&_}
 use mathlib.Core.List.{List}
 use native.Mathlib.Nat.{zero-mul, suc-mul}
+use native.Mathlib.Numerals.{add-one}
 use native.Mathlib.Omega.{arith}
 use borrow.Author.Tests.{lt-ltb}
 use lib.ListN.{length, getD, take, drop, length-drop}
@@ -32,7 +34,7 @@ use Rattle.fetch.specs.Rows.{codeAt, rowStart, fetchAt, fetchedOf, begunOf, mov
 use Rattle.fetch.specs.Feed.{feedIn, tallyIn}
 use Rattle.fetch.specs.Run.{oneRun, run-fits, run-at}
 use Rattle.fetch.specs.Laws.{cell-shown, begun-all}
-use Rattle.latch.specs.Held.{setIn, byteOf, heldAt}
+use Rattle.latch.specs.Held.{setIn, byteOf, heldAt, attributesAt}
 
 -- the count of columns that a timing has
 pub columns-of : (p : Page) (t : Timing) → t ≡ timingOf p → t .counts .hact .0 ≡ hactOf p
@@ -122,6 +124,42 @@ module _ (p : Page) (chars attrs : List ℕ) where
   pub held-kept : (r c : ℕ) → latched (heldAt p chars attrs r c) 0 ≡ heldAt p chars attrs r c
   unfolding heldAt
   held-kept r c = last-kept (byteOf p chars attrs) 0 _ refl
+
+  -- one column on
+  held-past : (r c : ℕ) → c < H → heldAt p chars attrs r (c + 1) ≡ latched (setIn p chars attrs r c) (heldAt p chars attrs r c)
+  unfolding lastSet
+  held-past r c h =
+      ap (heldAt p chars attrs r) (add-one c)
+      ∙ held-in-row r (suc c) (omega (arith, h))
+      ∙ ap (latched (setIn p chars attrs r c)) (sym (held-in-row r c (omega (arith, h))))
+
+  pub attributes-are : (r c : ℕ) → c < H
+      → attributesAt p chars attrs r c
+      ≡ latched (pick (againAt (codeOf (codeAt p chars r)) c && fieldMode p) 0 (getD attrs (cellAt p chars r c) 0)) (heldAt p chars attrs r c)
+  unfolding attributesAt countsOf
+  attributes-are r c h = go (fieldMode p) refl
+    where
+      again : Bool
+      again = againAt (codeOf (codeAt p chars r)) c
+
+      byte : ℕ
+      byte = getD attrs (cellAt p chars r c) 0
+
+      sets : (t u : Bool) → u ≡ true → pick (true && not t) (pick u byte 0) 0 ≡ pick (t && u) 0 byte
+      sets true u e = rw e
+      sets false u e = rw e
+
+      plain : (t : Bool) → byte ≡ pick (t && false) 0 byte
+      plain true = refl
+      plain false = refl
+
+      go : (m : Bool) → fieldMode p ≡ m
+          → pick m (heldAt p chars attrs r (c + 1)) (latched byte 0) ≡ latched (pick (again && m) 0 byte) (heldAt p chars attrs r c)
+      go true e = held-past r c h ∙ ap (λ (x : ℕ). latched x (heldAt p chars attrs r c)) own
+        where
+          own : setIn p chars attrs r c ≡ pick (again && true) 0 byte
+          own = rw (lt-ltb c H h, e) (sets again true refl)
+      go false e = ap₂ latched (plain again) (sym (held-plain e r c))
 
   -- ---- the search, as the code has it
 

@@ -34,8 +34,8 @@ use Rattle.timing.specs.Check.{pageCheck, stateRefused, callCheck}
 use Rattle.timing.specs.Laws.{Accepted, row-shown, call-passed}
 use Rattle.fetch.specs.Rows.{codeAt, rowStart, cellAt, fetchedOf, begunOf, fetchAt}
 use Rattle.fetch.specs.Laws.{cell-shown, row-start-lt}
-use Rattle.latch.specs.Held.{heldAt}
-use Rattle.latch.specs.Laws.{held-along, held-plain}
+use Rattle.latch.specs.Held.{heldAt, attributesAt}
+use Rattle.latch.specs.Laws.{held-along, held-plain, attributes-are}
 use Rattle.shape.specs.declared.FontLine.{FontLine}
 use Rattle.shape.specs.Font.{Font, Whole, fontRefused, fontLineIn, wordBy}
 use Rattle.shape.specs.Laws.{font-whole}
@@ -43,7 +43,7 @@ use Rattle.video.specs.declared.Scene.{Scene}
 use Rattle.video.specs.declared.Reading.{Reading}
 use Rattle.video.specs.Scene.{sceneOf}
 use Rattle.video.specs.Cell.{columnOf}
-use Rattle.video.specs.At.{Content, lentRefused, scanAt, readingOf, countedByte, contentAt, scanDots, dotsAt}
+use Rattle.video.specs.At.{Content, lentRefused, scanAt, readingOf, countedByte, contentAt, scanDots, dotsAt, fetchedContent}
 use Rattle.dots.specs.Stores.{wideOf}
 use Rattle.dots.specs.Width.{shades, length-shades}
 use Rattle.dots.specs.Half.{shownOf, fetchedFor, cells-few, same-shown}
@@ -183,10 +183,10 @@ module _ (p : Page) (chars attrs : List ℕ) (r : ℕ) (page : Accepted p) where
   own-cell : (v h i : ℕ) → fieldMode p ≡ true → 128 ≤ getD attrs (rowStart p chars r) 0 → made v i ≡ made h i
   unfolding cellBy heldBy lastSet
   own-cell v h zero m a =
-      let k = contentAt (readingOf p) chars attrs false 0 (rowStart p chars r) in
+      let k = fetchedContent (readingOf p) chars attrs 0 (rowStart p chars r) in
       rw first-at (ap (λ (x : ℕ). numberFor (record { code = k .code; attributes = x; here = k .here })) (own-byte (getD attrs (rowStart p chars r) 0) v h a))
   own-cell v h (suc i) m a =
-      ap (λ (x : ℕ). numberFor (contentAt (readingOf p) chars attrs false x (advanceBy (bufferOf p) (suc i) (rowStart p chars r)))) (own-last (λ (j : ℕ). setsOf (fieldMode p) attrs (advanceBy (bufferOf p) j (rowStart p chars r))) v h i (rw (m, first-at) a))
+      ap (λ (x : ℕ). numberFor (fetchedContent (readingOf p) chars attrs x (advanceBy (bufferOf p) (suc i) (rowStart p chars r)))) (own-last (λ (j : ℕ). setsOf (fieldMode p) attrs (advanceBy (bufferOf p) j (rowStart p chars r))) v h i (rw (m, first-at) a))
 
   pub held-counts : (n : ℕ) → tab n (made (heldFor p chars attrs r (rowStart p chars r))) ≡ tab n (made (heldAt p chars attrs r 0))
   unfolding heldFor
@@ -199,7 +199,7 @@ module _ (p : Page) (chars attrs : List ℕ) (r : ℕ) (page : Accepted p) where
 
 -- that cell
 abbrev pub contentBy : Page → (chars attrs : List ℕ) → (r i : ℕ) → Content
-contentBy p chars attrs r i = contentAt (readingOf p) chars attrs false (validBy p chars attrs r i) (fetchAt p chars r i)
+contentBy p chars attrs r i = fetchedContent (readingOf p) chars attrs (validBy p chars attrs r i) (fetchAt p chars r i)
 
 -- on a column that shows a cell again what is valid before it has the cell's own byte, if that has AFLG
 again-valid : (k : Reading) (byte held : ℕ) → latched (countedByte k true byte) (latched (pick (k .runs) byte 0) held) ≡ latched byte held
@@ -217,10 +217,10 @@ module _ (p : Page) (chars attrs : List ℕ) (r c : ℕ) (h : c < hactOf p) wher
   abbrev i : ℕ
   i = pick (isWide k) (c / 2) c
 
-  attributes-are : latched (countedByte (readingOf p) (againAt k c) (getD attrs (fetchAt p chars r i) 0)) (validBy p chars attrs r (begunOf p chars r c))
+  byte-is : latched (countedByte (readingOf p) (againAt k c) (getD attrs (fetchAt p chars r i) 0)) (validBy p chars attrs r (begunOf p chars r c))
       ≡ latched (getD attrs (fetchAt p chars r i) 0) (validBy p chars attrs r i)
   unfolding begunOf fetchedBy
-  attributes-are = go (isWide k) (ℕ-discrete (c % 2) 1)
+  byte-is = go (isWide k) (ℕ-discrete (c % 2) 1)
     where
       m : min c (hactOf p) ≡ c
       m = omega arith
@@ -238,10 +238,11 @@ module _ (p : Page) (chars attrs : List ℕ) (r c : ℕ) (h : c < hactOf p) wher
           let n : (c + 1) / 2 ≡ c / 2 = omega (arith, f) in
           rw (m, n, ne-eqb (c % 2) 1 f)
 
-  pub content-shown : contentAt (readingOf p) chars attrs (againAt k c) (heldAt p chars attrs r c) (cellAt p chars r c) ≡ contentBy p chars attrs r i
+  pub content-shown : contentAt (readingOf p) chars attrs (attributesAt p chars attrs r c) (cellAt p chars r c) ≡ contentBy p chars attrs r i
   content-shown =
       let v = valid-along p chars attrs r c (omega (arith, h)) in
-      rw (← cell-shown p chars r c h, ← v) (ap (λ (x : ℕ). record { code = contentBy p chars attrs r i .code; attributes = x; here = contentBy p chars attrs r i .here }) attributes-are)
+      ap (λ (x : ℕ). contentAt (readingOf p) chars attrs x (cellAt p chars r c)) (attributes-are p chars attrs r c h)
+      ∙ rw (← cell-shown p chars r c h, ← v) (ap (λ (x : ℕ). record { code = contentBy p chars attrs r i .code; attributes = x; here = contentBy p chars attrs r i .here }) byte-is)
 
 -- a column shows it
 pub column-content : (b : Board) (chars attrs : List ℕ) (f : Font) (line field c : ℕ) → c < hactOf (b .page)

@@ -12,7 +12,7 @@ use Rattle.lists.specs.Tab.{tab}
 use Rattle.refusal.specs.declared.Refusal.{Refusal}
 use Rattle.refusal.specs.declared.Refusal.the-variants.{Done, Size, Range}
 use Rattle.refusal.specs.Number.{doneOf}
-use Rattle.raster.specs.Wide.{codeOf, isWide, againAt}
+use Rattle.raster.specs.Wide.{codeOf, isWide}
 use Rattle.board.specs.declared.Place.{Place}
 use Rattle.board.specs.declared.Board.{Board}
 use Rattle.board.specs.Range.{memoriesRefused}
@@ -37,7 +37,7 @@ use Rattle.step.specs.declared.Signals.{Signals}
 use Rattle.step.specs.declared.Stepped.{Stepped}
 use Rattle.step.specs.declared.Clock.{Clock}
 use Rattle.step.specs.declared.Shown.{Shown}
-use Rattle.step.specs.Signals.{scanIn, oddIn, signalsOf, padded, clockDots}
+use Rattle.step.specs.Signals.{scanIn, oddIn, signalsOf, padded, validIn, clockDots}
 use Rattle.step.specs.Shown.{signalsWith, cellShown, blankShown, shownIn}
 use Rattle.step.specs.Step.{steppedOf, stepCheck, noSignals, stepRefused, stepOf, clockIn, Fit}
 
@@ -126,7 +126,7 @@ module _ (b : Board) (chars attrs : List ℕ) (f : Font) (row held a : ℕ) wher
       s t = pick t (cellShown b chars attrs (f .words) (f .flags) (fontLineIn f (scanIn b row)) row held a) (blankShown b)
 
       go : (t : Bool) → columnOf (t && isWide (codeOf row)) (oddIn b) (cellDots (s t .look) (s t .word) d)
-          ≡ pick t (columnOf (isWide (codeOf row)) (oddIn b) (dotsAt b chars attrs f (scanIn b row) (b .place .field) (againAt (codeOf row) (b .place .clock .0)) held a)) (replicate d x)
+          ≡ pick t (columnOf (isWide (codeOf row)) (oddIn b) (dotsAt b chars attrs f (scanIn b row) (b .place .field) (validIn b attrs row held a) a)) (replicate d x)
       go true = refl
       go false = column-plain (oddIn b) (cellDots (blankLook x) 0 d) ∙ blank-cell x d most
 

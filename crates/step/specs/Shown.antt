@@ -5,8 +5,6 @@ use mathlib.Core.Bool.{Bool, false, _||_, not}
 use mathlib.Core.List.{List}
 use lib.ListN.{getD}
 use Rattle.lists.specs.Choice.{pick}
-use Rattle.raster.specs.Wide.{codeOf, againAt}
-use Rattle.raster.specs.Latch.{latched}
 use Rattle.board.specs.declared.Board.{Board}
 use Rattle.board.specs.Modes.{settersHidden}
 use Rattle.timing.specs.Fields.{blinkOf}
@@ -14,11 +12,11 @@ use Rattle.shape.specs.declared.FontLine.{FontLine}
 use Rattle.shape.specs.Font.{Font, fontLineIn, wordBy}
 use Rattle.video.specs.Scene.{displayed, blinkAt, sceneOf, cursorAt}
 use Rattle.video.specs.Look.{blankLook, lookOf}
-use Rattle.video.specs.At.{readingOf, countedByte, shownCode}
+use Rattle.video.specs.At.{shownCode}
 use Rattle.place.specs.Place.{activeAt}
 use Rattle.step.specs.declared.Signals.{Signals}
 use Rattle.step.specs.declared.Shown.{Shown}
-use Rattle.step.specs.Signals.{scanIn, hsyncIn, vsyncIn}
+use Rattle.step.specs.Signals.{scanIn, hsyncIn, vsyncIn, validIn}
 
 -- a clock's signals, from its CURSOR
 unfoldable pub signalsWith : Board → (cursor : Bool) → Signals
@@ -36,7 +34,7 @@ cellShown b chars attrs words flags line k held a = record {
   cursor = cursorAt (sceneOf b (scanIn b k) (b .place .field)) a;
   look =
       lookOf (sceneOf b (scanIn b k) (b .place .field))
-      (latched (countedByte (readingOf (b .page)) (againAt (codeOf k) (b .place .clock .0)) (getD attrs a 0)) held)
+      (validIn b attrs k held a)
       (cursorAt (sceneOf b (scanIn b k) (b .place .field)) a);
   word = wordBy words flags line (shownCode (settersHidden (b .page)) (getD chars a 0) (getD attrs a 0));
 }

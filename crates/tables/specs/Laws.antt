@@ -26,7 +26,7 @@ use Rattle.video.specs.declared.Look.{Look}
 use Rattle.video.specs.declared.Reading.{Reading}
 use Rattle.video.specs.Scene.{sceneOf}
 use Rattle.video.specs.Look.{lookOf}
-use Rattle.video.specs.At.{Content, contentAt, scanDots}
+use Rattle.video.specs.At.{Content, scanDots, fetchedContent}
 use Rattle.dots.specs.Stores.{wideOf}
 use Rattle.dots.specs.Width.{shades, cell-shades}
 use Rattle.tables.specs.Tables.{markOf, numberFor, heldBy, cellBy, levelsBy, levelsOf, levelsAt, noWord, shownWord, wordsAt}
@@ -89,12 +89,12 @@ looked : (f : ℕ → ℕ) (n : ℕ) (xs rest : List ℕ) (i : ℕ) → xs ≡ t
 looked f n xs rest i e h = rw e (List·getD-append (tab n f) rest 0 i (rw (length-tab n f) h)) ∙ getD-tab n f i h
 
 -- a code that is shown is a byte
-pub shown-lt : (k : Reading) (chars attrs : List ℕ) (held a : ℕ) → ((i : ℕ) → getD chars i 0 < 256) → contentAt k chars attrs false held a .code < 256
+pub shown-lt : (k : Reading) (chars attrs : List ℕ) (held a : ℕ) → ((i : ℕ) → getD chars i 0 < 256) → fetchedContent k chars attrs held a .code < 256
 shown-lt k chars attrs held a bytes = pick-lt 256 (k .hidden && leb 128 (getD attrs a 0)) 0 _ (omega arith) (bytes a)
 
 -- of a row its cells, of a scan line the levels of a mark
 module _ (k : Reading) (chars attrs : List ℕ) (buffer : Buffer) (held start n : ℕ) (cells rest : List ℕ) (e : cells ≡ tab n (cellBy k chars attrs buffer held start) ++ rest) where
-  pub gathered : (c : ℕ) → c < n → getD cells c 0 ≡ numberFor (contentAt k chars attrs false (heldBy (k .runs) attrs buffer held start c) (advanceBy buffer c start))
+  pub gathered : (c : ℕ) → c < n → getD cells c 0 ≡ numberFor (fetchedContent k chars attrs (heldBy (k .runs) attrs buffer held start c) (advanceBy buffer c start))
   unfolding cellBy
   gathered c h = looked _ n cells rest c e h
 
@@ -102,11 +102,11 @@ module _ (k : Reading) (chars attrs : List ℕ) (buffer : Buffer) (held start n 
   gathered-lt bytes c h =
       let valid = heldBy (k .runs) attrs buffer held start c in
       let a = advanceBy buffer c start in
-      rw (gathered c h) (number-lt (contentAt k chars attrs false valid a) (shown-lt k chars attrs valid a bytes))
+      rw (gathered c h) (number-lt (fetchedContent k chars attrs valid a) (shown-lt k chars attrs valid a bytes))
 
 -- where the walk along the row stands: what is valid before the cell, its number, and what is valid after it
 module _ (k : Reading) (chars attrs : List ℕ) (buffer : Buffer) (held start c : ℕ) (x : Cell) (e : x ≡ cell (advanceBy buffer c start)) (valid : ℕ) (q : valid ≡ heldBy (k .runs) attrs buffer held start c) where
-  pub as-cell : (v : ℕ) → v ≡ numberFor (contentAt k chars attrs false valid (x .address)) → v ≡ cellBy k chars attrs buffer held start c
+  pub as-cell : (v : ℕ) → v ≡ numberFor (fetchedContent k chars attrs valid (x .address)) → v ≡ cellBy k chars attrs buffer held start c
   unfolding cellBy
   as-cell v d = rw (e, q) at d
 

@@ -1,7 +1,7 @@
 -- The cells of one run are found without the buffer's ends, as in a buffer that is the whole memory. Assumes nothing.
 use Prim.Native.Nat.{ℕ, _+_, _≤_, _<_}
 use mathlib.Core.Path.{_≡_, sym, ap, ap₂, _∙_}
-use mathlib.Core.Bool.{true, false}
+use mathlib.Core.Bool.{true}
 use mathlib.Core.List.{List}
 use native.Mathlib.Omega.{arith}
 use Rattle.lists.specs.Tab.{tab, same-tab}
@@ -10,7 +10,7 @@ use Rattle.raster.specs.Moves.{advanceBy, toLast, by-near}
 use Rattle.raster.specs.Latch.{setsOf, same-last}
 use Rattle.fetch.specs.Run.{oneRun, run-fits, run-at}
 use Rattle.video.specs.declared.Reading.{Reading}
-use Rattle.video.specs.At.{contentAt}
+use Rattle.video.specs.At.{fetchedContent}
 use Rattle.tables.specs.Tables.{numberFor, heldBy, cellBy}
 
 abbrev pub whole : Buffer
@@ -30,4 +30,4 @@ module _ (k : Reading) (chars attrs : List ℕ) (buffer : Buffer) (held start n 
 
   pub run-cells : tab n (cellBy k chars attrs whole held start) ≡ tab n (cellBy k chars attrs buffer held start)
   unfolding cellBy
-  run-cells = same-tab n _ _ (λ i l. ap₂ (λ (v a : ℕ). numberFor (contentAt k chars attrs false v a)) (run-held i (omega arith)) (same-at i l))
+  run-cells = same-tab n _ _ (λ i l. ap₂ (λ (v a : ℕ). numberFor (fetchedContent k chars attrs v a)) (run-held i (omega arith)) (same-at i l))

@@ -3,7 +3,7 @@ use Rattle.lists.specs.Join.{joined}
 use lib.ListN.{drop}
 use mathlib.Core.Path.{_≡_}
 use Prim.Native.Nat.{ℕ, _+_, _*_, _/_, _%_}
-use mathlib.Core.Bool.{Bool, false, _&&_}
+use mathlib.Core.Bool.{Bool, _&&_}
 use mathlib.Core.List.{List, _++_}
 use lib.Dec.{eqb}
 use Rattle.lists.specs.Choice.{pick}
@@ -19,7 +19,7 @@ use Rattle.video.specs.declared.Look.{Look}
 use Rattle.video.specs.declared.Reading.{Reading}
 use Rattle.video.specs.Scene.{sceneOf}
 use Rattle.video.specs.Look.{lookOf}
-use Rattle.video.specs.At.{Content, contentAt}
+use Rattle.video.specs.At.{Content, fetchedContent}
 use Rattle.dots.specs.Stores.{underOf, wideOf}
 
 -- a cell's mark has its attributes in the low six bits, and 64 where the cursor's address is its own
@@ -38,7 +38,7 @@ heldBy runs attrs buffer held start c = lastSet (λ i. setsOf runs attrs (advanc
 
 -- that cell
 unfoldable pub cellBy : Reading → (chars attrs : List ℕ) → Buffer → (held start c : ℕ) → ℕ
-cellBy k chars attrs buffer held start c = numberFor (contentAt k chars attrs false (heldBy (k .runs) attrs buffer held start c) (advanceBy buffer c start))
+cellBy k chars attrs buffer held start c = numberFor (fetchedContent k chars attrs (heldBy (k .runs) attrs buffer held start c) (advanceBy buffer c start))
 
 -- a look's two levels as one number
 abbrev pub levelsBy : Look → ℕ

@@ -54,13 +54,17 @@ abbrev pub countedByte : Reading → (again : Bool) → (byte : ℕ) → ℕ
 countedByte k again byte = pick (again && k .runs) 0 byte
 
 -- [dots attributes]
--- the cell at an address, where held is valid before the column: nothing, in character mode
-abbrev pub contentAt : Reading → (chars attrs : List ℕ) → (again : Bool) → (held address : ℕ) → Content
-contentAt k chars attrs again held a = record {
+-- the cell at an address, with the attributes that are valid there
+abbrev pub contentAt : Reading → (chars attrs : List ℕ) → (valid address : ℕ) → Content
+contentAt k chars attrs valid a = record {
   code = shownCode (k .hidden) (getD chars a 0) (getD attrs a 0);
-  attributes = latched (countedByte k again (getD attrs a 0)) held;
+  attributes = valid;
   here = eqb a (k .cursor);
 }
+
+-- the same where the cell is fetched, and held is valid before it: nothing, in character mode
+abbrev pub fetchedContent : Reading → (chars attrs : List ℕ) → (held address : ℕ) → Content
+fetchedContent k chars attrs held a = contentAt k chars attrs (latched (getD attrs a 0) held) a
 
 -- what a scan line of a field makes of it
 unfoldable pub scanDots : Board → Font → (scan field : ℕ) → Content → List ℕ
@@ -70,6 +74,6 @@ scanDots b f scan field k =
     (wordOf f (k .code) scan)
     (b .page .video .dots .0)
 
--- the dots of the cell at an address, on a scan line of a field, at a column before which held is valid
-unfoldable pub dotsAt : Board → (chars attrs : List ℕ) → Font → (scan field : ℕ) → (again : Bool) → (held address : ℕ) → List ℕ
-dotsAt b chars attrs f scan field again held a = scanDots b f scan field (contentAt (readingOf (b .page)) chars attrs again held a)
+-- the dots of the cell at an address, on a scan line of a field, with the attributes that are valid there
+unfoldable pub dotsAt : Board → (chars attrs : List ℕ) → Font → (scan field valid address : ℕ) → List ℕ
+dotsAt b chars attrs f scan field valid a = scanDots b f scan field (contentAt (readingOf (b .page)) chars attrs valid a)
