@@ -36,7 +36,8 @@ use Rattle.records.specs.Folds.{startOf, visitOf, searchOf, mateStart, mateVisi
 use Rattle.columns.specs.Columns.{recordsOf}
 use Rattle.latch.specs.Held.{heldAt}
 use Rattle.shape.specs.declared.FontLine.{FontLine}
-use Rattle.shape.specs.Font.{Font, fontRefused, fontLineOf, wordBy}
+use Rattle.shape.specs.declared.FontLines.{FontLines}
+use Rattle.shape.specs.Font.{Font, fontRefused, fontLineOf, fontLinesOf, fontLineAt, wordBy}
 use Rattle.video.specs.declared.Scene.{Scene}
 use Rattle.video.specs.declared.Look.{Look}
 use Rattle.video.specs.declared.Reading.{Reading}
@@ -45,7 +46,8 @@ use Rattle.video.specs.Look.{lookOf}
 use Rattle.dots.specs.Stores.{spreadOf, wideOf, underOf, inkTable}
 use Rattle.dots.specs.Width.{cellPut, cellWritten, cellDrawn}
 use Rattle.tables.specs.Tables.{Gathers, looksPut, looksFilled, wordsFilled}
-use Rattle.line.specs.Line.{lineOver, DrawsLine}
+use Rattle.line.specs.Line.{scanFor, DrawsLine}
+use Rattle.line.specs.Walk.{shapedOver}
 use Rattle.picture.specs.Picture.{DrawsPicture}
 use Rattle.dots.specs.Half.{halved}
 use Rattle.video.specs.At.{lentRefused, scanOf, scanAt, readingOf, countedByte, shownCode}
@@ -161,6 +163,12 @@ held-at-one p chars attrs row column = only _
 pub font-line-one : (unshifted shifted : List ℕ) (scan : ℕ) → OneAnswer (λ r. r ≡ fontLineOf unshifted shifted scan)
 font-line-one unshifted shifted scan = only _
 
+pub font-lines-one : (unshifted shifted : List ℕ) → OneAnswer (λ r. r ≡ fontLinesOf unshifted shifted)
+font-lines-one unshifted shifted = only _
+
+pub font-line-at-one : (lines : FontLines) (scan : ℕ) → OneAnswer (λ r. r ≡ fontLineAt lines scan)
+font-line-at-one lines scan = only _
+
 pub font-refused-one : (f : Font) → OneAnswer (λ r. r ≡ fontRefused f)
 font-refused-one f = only _
 
@@ -237,13 +245,17 @@ looks-one s table = only _
 pub fill-looks-one : (b : Board) (field n : ℕ) (table : List ℕ) → OneAnswer (λ r. r ≡ looksFilled b field n table)
 fill-looks-one b field n table = only _
 
-pub fill-words-one : (f : Font) (n d : ℕ) (table : List ℕ) → OneAnswer (λ r. r ≡ wordsFilled f n d table)
-fill-words-one f n d table = only _
+pub fill-words-one : (words flags : List ℕ) (lines : FontLines) (n d : ℕ) (table : List ℕ) → OneAnswer (λ r. r ≡ wordsFilled words flags lines n d table)
+fill-words-one words flags lines n d table = only _
 
 -- ---- `line`
 
-pub whole-line-one : (b : Board) (chars attrs : List ℕ) (f : Font) (line field : ℕ) (out : List ℕ) → OneAnswer (λ r. r ≡ lineOver b chars attrs f line field out)
-whole-line-one b chars attrs f line field out = only _
+pub scan-for-one : (b : Board) (chars : List ℕ) (line : ℕ) → OneAnswer (λ r. r ≡ lines (scanFor b chars line))
+scan-for-one b chars line = only _
+
+pub whole-line-one : (b : Board) (chars attrs words flags : List ℕ) (font : FontLine) (line field : ℕ) (out : List ℕ)
+    → OneAnswer (λ r. r ≡ shapedOver b chars attrs (wordBy words flags font) line field out)
+whole-line-one b chars attrs words flags font line field out = only _
 
 -- the refusal and the buffer
 pub draw-line-one : (b : Board) (chars attrs : List ℕ) (f : Font) (line field : ℕ) (out : List ℕ) → OneAnswer (λ (r : Refusal × List ℕ). DrawsLine b chars attrs f line field out (r .0) (r .1))

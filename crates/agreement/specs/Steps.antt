@@ -29,13 +29,13 @@ use Rattle.fetch.specs.Feed.{feedIn, tallyIn}
 use Rattle.fetch.specs.Laws.{fed, tallied, cell-at-lt, row-start-lt}
 use Rattle.shape.specs.Font.{Font}
 use Rattle.video.specs.At.{lentRefused}
+use Rattle.video.specs.Lent.{Lent, lent}
 use Rattle.place.specs.declared.Carried.{Carried}
 use Rattle.place.specs.Place.{nextPlace, clockIn, lineIn, frameIn, rowAt, carriedBefore, placeAt}
 use Rattle.place.specs.Beam.{rasterOf, placeOf, carrierOf, rowsIn, next-beam, carried-beam, at-beam}
-use Rattle.step.specs.Step.{steppedOf, stepCheck, stepOf, Fit}
+use Rattle.step.specs.Step.{steppedOf, stepCheck, stepOf}
 use Rattle.board.specs.Parts.{withPlace}
 use Rattle.place.specs.State.{stateCheck, stateOf}
-use Rattle.step.specs.Laws.{fit}
 use Rattle.place.specs.Laws.{carried-all}
 use Rattle.place.specs.Settled.{at-settled}
 
@@ -106,8 +106,8 @@ after b chars attrs f zero = withPlace b clockZero
 after b chars attrs f (suc n) = stepOf (after b chars attrs f n) chars attrs f .board
 
 module _ (b : Board) (chars attrs : List ℕ) (f : Font) (ok : stepCheck b chars attrs f ≡ Done) where
-  pub fits : Fit b chars attrs f
-  fits = fit b chars attrs f ok
+  pub fits : Lent b chars attrs (f .words) (f .flags)
+  fits = lent b chars attrs f false false ok
 
   pub page-ok : pageCheck (b .page) ≡ Done
   page-ok = call-page b (lentRefused chars attrs f) false false ok

@@ -74,7 +74,7 @@ module _ (numbers chars attrs words flags unshifted shifted : List ℕ) (field :
   page = fits b chars attrs f step-ok .page
 
   roomy : pictureLength (b .page) ≤ length out₀
-  roomy = picture-passed b chars attrs f (length out₀) (taken .1) .roomy
+  roomy = picture-passed b chars attrs f (length out₀) (taken .1) .1
 
   pub pictured : pictureDrawn numbers chars attrs f field out₀ ≡ pictureDots b chars attrs f field ++ drop (pictureLength (b .page)) out₀
   unfolding pictureDrawn picturedOf

@@ -26,8 +26,6 @@ use Rattle.raster.specs.Latch.{latched, setsOf, lastSet, fetchedBy}
 use Rattle.board.specs.declared.Page.{Page}
 use Rattle.board.specs.declared.Board.{Board}
 use Rattle.board.specs.Modes.{fieldMode}
-use Rattle.board.specs.Range.{memoriesRefused}
-use Rattle.board.specs.Laws.{memories-all}
 use Rattle.timing.specs.declared.Timing.{Timing}
 use Rattle.timing.specs.Fields.{hactOf, rowsOf, linesOf, visibleOf, bufferOf, timingOf, countsOf}
 use Rattle.timing.specs.Check.{pageCheck, stateRefused, callCheck}
@@ -37,12 +35,12 @@ use Rattle.fetch.specs.Laws.{cell-shown, row-start-lt}
 use Rattle.latch.specs.Held.{heldAt, attributesAt}
 use Rattle.latch.specs.Laws.{held-along, held-plain, attributes-are}
 use Rattle.shape.specs.declared.FontLine.{FontLine}
-use Rattle.shape.specs.Font.{Font, Whole, fontRefused, fontLineIn, wordBy}
-use Rattle.shape.specs.Laws.{font-whole}
+use Rattle.shape.specs.Font.{Font, fontLineIn, wordBy, wordOf}
 use Rattle.video.specs.declared.Scene.{Scene}
 use Rattle.video.specs.declared.Reading.{Reading}
 use Rattle.video.specs.Scene.{sceneOf}
 use Rattle.video.specs.Cell.{columnOf}
+use Rattle.video.specs.Lent.{Lent, lent}
 use Rattle.video.specs.At.{Content, lentRefused, scanAt, readingOf, countedByte, contentAt, scanDots, dotsAt, fetchedContent}
 use Rattle.dots.specs.Stores.{wideOf}
 use Rattle.dots.specs.Width.{shades, length-shades}
@@ -50,7 +48,7 @@ use Rattle.dots.specs.Half.{shownOf, fetchedFor, cells-few, same-shown}
 use Rattle.tables.specs.Tables.{markOf, numberFor, heldBy, cellBy, levelsOf}
 use Rattle.tables.specs.Laws.{shown-lt, gathered, gathered-lt, looked-up, code-of, mark-of, by-word}
 use Rattle.line.specs.declared.Walk.{Walk}
-use Rattle.line.specs.Line.{rowFor, codeFor, scanFor, columnDots, lineDots, lineLength, drawCheck, drawnOf}
+use Rattle.line.specs.Line.{rowFor, codeFor, scanFor, columnDots, lineDots, lineLength, lineOver, drawCheck, drawnOf}
 
 unfoldable pub walkOf : Page → FontLine → Walk
 walkOf p line = record { line = line; width = p .video .dots }
@@ -123,29 +121,15 @@ module _ (b : Board) (size asked room : Bool) where
 
 -- ---- a call that is not refused
 
-pub record Drawn (b : Board) (chars attrs : List ℕ) (f : Font) (line room : ℕ) : Type 0 where
-  pub page : Accepted (b .page)
-  pub chars-all : length chars ≡ 16384
-  pub attrs-all : length attrs ≡ 16384
-  pub font : Whole f
-  pub row-lt : line / linesOf (b .page) < rowsOf (b .page)
-  pub roomy : lineLength b ≤ room
-
+-- a line that the check takes is visible, and there is room for it
 pub draw-passed : (b : Board) (chars attrs : List ℕ) (f : Font) (line room : ℕ) → drawCheck b (lentRefused chars attrs f) line room ≡ Done
-    → Drawn b chars attrs f line room
+    → Lent b chars attrs (f .words) (f .flags) × (rowFor b line < rowsOf (b .page)) × (lineLength b ≤ room)
 unfolding drawCheck
 draw-passed b chars attrs f line room e =
-    let k = call-passed b (lentRefused chars attrs f) (leb (visibleOf (b .page) .0) line) (ltb room (lineLength b)) e in
-    let s = neither (memoriesRefused (length chars) (length attrs)) (fontRefused f) (k .sized) in
-    let m = memories-all (length chars) (length attrs) (s .0) in
-    record {
-      page = k .page;
-      chars-all = m .0;
-      attrs-all = m .1;
-      font = font-whole f (s .1);
-      row-lt = row-shown (b .page) line (leb-false _ _ (k .in-reach));
-      roomy = ltb-false _ _ (k .roomy);
-    }
+    let asked = leb (visibleOf (b .page) .0) line in
+    let short = ltb room (lineLength b) in
+    let k = call-passed b (lentRefused chars attrs f) asked short e in
+    (lent b chars attrs f asked short e, row-shown (b .page) line (leb-false _ _ (k .in-reach)), ltb-false _ _ (k .roomy))
 
 -- what is valid before the cell that the row fetches after i others
 abbrev pub validBy : Page → (chars attrs : List ℕ) → (r i : ℕ) → ℕ
@@ -246,15 +230,38 @@ module _ (p : Page) (chars attrs : List ℕ) (r c : ℕ) (h : c < hactOf p) wher
 
 -- a column shows it
 pub column-content : (b : Board) (chars attrs : List ℕ) (f : Font) (line field c : ℕ) → c < hactOf (b .page)
-    → shownOf (isWide (codeFor b chars line)) (λ (i : ℕ). scanDots b f (scanFor b chars line) field (contentBy (b .page) chars attrs (rowFor b line) i)) c ≡ columnDots b chars attrs f line field c
+    → shownOf (isWide (codeFor b chars line)) (λ (i : ℕ). scanDots b (wordOf f (scanFor b chars line)) (scanFor b chars line) field (contentBy (b .page) chars attrs (rowFor b line) i)) c
+    ≡ columnDots b chars attrs f line field c
 unfolding columnDots dotsAt shownOf
 column-content b chars attrs f line field c h =
-    ap (λ (x : Content). columnOf (isWide (codeFor b chars line)) (eqb (c % 2) 1) (scanDots b f (scanFor b chars line) field x)) (sym (content-shown (b .page) chars attrs (rowFor b line) c h))
+    ap (λ (x : Content). columnOf (isWide (codeFor b chars line)) (eqb (c % 2) 1) (scanDots b (wordOf f (scanFor b chars line)) (scanFor b chars line) field x))
+    (sym (content-shown (b .page) chars attrs (rowFor b line) c h))
+
+-- the line of which the scan line shows these words of the codes, and a buffer that has it at its front
+unfoldable pub shapedLine : Board → (chars attrs : List ℕ) → (words : ℕ → ℕ) → (line field : ℕ) → List ℕ
+shapedLine b chars attrs words line field =
+    joined 0 (hactOf (b .page))
+    (shownOf (isWide (codeFor b chars line)) (λ i. scanDots b words (scanFor b chars line) field (contentBy (b .page) chars attrs (rowFor b line) i)))
+
+abbrev pub shapedOver : Board → (chars attrs : List ℕ) → (words : ℕ → ℕ) → (line field : ℕ) → (out : List ℕ) → List ℕ
+shapedOver b chars attrs words line field out = shapedLine b chars attrs words line field ++ drop (lineLength b) out
+
+-- of a font's words it is the line
+pub shaped : (b : Board) (chars attrs : List ℕ) (f : Font) (line field : ℕ)
+    → shapedLine b chars attrs (wordBy (f .words) (f .flags) (fontLineIn f (scanFor b chars line))) line field ≡ lineDots b chars attrs f line field
+unfolding shapedLine lineDots wordOf
+shaped b chars attrs f line field = same-joined 0 (hactOf (b .page)) _ _ (λ c l u. column-content b chars attrs f line field c (omega arith))
+
+-- so the scan line and what it takes from the font are enough
+pub as-line : (b : Board) (chars attrs : List ℕ) (f : Font) (line field : ℕ) (s : Lines) (font : FontLine) (out out₀ : List ℕ) → s ≡ lines (scanFor b chars line) → font ≡ fontLineIn f (s .0)
+    → out ≡ shapedOver b chars attrs (wordBy (f .words) (f .flags) font) line field out₀ → out ≡ lineOver b chars attrs f line field out₀
+as-line b chars attrs f line field s font out out₀ se fe e =
+    (rw (fe, se) at e) ∙ ap (λ (l : List ℕ). l ++ drop (lineLength b) out₀) (shaped b chars attrs f line field)
 
 -- what the drawer has before it goes along the line: how many columns, the line's constants, the row's cells, and the levels of the scan line's marks
-pub record Prepared (b : Board) (chars attrs : List ℕ) (f : Font) (line field n : ℕ) (w : Walk) (wide : Bool) (row looks : List ℕ) : Type 0 where
+pub record Prepared (b : Board) (chars attrs : List ℕ) (font : FontLine) (line field n : ℕ) (w : Walk) (wide : Bool) (row looks : List ℕ) : Type 0 where
   pub counted : n ≡ hactOf (b .page)
-  pub walked : w ≡ walkOf (b .page) (fontLineIn f (scanFor b chars line))
+  pub walked : w ≡ walkOf (b .page) font
   pub widened : wide ≡ isWide (codeFor b chars line)
   pub beyond : List ℕ
   pub row-is : row
@@ -264,30 +271,33 @@ pub record Prepared (b : Board) (chars attrs : List ℕ) (f : Font) (line field 
   pub looks-is : looks ≡ tab 128 (levelsOf (sceneOf b (scanFor b chars line) field)) ++ above
 
 -- the same in the words of the calls that made it
-pub prepared-of : (b : Board) (chars attrs : List ℕ) (f : Font) (line field : ℕ) {row looks : List ℕ} (beyond above : List ℕ) {t : Timing} {r byte n : ℕ} {k : Code} {wide : Bool} {s : Lines} {w : Walk} {start : Cell} {v : ℕ} {g : Reading} {u : Buffer} {scene : Scene}
-    → t ≡ timingOf (b .page) → r ≡ rowFor b line → byte ≡ codeAt (b .page) chars r → k ≡ codeOf byte → s ≡ lines (scanAt (b .page) k line)
-    → w ≡ walkOf (b .page) (fontLineIn f (s .0))
+pub prepared-of : (b : Board) (chars attrs : List ℕ) (font : FontLine) (line field : ℕ) {row looks : List ℕ} (beyond above : List ℕ) {t : Timing} {r byte n : ℕ} {k : Code} {wide : Bool} {s : Lines} {w : Walk} {start : Cell} {v : ℕ} {g : Reading} {u : Buffer} {scene : Scene}
+    → t ≡ timingOf (b .page) → r ≡ rowFor b line → byte ≡ codeAt (b .page) chars r → k ≡ codeOf byte → s ≡ lines (scanFor b chars line)
+    → w ≡ walkOf (b .page) font
     → Accepted (b .page) → start ≡ cell (rowStart (b .page) chars r) → v ≡ heldFor (b .page) chars attrs r (start .address) → n ≡ fetchedOf (b .page) chars r → g ≡ readingOf (b .page) → u ≡ bufferOf (b .page)
     → row ≡ tab n (cellBy g chars attrs u v (start .address)) ++ beyond → scene ≡ sceneOf b (s .0) field → looks ≡ tab 128 (levelsOf scene) ++ above → wide ≡ isWide k
-    → Prepared b chars attrs f line field (t .counts .hact .0) w wide row looks
+    → Prepared b chars attrs font line field (t .counts .hact .0) w wide row looks
 unfolding timingOf countsOf fetchedOf
-prepared-of b chars attrs f line field beyond above te re be ke se we page starts helds ne ge ue row-e scene-e looks-e wide-e = record {
+prepared-of b chars attrs font line field beyond above te re be ke se we page starts helds ne ge ue row-e scene-e looks-e wide-e = record {
   counted = rw te;
-  walked = rw (se, ke, be, re) at we;
+  walked = we;
   widened = rw (wide-e, ke, be, re);
   beyond = beyond;
   row-is = rw (te, wide-e, ke, be, re) ((rw (helds, starts, ge, ue, ne, re) at row-e) ∙ ap (λ (l : List ℕ). l ++ beyond) (held-counts (b .page) chars attrs (rowFor b line) page _));
   above = above;
-  looks-is = rw (scene-e, se, ke, be, re) at looks-e;
+  looks-is = rw (scene-e, se) at looks-e;
 }
 
-module _ (b : Board) (chars attrs : List ℕ) (f : Font) (line field n : ℕ) (w : Walk) (wide : Bool) (row looks : List ℕ) (q : Prepared b chars attrs f line field n w wide row looks)
+module _ (b : Board) (chars attrs words flags : List ℕ) (font : FontLine) (line field n : ℕ) (w : Walk) (wide : Bool) (row looks : List ℕ) (q : Prepared b chars attrs font line field n w wide row looks)
     (bytes : (i : ℕ) → getD chars i 0 < 256) where
   abbrev scan : ℕ
   scan = scanFor b chars line
 
   abbrev content : ℕ → Content
   content i = contentBy (b .page) chars attrs (rowFor b line) i
+
+  abbrev cellOf : ℕ → List ℕ
+  cellOf i = scanDots b (wordBy words flags font) scan field (content i)
 
   numbered : (i : ℕ) → i < fetchedFor wide n → getD row i 0 ≡ numberFor (content i)
   unfolding fetchAt
@@ -296,38 +306,35 @@ module _ (b : Board) (chars attrs : List ℕ) (f : Font) (line field n : ℕ) (w
   byte-code : (i : ℕ) → content i .code < 256
   byte-code i = shown-lt (readingOf (b .page)) chars attrs (validBy (b .page) chars attrs (rowFor b line) i) (fetchAt (b .page) chars (rowFor b line) i) bytes
 
-  same-cell : Accepted (b .page) → (i : ℕ) → i < fetchedFor wide n → columnFor w row looks (f .words) (f .flags) i ≡ scanDots b f scan field (content i)
+  same-cell : Accepted (b .page) → (i : ℕ) → i < fetchedFor wide n → columnFor w row looks words flags i ≡ cellOf i
   unfolding columnFor dotsFor walkOf
   same-cell a i h =
       rw (q .walked, numbered i h, code-of (content i) (byte-code i), mark-of (content i) (byte-code i))
-      (by-word b f scan field a (content i) (getD looks (markOf (content i .attributes) (content i .here)) 0)
+      (by-word b words flags font scan field a (content i) (getD looks (markOf (content i .attributes) (content i .here)) 0)
       (looked-up (sceneOf b scan field) (content i .attributes) (content i .here) looks (q .above) (q .looks-is)))
 
-  same-column : Accepted (b .page) → (c : ℕ) → c < n → shownOf wide (columnFor w row looks (f .words) (f .flags)) c ≡ columnDots b chars attrs f line field c
-  same-column a c h =
-      same-shown wide _ _ n (same-cell a) c h
-      ∙ ap (λ (t : Bool). shownOf t (λ (i : ℕ). scanDots b f scan field (content i)) c) (q .widened)
-      ∙ column-content b chars attrs f line field c (omega (arith, q .counted))
+  same-column : Accepted (b .page) → (c : ℕ) → c < n → shownOf wide (columnFor w row looks words flags) c ≡ shownOf (isWide (codeFor b chars line)) cellOf c
+  same-column a c h = same-shown wide _ _ n (same-cell a) c h ∙ ap (λ (t : Bool). shownOf t cellOf c) (q .widened)
 
-  pub ready : {room : ℕ} → Drawn b chars attrs f line room → n ≤ length row → length looks ≡ 128
-      → Ready w row looks (f .words) (f .flags) (fetchedFor wide n) × (n * w .width .0 ≤ room)
+  pub ready : Lent b chars attrs words flags → {room : ℕ} → lineLength b ≤ room → n ≤ length row → length looks ≡ 128
+      → Ready w row looks words flags (fetchedFor wide n) × (n * w .width .0 ≤ room)
   unfolding walkOf
-  ready k l all = (
+  ready k roomy l all = (
     record {
       least = rw (q .walked) (k .page .least);
       most = rw (q .walked) (k .page .most);
       few = omega (arith, l, cells-few wide n);
       marked = gathered-lt (readingOf (b .page)) chars attrs _ _ _ (fetchedFor wide n) row (q .beyond) (q .row-is) bytes;
       looks-all = all;
-      words-all = k .font .words-all;
-      flags-all = k .font .flags-all;
+      words-all = k .words-all;
+      flags-all = k .flags-all;
     },
-    rw (q .walked, q .counted) (k .roomy),
+    rw (q .walked, q .counted) roomy,
   )
 
-  pub drawn : Accepted (b .page) → (out out₀ : List ℕ) → out ≡ joined 0 n (shownOf wide (columnFor w row looks (f .words) (f .flags))) ++ drop (n * w .width .0) out₀
-      → out ≡ lineDots b chars attrs f line field ++ drop (lineLength b) out₀
-  unfolding walkOf lineDots
+  pub drawn : Accepted (b .page) → (out out₀ : List ℕ) → out ≡ joined 0 n (shownOf wide (columnFor w row looks words flags)) ++ drop (n * w .width .0) out₀
+      → out ≡ shapedOver b chars attrs (wordBy words flags font) line field out₀
+  unfolding walkOf shapedLine
   drawn a out out₀ e =
       e
       ∙ ap (λ (l : List ℕ). l ++ drop (n * w .width .0) out₀) (same-joined 0 n _ _ (λ c l u. same-column a c (omega arith)))

@@ -4,13 +4,15 @@ ghost use mathlib.Core.List.{_++_};
 ghost use Prim.Native.Nat.{_*_, _≤_, _<_};
 ghost use lib.ListN.{length, drop};
 ghost use Rattle.lists.specs.Join.{joined};
-ghost use Rattle.shape.specs.Font.{fontNow, lentFont};
+ghost use Rattle.units.specs.Units.{lines};
+ghost use Rattle.shape.specs.Font.{lentFont, wordBy};
 ghost use lib.Dec.{ltb, leb};
-ghost use Rattle.timing.specs.Fields.{hactOf, visibleOf};
+ghost use Rattle.timing.specs.Fields.{hactOf, rowsOf, visibleOf};
 ghost use Rattle.timing.specs.Laws.{Accepted};
 ghost use Rattle.dots.specs.Half.{shownOf, fetchedFor};
-ghost use Rattle.line.specs.Line.{drawCheck, lineOver, DrawsLine};
-ghost use Rattle.line.specs.Walk.{lastOf, walkOf, heldFor, dotsFor, columnFor, Ready, Drawn};
+ghost use Rattle.video.specs.Lent.{Lent};
+ghost use Rattle.line.specs.Line.{rowFor, scanFor, lineLength, drawCheck, DrawsLine};
+ghost use Rattle.line.specs.Walk.{lastOf, walkOf, heldFor, dotsFor, columnFor, shapedOver, Ready};
 
 // What is the same for all cells of a line: what its scan line takes from the font, and the width of a cell.
 pub struct Walk {
@@ -122,7 +124,18 @@ fn draw_check(b: board::Board, size: bool, line: units::Lines, room: usize) -> r
     refused
 }
 
-// A line that nothing refuses.
+// The scan line that a visible line shows.
+pub fn scan_for(b: board::Board, chars: &[u8], line: units::Lines) -> units::Lines
+    requires { ⌜ (length (now chars) ≡ 16384) × (rowFor b (line .0) < rowsOf (b .page)) ⌝ }
+    ensures { λ r. ⌜ r ≡ lines (scanFor b (now (chars .entry)) (line .0)) ⌝ }
+{
+    let page = b.page;
+    let row = timing::row_of(page, line);
+    let code = raster::code_of(fetch::code_at(page, chars, row));
+    video::scan_at(page, code, line)
+}
+
+// A line that nothing refuses, from its scan line and what that takes from the font.
 pub fn whole_line(
     out: &mut [u8],
     b: board::Board,
@@ -130,21 +143,22 @@ pub fn whole_line(
     attrs: &[u8],
     words: &[u16],
     flags: &[u8],
-    unshifted: &[u8],
-    shifted: &[u8],
+    font: shape::FontLine,
+    scan: units::Lines,
     line: units::Lines,
     field: u8,
 )
-    requires { ⌜ Drawn b (now chars) (now attrs) (fontNow words flags unshifted shifted) (line .0) (length (now out)) ⌝ }
-    ensures { λ _. ⌜ now (out .exit) ≡ lineOver b (now (chars .entry)) (now (attrs .entry)) (lentFont words flags unshifted shifted)
+    requires { ⌜ Lent b (now chars) (now attrs) (now words) (now flags) ⌝ }
+    requires { ⌜ (scan ≡ lines (scanFor b (now chars) (line .0))) × (rowFor b (line .0) < rowsOf (b .page)) × (lineLength b ≤ length (now out)) ⌝ }
+    ensures { λ _. ⌜ now (out .exit)
+        ≡ shapedOver b (now (chars .entry)) (now (attrs .entry)) (wordBy (now (words .entry)) (now (flags .entry)) font)
         (line .0) field (now (out .entry)) ⌝ }
 {
     let page = b.page;
     let t = timing::timing_of(page);
     let row = timing::row_of(page, line);
     let code = raster::code_of(fetch::code_at(page, chars, row));
-    let scan = video::scan_at(page, code, line);
-    let w = walk_of(page, shape::font_line(unshifted, shifted, scan));
+    let w = walk_of(page, font);
     let start = fetch::row_start(page, chars, row);
     let held = held_for(page, chars, attrs, row, start);
     let n = fetch::fetched_of(page, chars, row);
@@ -193,18 +207,9 @@ pub fn draw_line(
     let size = video::lent_refused(chars, attrs, words, flags, unshifted, shifted);
     let refused = draw_check(b, size, line, out.len());
     if refusal::is_done(refused) {
-        whole_line(
-            out,
-            b,
-            chars,
-            attrs,
-            words,
-            flags,
-            unshifted,
-            shifted,
-            line,
-            field,
-        );
+        let scan = scan_for(b, chars, line);
+        let font = shape::font_line(unshifted, shifted, scan);
+        whole_line(out, b, chars, attrs, words, flags, font, scan, line, field);
     }
     refused
 }

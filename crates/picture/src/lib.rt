@@ -6,16 +6,17 @@ ghost use Prim.Native.Nat.{ℕ, _*_, _≤_, _<_};
 ghost use lib.Dec.{ltb};
 ghost use lib.ListN.{length, getD, drop};
 ghost use Rattle.lists.specs.Join.{joined};
-ghost use Rattle.shape.specs.Font.{fontNow, lentFont};
+ghost use Rattle.shape.specs.Font.{lentFont};
 ghost use Rattle.timing.specs.Laws.{Accepted};
 ghost use Rattle.raster.specs.Wide.{isWide};
+ghost use Rattle.video.specs.Lent.{Lent};
 ghost use Rattle.dots.specs.Stores.{reachOf};
 ghost use Rattle.dots.specs.Half.{shownOf, fetchedFor};
 ghost use Rattle.tables.specs.Tables.{heldBy};
 ghost use Rattle.line.specs.Walk.{lastOf};
-ghost use Rattle.picture.specs.Picture.{pictureCheck, pictureLength, pictureOver, DrawsPicture};
+ghost use Rattle.picture.specs.Picture.{pictureCheck, pictureLength, DrawsPicture};
 ghost use Rattle.picture.specs.Plan.{planOf, cellDotsOf, cellFrom, lineFrom, rowFrom, rowDrawn, TablesFit, Numbered};
-ghost use Rattle.picture.specs.Agree.{Pictured};
+ghost use Rattle.picture.specs.Agree.{shapedOver};
 
 // What is the same for all rows: columns, dots a cell, lines a row, its scan lines, rows, the bytes of a line and of a row, the buffer, how cells are read.
 pub struct Plan {
@@ -281,13 +282,13 @@ fn by_rows(
     attrs: &[u8],
     words: &[u16],
     flags: &[u8],
-    unshifted: &[u8],
-    shifted: &[u8],
+    lines: shape::FontLines,
     field: u8,
     p: Plan,
 )
-    requires { ⌜ Pictured b (now chars) (now attrs) (fontNow words flags unshifted shifted) (length (now out)) × (p ≡ planOf (b .page)) ⌝ }
-    ensures { λ _. ⌜ now (out .exit) ≡ pictureOver b (now (chars .entry)) (now (attrs .entry)) (lentFont words flags unshifted shifted)
+    requires { ⌜ Lent b (now chars) (now attrs) (now words) (now flags) ⌝ }
+    requires { ⌜ (pictureLength (b .page) ≤ length (now out)) × (p ≡ planOf (b .page)) ⌝ }
+    ensures { λ _. ⌜ now (out .exit) ≡ shapedOver b (now (chars .entry)) (now (attrs .entry)) (now (words .entry)) (now (flags .entry)) lines
         field (now (out .entry)) ⌝ }
 {
     let page = b.page;
@@ -296,7 +297,7 @@ fn by_rows(
     let mut shown = [0u16; 4096];
     let mut looks = [0u8; 2048];
     let mut inks = [0u64; 288];
-    tables::fill_words(&mut shown, words, flags, unshifted, shifted, scans, d);
+    tables::fill_words(&mut shown, words, flags, lines, scans, d);
     tables::fill_looks(&mut looks, b, field, scans);
     dots::inks(&mut inks);
     draw_rows(out, p, page, chars, attrs, &shown, &looks, &inks);
@@ -310,13 +311,13 @@ fn by_lines(
     attrs: &[u8],
     words: &[u16],
     flags: &[u8],
-    unshifted: &[u8],
-    shifted: &[u8],
+    lines: shape::FontLines,
     field: u8,
     p: Plan,
 )
-    requires { ⌜ Pictured b (now chars) (now attrs) (fontNow words flags unshifted shifted) (length (now out)) × (p ≡ planOf (b .page)) ⌝ }
-    ensures { λ _. ⌜ now (out .exit) ≡ pictureOver b (now (chars .entry)) (now (attrs .entry)) (lentFont words flags unshifted shifted)
+    requires { ⌜ Lent b (now chars) (now attrs) (now words) (now flags) ⌝ }
+    requires { ⌜ (pictureLength (b .page) ≤ length (now out)) × (p ≡ planOf (b .page)) ⌝ }
+    ensures { λ _. ⌜ now (out .exit) ≡ shapedOver b (now (chars .entry)) (now (attrs .entry)) (now (words .entry)) (now (flags .entry)) lines
         field (now (out .entry)) ⌝ }
 {
     let n = p.lines.times(p.rows).places();
@@ -324,6 +325,9 @@ fn by_lines(
     let mut l: usize = 0;
     while l < n {
         let a = l * width;
+        let at = units::Lines(l as u32);
+        let scan = line::scan_for(b, chars, at);
+        let font = shape::font_line_at(lines, scan);
         line::whole_line(
             &mut out[a..],
             b,
@@ -331,9 +335,9 @@ fn by_lines(
             attrs,
             words,
             flags,
-            unshifted,
-            shifted,
-            units::Lines(l as u32),
+            font,
+            scan,
+            at,
             field,
         );
         l += 1;
@@ -348,41 +352,18 @@ fn whole_picture(
     attrs: &[u8],
     words: &[u16],
     flags: &[u8],
-    unshifted: &[u8],
-    shifted: &[u8],
+    lines: shape::FontLines,
     field: u8,
 )
-    requires { ⌜ Pictured b (now chars) (now attrs) (fontNow words flags unshifted shifted) (length (now out)) ⌝ }
-    ensures { λ _. ⌜ now (out .exit) ≡ pictureOver b (now (chars .entry)) (now (attrs .entry)) (lentFont words flags unshifted shifted)
+    requires { ⌜ Lent b (now chars) (now attrs) (now words) (now flags) × (pictureLength (b .page) ≤ length (now out)) ⌝ }
+    ensures { λ _. ⌜ now (out .exit) ≡ shapedOver b (now (chars .entry)) (now (attrs .entry)) (now (words .entry)) (now (flags .entry)) lines
         field (now (out .entry)) ⌝ }
 {
     let p = plan_of(b.page);
     if p.columns.times(p.rows).cells() < 256 {
-        by_lines(
-            out,
-            b,
-            chars,
-            attrs,
-            words,
-            flags,
-            unshifted,
-            shifted,
-            field,
-            p,
-        );
+        by_lines(out, b, chars, attrs, words, flags, lines, field, p);
     } else {
-        by_rows(
-            out,
-            b,
-            chars,
-            attrs,
-            words,
-            flags,
-            unshifted,
-            shifted,
-            field,
-            p,
-        );
+        by_rows(out, b, chars, attrs, words, flags, lines, field, p);
     }
 }
 
@@ -404,17 +385,8 @@ pub fn draw_picture(
     let size = video::lent_refused(chars, attrs, words, flags, unshifted, shifted);
     let refused = picture_check(b, size, out.len());
     if refusal::is_done(refused) {
-        whole_picture(
-            out,
-            b,
-            chars,
-            attrs,
-            words,
-            flags,
-            unshifted,
-            shifted,
-            field,
-        );
+        let lines = shape::font_lines(unshifted, shifted);
+        whole_picture(out, b, chars, attrs, words, flags, lines, field);
     }
     refused
 }

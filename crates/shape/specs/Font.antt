@@ -8,7 +8,9 @@ use lib.Dec.{eqb, ltb}
 use denote.Ref.{RefT, now}
 use denote.Triple.Both.{Both}
 use Rattle.lists.specs.Choice.{pick}
+use Rattle.lists.specs.Tab.{tab}
 use Rattle.shape.specs.declared.FontLine.{FontLine}
+use Rattle.shape.specs.declared.FontLines.{FontLines}
 
 -- 128 characters by nine words, a shift flag for each character, and two lists of nine line numbers
 pub record Font : Type 0 where
@@ -56,6 +58,13 @@ fontLineOf unshifted shifted scan = record { unshifted = positionOf unshifted sc
 abbrev pub fontLineIn : Font → (scan : ℕ) → FontLine
 fontLineIn f scan = fontLineOf (f .unshifted) (f .shifted) scan
 
+-- the same for each of the sixteen scan lines, and one of them
+unfoldable pub fontLinesOf : (unshifted shifted : List ℕ) → FontLines
+fontLinesOf unshifted shifted = record { unshifted = tab 16 (positionOf unshifted); shifted = tab 16 (positionOf shifted) }
+
+unfoldable pub fontLineAt : FontLines → (scan : ℕ) → FontLine
+fontLineAt lines scan = record { unshifted = getD (lines .unshifted) scan 0; shifted = getD (lines .shifted) scan 0 }
+
 -- a shift flag that is not 0 is shifted, and chooses the shifted list
 abbrev pub chosenBy : (flag : ℕ) → FontLine → ℕ
 chosenBy flag line = pick (eqb flag 0) (line .unshifted) (line .shifted)
@@ -72,6 +81,6 @@ wordBy words flags line code =
     pick (ltb code 128) 0 (fontWord words (code % 128) (chosenBy (getD flags (code % 128) 0) line))
 
 -- [dots shape]
--- the word that a code shows on a scan line
-unfoldable pub wordOf : Font → (code scan : ℕ) → ℕ
-wordOf f code scan = wordBy (f .words) (f .flags) (fontLineIn f scan) code
+-- the word that a scan line shows of a code
+unfoldable pub wordOf : Font → (scan code : ℕ) → ℕ
+wordOf f scan code = wordBy (f .words) (f .flags) (fontLineIn f scan) code

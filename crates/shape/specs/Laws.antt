@@ -8,8 +8,9 @@ use borrow.Author.Tests.{eqb-true, not-false}
 use lib.ListN.{length, getD}
 use lib.Dec.{eqb, ltb}
 use Rattle.lists.specs.Choice.{neither, pick-lt}
+use Rattle.lists.specs.Tab.{getD-tab}
 use Rattle.shape.specs.declared.FontLine.{FontLine}
-use Rattle.shape.specs.Font.{Font, Whole, fontRefused, fontLineIn, chosenBy, fontWord, wordBy, wordOf}
+use Rattle.shape.specs.Font.{Font, Whole, fontRefused, positionOf, fontLineOf, fontLineIn, fontLinesOf, fontLineAt, chosenBy, fontWord, wordBy, wordOf}
 
 pub font-whole : (f : Font) → fontRefused f ≡ false → Whole f
 font-whole f e =
@@ -36,6 +37,11 @@ by-small words flags line code =
     pick-lt 1024 (ltb code 128) 0 _ (omega arith)
     (word-small words (code % 128) (chosenBy (getD flags (code % 128) 0) line))
 
-pub word-of-small : (f : Font) (code scan : ℕ) → wordOf f code scan < 1024
+pub word-of-small : (f : Font) (scan code : ℕ) → wordOf f scan code < 1024
 unfolding wordOf
-word-of-small f code scan = by-small (f .words) (f .flags) (fontLineIn f scan) code
+word-of-small f scan code = by-small (f .words) (f .flags) (fontLineIn f scan) code
+
+-- one line of the sixteen is that line
+pub line-at : (unshifted shifted : List ℕ) (scan : ℕ) → scan < 16 → fontLineAt (fontLinesOf unshifted shifted) scan ≡ fontLineOf unshifted shifted scan
+unfolding fontLineAt fontLinesOf fontLineOf
+line-at unshifted shifted scan h = rw (getD-tab 16 (positionOf unshifted) scan h, getD-tab 16 (positionOf shifted) scan h)

@@ -2,12 +2,19 @@
 ghost use mathlib.Core.Path.{_≡_};
 ghost use Prim.Native.Nat.{_<_};
 ghost use lib.ListN.{length};
-ghost use Rattle.shape.specs.Font.{fontRefused, positionOf, fontLineOf, chosenBy, fontWord, wordBy, lentFont};
+ghost use Rattle.lists.specs.Tab.{tab};
+ghost use Rattle.shape.specs.Font.{fontRefused, positionOf, fontLineOf, fontLinesOf, fontLineAt, chosenBy, fontWord, wordBy, lentFont};
 
 // What a scan line takes from a font: the first position in each of its two lists that equals the scan line, or the list's length.
 pub struct FontLine {
     pub unshifted: usize,
     pub shifted: usize,
+}
+
+// The same for each of the sixteen scan lines.
+pub struct FontLines {
+    pub unshifted: [usize; 16],
+    pub shifted: [usize; 16],
 }
 
 // The first position in a list of line numbers that equals the scan line, or the list's length. Four bits of a line number count.
@@ -31,6 +38,40 @@ pub fn font_line(unshifted: &[u8], shifted: &[u8], scan: units::Lines) -> FontLi
     FontLine {
         unshifted: position(unshifted, scan),
         shifted: position(shifted, scan),
+    }
+}
+
+// The positions of all scan lines in a list.
+fn positions(list: &[u8]) -> [usize; 16]
+    ensures { λ r. ⌜ r ≡ tab 16 (positionOf (now (list .entry))) ⌝ }
+{
+    let mut places = [0usize; 16];
+    let mut s: usize = 0;
+    while s < 16 {
+        places[s] = position(list, units::Lines(s as u32));
+        s += 1;
+    }
+    places
+}
+
+pub fn font_lines(unshifted: &[u8], shifted: &[u8]) -> FontLines
+    ensures { λ r. ⌜ r ≡ fontLinesOf (now (unshifted .entry)) (now (shifted .entry)) ⌝ }
+{
+    FontLines {
+        unshifted: positions(unshifted),
+        shifted: positions(shifted),
+    }
+}
+
+// One of them.
+pub fn font_line_at(lines: FontLines, scan: units::Lines) -> FontLine
+    requires { ⌜ scan .0 < 16 ⌝ }
+    ensures { λ r. ⌜ r ≡ fontLineAt lines (scan .0) ⌝ }
+{
+    let s = scan.places();
+    FontLine {
+        unshifted: lines.unshifted[s],
+        shifted: lines.shifted[s],
     }
 }
 

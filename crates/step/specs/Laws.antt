@@ -7,7 +7,7 @@ use native.Mathlib.Nat.{sub-zero, not-suc-le-zero, le-of-suc-le-suc, suc-sub-suc
 use native.Mathlib.Omega.{arith}
 use lib.Dec.{eqb}
 use lib.ListN.{length, replicate, drop, length-map}
-use Rattle.lists.specs.Choice.{pick, neither}
+use Rattle.lists.specs.Choice.{pick}
 use Rattle.lists.specs.Tab.{tab}
 use Rattle.refusal.specs.declared.Refusal.{Refusal}
 use Rattle.refusal.specs.declared.Refusal.the-variants.{Done, Size, Range}
@@ -15,18 +15,17 @@ use Rattle.refusal.specs.Number.{doneOf}
 use Rattle.raster.specs.Wide.{codeOf, isWide}
 use Rattle.board.specs.declared.Place.{Place}
 use Rattle.board.specs.declared.Board.{Board}
-use Rattle.board.specs.Range.{memoriesRefused}
-use Rattle.board.specs.Laws.{memories-all}
 use Rattle.timing.specs.Check.{pageCheck, stateRefused, callCheck}
-use Rattle.timing.specs.Laws.{InRange, call-passed, ht-bound, vt-bound}
-use Rattle.shape.specs.Font.{Font, fontRefused, fontLineIn, wordOf}
-use Rattle.shape.specs.Laws.{font-whole, by-small}
+use Rattle.timing.specs.Laws.{Accepted, InRange, ht-bound, vt-bound}
+use Rattle.shape.specs.declared.FontLine.{FontLine}
+use Rattle.shape.specs.Font.{Font, wordOf}
+use Rattle.shape.specs.Laws.{by-small}
 use Rattle.video.specs.declared.Look.{Look}
 use Rattle.video.specs.Scene.{sceneOf, cursorAt}
 use Rattle.video.specs.Look.{blankLook}
 use Rattle.video.specs.Cell.{shadeOf, litBits, cellDots, columnOf}
 use Rattle.video.specs.Twice.{column-plain}
-use Rattle.video.specs.At.{lentRefused, scanDots, dotsAt}
+use Rattle.video.specs.At.{scanDots, dotsAt}
 use Rattle.dots.specs.Half.{halfBy, half-column}
 use Rattle.dots.specs.Width.{length-cell}
 use Rattle.place.specs.declared.Carried.{Carried}
@@ -38,8 +37,8 @@ use Rattle.step.specs.declared.Stepped.{Stepped}
 use Rattle.step.specs.declared.Clock.{Clock}
 use Rattle.step.specs.declared.Shown.{Shown}
 use Rattle.step.specs.Signals.{scanIn, oddIn, signalsOf, padded, validIn, clockDots}
-use Rattle.step.specs.Shown.{signalsWith, cellShown, blankShown, shownIn}
-use Rattle.step.specs.Step.{steppedOf, stepCheck, noSignals, stepRefused, stepOf, clockIn, Fit}
+use Rattle.step.specs.Shown.{signalsWith, cellShown, blankShown, lineIn, shownIn, dotsShown, clockWith}
+use Rattle.step.specs.Step.{addressOf, heldOf, codeIn, steppedOf, stepCheck, noSignals, stepRefused, stepOf, clockIn}
 
 -- ---- dots
 
@@ -84,51 +83,57 @@ column-not-wide odd k w d most cell e = over-zeros d cell (cellDots k w d) most 
 
 -- ---- what a clock shows
 
-module _ (b : Board) (chars attrs : List ℕ) (f : Font) (row held a : ℕ) where
-  pub shown-small : shownIn b chars attrs f row held a .word < 1024
+module _ (b : Board) (chars attrs words flags : List ℕ) (line : FontLine) (row held a : ℕ) where
+  pub shown-small : shownIn b chars attrs words flags line row held a .word < 1024
   unfolding shownIn cellShown blankShown
   shown-small = go (activeAt (b .page) (b .place))
     where
-      go : (t : Bool) → (pick t (cellShown b chars attrs (f .words) (f .flags) (fontLineIn f (scanIn b row)) row held a) (blankShown b)) .word < 1024
-      go true = by-small (f .words) (f .flags) (fontLineIn f (scanIn b row)) _
+      go : (t : Bool) → (pick t (cellShown b chars attrs words flags line row held a) (blankShown b)) .word < 1024
+      go true = by-small words flags line _
       go false = omega arith
 
-  shown-cursor : shownIn b chars attrs f row held a .cursor ≡ (activeAt (b .page) (b .place) && cursorAt (sceneOf b (scanIn b row) (b .place .field)) a)
+  shown-cursor : shownIn b chars attrs words flags line row held a .cursor ≡ (activeAt (b .page) (b .place) && cursorAt (sceneOf b (scanIn b row) (b .place .field)) a)
   unfolding shownIn cellShown blankShown
   shown-cursor = go (activeAt (b .page) (b .place))
     where
-      go : (t : Bool) → (pick t (cellShown b chars attrs (f .words) (f .flags) (fontLineIn f (scanIn b row)) row held a) (blankShown b)) .cursor ≡ (t && cursorAt (sceneOf b (scanIn b row) (b .place .field)) a)
+      go : (t : Bool) → (pick t (cellShown b chars attrs words flags line row held a) (blankShown b)) .cursor ≡ (t && cursorAt (sceneOf b (scanIn b row) (b .place .field)) a)
       go true = refl
       go false = refl
 
   -- its CURSOR makes the signals
-  signals-shown : signalsWith b (shownIn b chars attrs f row held a .cursor) ≡ signalsOf b row a
+  signals-shown : signalsWith b (shownIn b chars attrs words flags line row held a .cursor) ≡ signalsOf b row a
   unfolding signalsWith signalsOf
   signals-shown = ap (signalsWith b) shown-cursor
 
-  -- its look and word make the dots
-  dots-shown : b .page .video .dots .0 ≤ 12
-      → padded
-      (columnOf (activeAt (b .page) (b .place) && isWide (codeOf row)) (oddIn b)
-      (cellDots (shownIn b chars attrs f row held a .look) (shownIn b chars attrs f row held a .word) (b .page .video .dots .0)))
-      (b .page .video .dots .0)
-      ≡ clockDots b chars attrs f row held a
-  unfolding shownIn cellShown blankShown clockDots dotsAt scanDots sceneOf wordOf
-  dots-shown most = ap (λ (l : List ℕ). padded l d) (go (activeAt (b .page) (b .place)))
-    where
-      d : ℕ
-      d = b .page .video .dots .0
+-- the parts of a clock put together
+pub clock-parts : (b : Board) (chars attrs words flags : List ℕ) (line : FontLine) (c : Carried) → c ≡ loadedIn (b .page) chars (b .place)
+    → (q : Place) → q ≡ turnedIn (b .page) (b .place) (movedIn (b .page) attrs (b .place) c)
+    → (s : Shown) → s ≡ shownIn b chars attrs words flags line (c .beam .code) (c .beam .latch) (c .beam .address)
+    → (g : Signals) → g ≡ signalsWith b (s .cursor) → (d : List ℕ) → d ≡ dotsShown b (c .beam .code) s
+    → _≡_ {A = Clock} (record { refusal = Done; signals = g; address = c .beam .address; dots = d; place = q }) (clockWith b chars attrs words flags line)
+unfolding clockWith
+clock-parts b chars attrs words flags line c ec q eq s es g eg d ed = rw (eq, eg, ed, es, ec)
 
-      x : ℕ
-      x = sceneOf b 0 (b .place .field) .blank
+-- its look and word make the dots
+dots-shown : (b : Board) (chars attrs : List ℕ) (f : Font) (row held a : ℕ) → b .page .video .dots .0 ≤ 12
+    → dotsShown b row (shownIn b chars attrs (f .words) (f .flags) (lineIn b (activeAt (b .page) (b .place)) row (f .unshifted) (f .shifted)) row held a)
+    ≡ clockDots b chars attrs f row held a
+unfolding shownIn cellShown blankShown lineIn clockDots dotsAt scanDots sceneOf wordOf
+dots-shown b chars attrs f row held a most = ap (λ (l : List ℕ). padded l d) (go (activeAt (b .page) (b .place)))
+  where
+    d : ℕ
+    d = b .page .video .dots .0
 
-      s : Bool → Shown
-      s t = pick t (cellShown b chars attrs (f .words) (f .flags) (fontLineIn f (scanIn b row)) row held a) (blankShown b)
+    x : ℕ
+    x = sceneOf b 0 (b .place .field) .blank
 
-      go : (t : Bool) → columnOf (t && isWide (codeOf row)) (oddIn b) (cellDots (s t .look) (s t .word) d)
-          ≡ pick t (columnOf (isWide (codeOf row)) (oddIn b) (dotsAt b chars attrs f (scanIn b row) (b .place .field) (validIn b attrs row held a) a)) (replicate d x)
-      go true = refl
-      go false = column-plain (oddIn b) (cellDots (blankLook x) 0 d) ∙ blank-cell x d most
+    s : Bool → Shown
+    s t = pick t (cellShown b chars attrs (f .words) (f .flags) (lineIn b t row (f .unshifted) (f .shifted)) row held a) (blankShown b)
+
+    go : (t : Bool) → columnOf (t && isWide (codeOf row)) (oddIn b) (cellDots (s t .look) (s t .word) d)
+        ≡ pick t (columnOf (isWide (codeOf row)) (oddIn b) (dotsAt b chars attrs f (scanIn b row) (b .place .field) (validIn b attrs row held a) a)) (replicate d x)
+    go true = refl
+    go false = column-plain (oddIn b) (cellDots (blankLook x) 0 d) ∙ blank-cell x d most
 
 -- ---- the check
 
@@ -159,42 +164,22 @@ range-left b size n s d = rw (s, d) (go (stateRefused b) (rw (s, d) at n))
 pub in-frame : (b : Board) → InRange b → (b .place .line .0 < 8192) × (b .place .clock .0 < 384)
 in-frame b i = (omega (arith, i .line-lt, vt-bound (b .page)), omega (arith, i .clock-lt, ht-bound (b .page)))
 
+pub address-lt : (b : Board) (chars : List ℕ) → Accepted (b .page) → InRange b → (c : Carried) → c ≡ loadedIn (b .page) chars (b .place) → c .beam .address < 16384
+address-lt b chars page state c e = rw e (loaded-lt (b .page) chars page (b .place) (state .beam-le) (state .row-le))
+
 module _ (b : Board) (chars attrs : List ℕ) (f : Font) where
-  pub fit : callCheck b (lentRefused chars attrs f) false false ≡ Done → Fit b chars attrs f
-  fit e =
-      let k = call-passed b (lentRefused chars attrs f) false false e in
-      let m = neither (memoriesRefused (length chars) (length attrs)) (fontRefused f) (k .sized) in
-      let n = memories-all (length chars) (length attrs) (m .0) in
-      record {
-        page = k .page;
-        state = k .state;
-        chars-all = n .0;
-        attrs-all = n .1;
-        font = font-whole f (m .1);
-      }
+  -- a clock with the font's line is that of the step
+  clocked : b .page .video .dots .0 ≤ 12
+      → clockWith b chars attrs (f .words) (f .flags) (lineIn b (activeAt (b .page) (b .place)) (codeIn b chars) (f .unshifted) (f .shifted))
+      ≡ clockIn (steppedOf b chars attrs f)
+  unfolding steppedOf clockWith
+  clocked most = rw (signals-shown b chars attrs (f .words) (f .flags) (lineIn b (activeAt (b .page) (b .place)) (codeIn b chars) (f .unshifted) (f .shifted)) (codeIn b chars) (heldOf b chars) (addressOf b chars), dots-shown b chars attrs f (codeIn b chars) (heldOf b chars) (addressOf b chars) most)
 
-  pub address-lt : Fit b chars attrs f → (c : Carried) → c ≡ loadedIn (b .page) chars (b .place) → c .beam .address < 16384
-  address-lt k c e = rw e (loaded-lt (b .page) chars (k .page) (b .place) (k .state .beam-le) (k .state .row-le))
-
-  -- the parts of a clock put together
-  pub clocked : b .page .video .dots .0 ≤ 12 → (c : Carried) → c ≡ loadedIn (b .page) chars (b .place)
-      → (q : Place) → q ≡ turnedIn (b .page) (b .place) (movedIn (b .page) attrs (b .place) c)
-      → (s : Shown) → s ≡ shownIn b chars attrs f (c .beam .code) (c .beam .latch) (c .beam .address) → (g : Signals) → g ≡ signalsWith b (s .cursor)
-      → (wide : Bool) → wide ≡ (activeAt (b .page) (b .place) && isWide (codeOf (c .beam .code)))
-      → (d : List ℕ) → d ≡ padded (columnOf wide (oddIn b) (cellDots (s .look) (s .word) (b .page .video .dots .0))) (b .page .video .dots .0)
-      → _≡_ {A = Clock} (record { refusal = Done; signals = g; address = c .beam .address; dots = d; place = q }) (clockIn (steppedOf b chars attrs f))
-  unfolding steppedOf
-  clocked most c ec q eq s es g eg wide ew d ed =
-      let k = c .beam .code in
-      let h = c .beam .latch in
-      let a = c .beam .address in
-      let signals : g ≡ signalsOf b k a = eg ∙ ap (λ (x : Shown). signalsWith b (x .cursor)) es ∙ signals-shown b chars attrs f k h a in
-      let dots : d ≡ clockDots b chars attrs f k h a = rw (ew, es) at ed ∙ dots-shown b chars attrs f k h a most in
-      rw (eq, signals, dots, ec)
-
-  pub clock-done : doneOf (stepCheck b chars attrs f) ≡ true → (c : Clock) → c ≡ clockIn (steppedOf b chars attrs f) → c ≡ clockIn (stepOf b chars attrs f)
+  pub clock-done : doneOf (stepCheck b chars attrs f) ≡ true → b .page .video .dots .0 ≤ 12 → (c : Carried) → c ≡ loadedIn (b .page) chars (b .place)
+      → (active : Bool) → active ≡ activeAt (b .page) (b .place) → (line : FontLine) → line ≡ lineIn b active (c .beam .code) (f .unshifted) (f .shifted)
+      → (r : Clock) → r ≡ clockWith b chars attrs (f .words) (f .flags) line → r ≡ clockIn (stepOf b chars attrs f)
   unfolding stepOf
-  clock-done e c h = rw e h
+  clock-done e most c ec active ea line el r h = rw e (h ∙ (rw (el, ea, ec) (clocked most)))
 
   pub clock-refused : doneOf (stepCheck b chars attrs f) ≡ false → (r : Refusal) → r ≡ stepCheck b chars attrs f
       → _≡_ {A = Clock} (record { refusal = r; signals = noSignals; address = 0; dots = replicate 12 0; place = b .place }) (clockIn (stepOf b chars attrs f))

@@ -1,17 +1,15 @@
 -- The step.
 use Prim.Native.Nat.{ℕ}
-use mathlib.Core.Path.{_≡_}
 use mathlib.Core.Bool.{false}
 use mathlib.Core.List.{List}
-use lib.ListN.{length, replicate}
+use lib.ListN.{replicate}
 use Rattle.lists.specs.Choice.{pick}
 use Rattle.refusal.specs.declared.Refusal.{Refusal}
 use Rattle.refusal.specs.declared.Refusal.the-variants.{Done}
 use Rattle.refusal.specs.Number.{doneOf}
 use Rattle.board.specs.declared.Board.{Board}
 use Rattle.timing.specs.Check.{callCheck}
-use Rattle.timing.specs.Laws.{Accepted, InRange}
-use Rattle.shape.specs.Font.{Font, Whole}
+use Rattle.shape.specs.Font.{Font}
 use Rattle.video.specs.At.{lentRefused}
 use Rattle.step.specs.declared.Signals.{Signals}
 use Rattle.step.specs.declared.Stepped.{Stepped}
@@ -64,11 +62,3 @@ stepOf b chars attrs f =
 -- all of a step, and of the board the place only
 abbrev pub clockIn : Stepped → Clock
 clockIn s = record { refusal = s .refusal; signals = s .signals; address = s .address; dots = s .dots; place = s .board .place }
-
--- what a step has once nothing is refused
-pub record Fit (b : Board) (chars attrs : List ℕ) (f : Font) : Type 0 where
-  pub page : Accepted (b .page)
-  pub state : InRange b
-  pub chars-all : length chars ≡ 16384
-  pub attrs-all : length attrs ≡ 16384
-  pub font : Whole f

@@ -7,13 +7,14 @@ ghost use Rattle.lists.specs.Choice.{pick};
 ghost use Rattle.units.specs.Units.{lines};
 ghost use Rattle.refusal.specs.Number.{doneOf};
 ghost use Rattle.timing.specs.Check.{callCheck};
-ghost use Rattle.shape.specs.Font.{fontNow, lentFont};
+ghost use Rattle.shape.specs.Font.{lentFont};
+ghost use Rattle.video.specs.Lent.{Lent};
 ghost use Rattle.video.specs.Scene.{sceneOf};
 ghost use Rattle.video.specs.Cell.{cellDots, columnOf};
-ghost use Rattle.place.specs.Place.{activeAt};
+ghost use Rattle.place.specs.Place.{activeAt, loadedIn};
 ghost use Rattle.step.specs.Signals.{scanIn, hsyncIn, vsyncIn, padded, oddIn};
-ghost use Rattle.step.specs.Step.{Fit, steppedOf, stepOf, clockIn};
-ghost use Rattle.step.specs.Shown.{signalsWith, cellShown, blankShown, shownIn};
+ghost use Rattle.step.specs.Step.{stepOf, clockIn};
+ghost use Rattle.step.specs.Shown.{signalsWith, cellShown, blankShown, lineIn, shownIn, clockWith};
 
 pub struct Signals {
     pub hsync: bool,
@@ -142,6 +143,25 @@ fn blank_shown(b: board::Board) -> Shown
     }
 }
 
+// What a clock's scan line takes from the font, which counts on active clocks alone.
+fn line_in(
+    b: board::Board,
+    active: bool,
+    row: u8,
+    unshifted: &[u8],
+    shifted: &[u8],
+) -> shape::FontLine
+    ensures { λ r. ⌜ r ≡ lineIn b active row (now (unshifted .entry)) (now (shifted .entry)) ⌝ }
+{
+    if active {
+        return shape::font_line(unshifted, shifted, scan_in(b, row));
+    }
+    shape::FontLine {
+        unshifted: 0,
+        shifted: 0,
+    }
+}
+
 // What a clock shows that fetches or holds an address, where held is valid before its cell.
 fn shown_in(
     b: board::Board,
@@ -150,17 +170,15 @@ fn shown_in(
     attrs: &[u8],
     words: &[u16],
     flags: &[u8],
-    unshifted: &[u8],
-    shifted: &[u8],
+    line: shape::FontLine,
     row: u8,
     held: u8,
     address: usize,
 ) -> Shown
-    requires { ⌜ Fit b (now chars) (now attrs) (fontNow words flags unshifted shifted) × (address < 16384) × (active ≡ activeAt (b .page) (b .place)) ⌝ }
-    ensures { λ r. ⌜ r ≡ shownIn b (now (chars .entry)) (now (attrs .entry)) (lentFont words flags unshifted shifted) row held address ⌝ }
+    requires { ⌜ Lent b (now chars) (now attrs) (now words) (now flags) × (address < 16384) × (active ≡ activeAt (b .page) (b .place)) ⌝ }
+    ensures { λ r. ⌜ r ≡ shownIn b (now (chars .entry)) (now (attrs .entry)) (now (words .entry)) (now (flags .entry)) line row held address ⌝ }
 {
     if active {
-        let line = shape::font_line(unshifted, shifted, scan_in(b, row));
         return cell_shown(b, chars, attrs, words, flags, line, row, held, address);
     }
     blank_shown(b)
@@ -191,25 +209,25 @@ fn column_dots(b: board::Board, wide: bool, s: Shown) -> [u8; 12]
     cell
 }
 
-// A clock that nothing refuses.
+// A clock that nothing refuses, from where it is loaded and what its scan line takes from the font.
 fn one_clock(
     b: board::Board,
+    c: place::Carried,
+    active: bool,
     chars: &[u8],
     attrs: &[u8],
     words: &[u16],
     flags: &[u8],
-    unshifted: &[u8],
-    shifted: &[u8],
+    line: shape::FontLine,
 ) -> Clock
-    requires { ⌜ Fit b (now chars) (now attrs) (fontNow words flags unshifted shifted) ⌝ }
-    ensures { λ r. ⌜ r ≡ clockIn (steppedOf b (now (chars .entry)) (now (attrs .entry)) (lentFont words flags unshifted shifted)) ⌝ }
+    requires { ⌜ Lent b (now chars) (now attrs) (now words) (now flags) ⌝ }
+    requires { ⌜ (c ≡ loadedIn (b .page) (now chars) (b .place)) × (active ≡ activeAt (b .page) (b .place)) ⌝ }
+    ensures { λ r. ⌜ r ≡ clockWith b (now (chars .entry)) (now (attrs .entry)) (now (words .entry)) (now (flags .entry)) line ⌝ }
 {
     let page = b.page;
     let place = b.place;
-    let c = place::loaded_at(page, chars, place);
     let next = place::place_after(page, attrs, place, c);
     let row = c.beam.code;
-    let active = place::active_at(page, place);
     let at = c.beam.address as usize;
     let shown = shown_in(
         b,
@@ -218,8 +236,7 @@ fn one_clock(
         attrs,
         words,
         flags,
-        unshifted,
-        shifted,
+        line,
         row,
         c.beam.latch,
         at,
@@ -271,7 +288,12 @@ fn clock_of(
 {
     let size = video::lent_refused(chars, attrs, words, flags, unshifted, shifted);
     if clear(b, size) {
-        return one_clock(b, chars, attrs, words, flags, unshifted, shifted);
+        let page = b.page;
+        let at = b.place;
+        let c = place::loaded_at(page, chars, at);
+        let active = place::active_at(page, at);
+        let line = line_in(b, active, c.beam.code, unshifted, shifted);
+        return one_clock(b, c, active, chars, attrs, words, flags, line);
     }
     let place = b.place;
     Clock {

@@ -19,7 +19,8 @@ use Rattle.raster.specs.Latch.{latched, lastSet, sets-or}
 use Rattle.board.specs.declared.Board.{Board}
 use Rattle.timing.specs.Laws.{Accepted}
 use Rattle.shape.specs.declared.FontLine.{FontLine}
-use Rattle.shape.specs.Font.{Font, fontLineIn, wordBy, wordOf}
+use Rattle.shape.specs.declared.FontLines.{FontLines}
+use Rattle.shape.specs.Font.{fontLineAt, wordBy}
 use Rattle.shape.specs.Laws.{by-small}
 use Rattle.video.specs.declared.Scene.{Scene}
 use Rattle.video.specs.declared.Look.{Look}
@@ -32,9 +33,9 @@ use Rattle.dots.specs.Width.{shades, cell-shades}
 use Rattle.tables.specs.Tables.{markOf, numberFor, heldBy, cellBy, levelsBy, levelsOf, levelsAt, noWord, shownWord, wordsAt}
 use Rattle.tables.specs.Marks.{mark-look, mark-lt, levels-lt, symbol-of, under-of}
 
-pub length-words : (f : Font) (d s : ℕ) → length (wordsAt f d s) ≡ 256
+pub length-words : (words flags : List ℕ) (lines : FontLines) (d s : ℕ) → length (wordsAt words flags lines d s) ≡ 256
 unfolding wordsAt
-length-words f d s = length-tab 256 _
+length-words words flags lines d s = length-tab 256 _
 
 pub length-levels : (b : Board) (field s : ℕ) → length (levelsAt b field s) ≡ 128
 unfolding levelsAt
@@ -127,10 +128,11 @@ pub levels-at : (b : Board) (field : ℕ) (xs rest : List ℕ) (n s i : ℕ) →
 unfolding levelsAt
 levels-at b field xs rest n s i e h l = join-element (levelsAt b field) 128 (length-levels b field) xs rest n s i e h l ∙ getD-tab 128 _ i l
 
-pub word-at : (f : Font) (d : ℕ) (xs rest : List ℕ) (n s i : ℕ) → xs ≡ joined 0 n (wordsAt f d) ++ rest → s < n → i < 256
-    → getD xs (s * 256 + i) 0 ≡ shownWord (f .words) (f .flags) (fontLineIn f s) d i
+pub word-at : (words flags : List ℕ) (lines : FontLines) (d : ℕ) (xs rest : List ℕ) (n s i : ℕ) → xs ≡ joined 0 n (wordsAt words flags lines d) ++ rest → s < n → i < 256
+    → getD xs (s * 256 + i) 0 ≡ shownWord words flags (fontLineAt lines s) d i
 unfolding wordsAt
-word-at f d xs rest n s i e h l = join-element (wordsAt f d) 256 (length-words f d) xs rest n s i e h l ∙ getD-tab 256 _ i l
+word-at words flags lines d xs rest n s i e h l =
+    join-element (wordsAt words flags lines d) 256 (length-words words flags lines d) xs rest n s i e h l ∙ getD-tab 256 _ i l
 
 -- the levels of a mark on a scan line are those of one of sixteen looks
 pub levels-few : (b : Board) (field s i : ℕ) → levelsOf (sceneOf b s field) i < 16
@@ -138,13 +140,13 @@ unfolding levelsOf
 levels-few b field s i = levels-lt b s field i (sceneOf b s field .gate && eqb (i / 64 % 2) 1)
 
 -- a cell from its mark and its word
-module _ (b : Board) (f : Font) (scan field : ℕ) (a : Accepted (b .page)) (k : Content) (v : ℕ)
+module _ (b : Board) (words flags : List ℕ) (line : FontLine) (scan field : ℕ) (a : Accepted (b .page)) (k : Content) (v : ℕ)
     (e : v ≡ levelsOf (sceneOf b scan field) (markOf (k .attributes) (k .here))) where
   abbrev d : ℕ
   d = b .page .video .dots .0
 
   abbrev word : ℕ
-  word = wordBy (f .words) (f .flags) (fontLineIn f scan) (k .code)
+  word = wordBy words flags line (k .code)
 
   abbrev here : Bool
   here = sceneOf b scan field .gate && k .here
@@ -155,8 +157,8 @@ module _ (b : Board) (f : Font) (scan field : ℕ) (a : Accepted (b .page)) (k :
   levelled : v ≡ levelsBy look
   levelled = e ∙ mark-look (sceneOf b scan field) (k .attributes) (k .here)
 
-  pub by-word : shades (v % 4) (v / 4) d (wideOf word d) ≡ scanDots b f scan field k
-  unfolding scanDots wordOf
+  pub by-word : shades (v % 4) (v / 4) d (wideOf word d) ≡ scanDots b (wordBy words flags line) scan field k
+  unfolding scanDots
   by-word =
       rw (levelled, symbol-of b scan field (k .attributes) here, under-of b scan field (k .attributes) here)
       (cell-shades look word d (by-small _ _ _ _) (a .most))

@@ -13,7 +13,8 @@ use Rattle.raster.specs.Moves.{advanceBy}
 use Rattle.raster.specs.Latch.{setsOf, lastSet}
 use Rattle.board.specs.declared.Board.{Board}
 use Rattle.shape.specs.declared.FontLine.{FontLine}
-use Rattle.shape.specs.Font.{Font, fontLineIn, wordBy}
+use Rattle.shape.specs.declared.FontLines.{FontLines}
+use Rattle.shape.specs.Font.{fontLineAt, wordBy}
 use Rattle.video.specs.declared.Scene.{Scene}
 use Rattle.video.specs.declared.Look.{Look}
 use Rattle.video.specs.declared.Reading.{Reading}
@@ -63,8 +64,8 @@ shownWord words flags line d code = wideOf (wordBy words flags line code) d
 unfoldable pub noWord : ℕ → ℕ
 noWord code = 0
 
-unfoldable pub wordsAt : Font → (d scan : ℕ) → List ℕ
-wordsAt f d scan = tab 256 (shownWord (f .words) (f .flags) (fontLineIn f scan) d)
+unfoldable pub wordsAt : (words flags : List ℕ) → FontLines → (d scan : ℕ) → List ℕ
+wordsAt words flags lines d scan = tab 256 (shownWord words flags (fontLineAt lines scan) d)
 
 -- ---- the lent tables afterwards; what stands beyond stays
 
@@ -81,5 +82,5 @@ abbrev pub looksFilled : Board → (field n : ℕ) → (table : List ℕ) → Li
 looksFilled b field n table = joined 0 n (levelsAt b field) ++ drop (n * 128) table
 
 -- the dots by code of n scan lines
-abbrev pub wordsFilled : Font → (n d : ℕ) → (table : List ℕ) → List ℕ
-wordsFilled f n d table = joined 0 n (wordsAt f d) ++ drop (n * 256) table
+abbrev pub wordsFilled : (words flags : List ℕ) → FontLines → (n d : ℕ) → (table : List ℕ) → List ℕ
+wordsFilled words flags lines n d table = joined 0 n (wordsAt words flags lines d) ++ drop (n * 256) table

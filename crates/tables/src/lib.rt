@@ -6,7 +6,6 @@ ghost use lib.ListN.{length, drop};
 ghost use Rattle.lists.specs.Choice.{pick};
 ghost use Rattle.lists.specs.Tab.{tab};
 ghost use Rattle.raster.specs.Moves.{Bounded};
-ghost use Rattle.shape.specs.Font.{lentFont};
 ghost use Rattle.tables.specs.Run.{whole};
 ghost use Rattle.tables.specs.Tables.{cellNumber, levelsFor, noWord, shownWord, Gathers, looksPut, looksFilled, wordsFilled};
 
@@ -188,19 +187,17 @@ pub fn fill_words(
     table: &mut [u16],
     words: &[u16],
     flags: &[u8],
-    unshifted: &[u8],
-    shifted: &[u8],
+    lines: shape::FontLines,
     n: units::Lines,
     d: usize,
 )
     requires { ⌜ (length (now words) ≡ 1152) × (length (now flags) ≡ 128) × (n .0 ≤ 16) × (n .0 * 256 ≤ length (now table)) ⌝ }
-    ensures { λ _. ⌜ now (table .exit) ≡ wordsFilled (lentFont words flags unshifted shifted) (n .0) d (now (table .entry)) ⌝ }
+    ensures { λ _. ⌜ now (table .exit) ≡ wordsFilled (now (words .entry)) (now (flags .entry)) lines (n .0) d (now (table .entry)) ⌝ }
 {
     let count = n.places();
     let mut s: usize = 0;
     while s < count {
-        let scan = units::Lines(s as u32);
-        let line = shape::font_line(unshifted, shifted, scan);
+        let line = shape::font_line_at(lines, units::Lines(s as u32));
         let a = s * 256;
         shown_words(&mut table[a..], words, flags, line, d);
         s += 1;

@@ -66,14 +66,14 @@ contentAt k chars attrs valid a = record {
 abbrev pub fetchedContent : Reading → (chars attrs : List ℕ) → (held address : ℕ) → Content
 fetchedContent k chars attrs held a = contentAt k chars attrs (latched (getD attrs a 0) held) a
 
--- what a scan line of a field makes of it
-unfoldable pub scanDots : Board → Font → (scan field : ℕ) → Content → List ℕ
-scanDots b f scan field k =
+-- what a scan line of a field makes of it, where the scan line shows these words of the codes
+unfoldable pub scanDots : Board → (words : ℕ → ℕ) → (scan field : ℕ) → Content → List ℕ
+scanDots b words scan field k =
     cellDots
     (lookOf (sceneOf b scan field) (k .attributes) (sceneOf b scan field .gate && k .here))
-    (wordOf f (k .code) scan)
+    (words (k .code))
     (b .page .video .dots .0)
 
 -- the dots of the cell at an address, on a scan line of a field, with the attributes that are valid there
 unfoldable pub dotsAt : Board → (chars attrs : List ℕ) → Font → (scan field valid address : ℕ) → List ℕ
-dotsAt b chars attrs f scan field valid a = scanDots b f scan field (contentAt (readingOf (b .page)) chars attrs valid a)
+dotsAt b chars attrs f scan field valid a = scanDots b (wordOf f scan) scan field (contentAt (readingOf (b .page)) chars attrs valid a)

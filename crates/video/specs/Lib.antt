@@ -6,3 +6,4 @@ pub mod Look
 pub mod Cell
 pub mod Twice
 pub mod At
+pub mod Lent

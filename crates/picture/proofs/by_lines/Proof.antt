@@ -7,45 +7,38 @@ use borrow.Author.Needs.{needs}
 use lib.ListN.{drop, length, length-take, length-drop}
 use Rattle.lists.specs.Fill.{Filling}
 use Rattle.lists.specs.Join.{joined, stretch-inside, join-begins, join-turn, join-ends}
-use Rattle.board.specs.declared.Board.{Board}
-use Rattle.shape.specs.Font.{Font, fontOf}
-use Rattle.line.specs.Line.{lineDots}
-use Rattle.picture.specs.Agree.{plan-visible, plan-small, line-passed, line-width, as-line-at, lined}
+use Rattle.timing.specs.Fields.{rowsOf}
+use Rattle.line.specs.Line.{rowFor}
+use Rattle.picture.specs.Agree.{scan-few, shapedAt, plan-visible, plan-small, line-row, line-room, line-width, as-line-at, lined}
 use Rattle.picture.proofs.by_lines.Statement.{statement}
 use Rattle.picture.proofs.by_lines.Tie as tie
 
-abbrev lineAt : Board → (chars attrs words flags unshifted shifted : List ℕ) → (field : ℕ) → ℕ → List ℕ
-lineAt b chars attrs words flags unshifted shifted field l = lineDots b chars attrs (fontOf words flags unshifted shifted) l field
-
 abbrev Inv-loop : tie.InvT-loop
-Inv-loop out₀ b chars attrs words flags unshifted shifted field n width l₀ out l =
+Inv-loop out₀ b chars attrs words flags lines field n width l₀ out l =
     (l ≤ n)
-    × Filling (joined 0 n (lineAt b chars attrs words flags unshifted shifted field) ++ drop (n * width) out₀) out₀ (n * width) out (l * width)
-    (joined l (n - l) (lineAt b chars attrs words flags unshifted shifted field))
+    × Filling (joined 0 n (shapedAt b chars attrs words flags lines field) ++ drop (n * width) out₀) out₀ (n * width) out (l * width)
+    (joined l (n - l) (shapedAt b chars attrs words flags lines field))
 
 abbrev μ-loop : tie.MeasureT-loop
-μ-loop out₀ b chars attrs words flags unshifted shifted field n width l₀ out l = n - l
+μ-loop out₀ b chars attrs words flags lines field n width l₀ out l = n - l
 
 -- where the function begins, from the place where the lines are counted, and from a turn of the loop
 abbrev begin : tie.After-places Inv-loop μ-loop → tie.Start Inv-loop μ-loop
-begin k = k .before .before .before .before .before .before .before .before .before
+begin k = k .before .before .before .before .before .before .before
 
 abbrev start : tie.In-loop Inv-loop μ-loop → tie.Start Inv-loop μ-loop
 start c = begin (c .before .before)
 
-abbrev font : tie.Start Inv-loop μ-loop → Font
-font c = fontOf (c .args .words .now) (c .args .flags .now) (c .args .unshifted .now) (c .args .shifted .now)
-
 abbrev drawnAt : tie.Start Inv-loop μ-loop → ℕ → List ℕ
-drawnAt c l = lineDots (c .args .b) (c .args .chars .now) (c .args .attrs .now) (font c) l (c .args .field)
+drawnAt c = shapedAt (c .args .b) (c .args .chars .now) (c .args .attrs .now) (c .args .words .now) (c .args .flags .now) (c .args .lines) (c .args .field)
 
 wide : (c : tie.Start Inv-loop μ-loop) (l : ℕ) → length (drawnAt c l) ≡ c .args .p .width
-wide c = line-width (c .args .b) _ _ (font c) (c .args .field) _ (c .pre .1) (c .pre .0 .page)
+wide c = line-width (c .args .b) _ _ _ _ (c .args .lines) (c .args .field) _ (c .pre .1 .1) (c .pre .0 .page)
 
 times-requires : tie.Need-times-requires Inv-loop μ-loop
 times-requires c κs =
-    let start = c .before .before .before .before .before .before .before in
-    omega (arith, plan-small _ _ (start .pre .1) (start .pre .0 .page))
+    let start = c .before .before .before .before .before in
+    omega (arith, plan-small _ _ (start .pre .1 .1) (start .pre .0 .page))
 
 -- all lines are those of all rows, and there is room for them
 counted : (k : tie.After-places Inv-loop μ-loop) → k .places .result ≡ begin k .args .p .rows * begin k .args .p .lines .0
@@ -54,7 +47,7 @@ counted k = rw (k .before .times .ensures) at (k .places .ensures)
 whole : (k : tie.After-places Inv-loop μ-loop) → k .places .result * begin k .args .p .width ≤ length (begin k .args .out .now)
 whole k =
     let room : begin k .args .p .rows * begin k .args .p .lines .0 * begin k .args .p .width ≤ length (begin k .args .out .now) =
-    rw (plan-visible _ _ (begin k .pre .1)) (begin k .pre .0 .roomy) in
+    rw (plan-visible _ _ (begin k .pre .1 .1)) (begin k .pre .1 .0) in
     omega (arith, ap (λ (n : ℕ). n * begin k .args .p .width) (counted k), room)
 
 room : (c : tie.In-loop Inv-loop μ-loop) → c .before .loop .l * start c .args .p .width + start c .args .p .width ≤ length (c .before .loop .out)
@@ -72,36 +65,44 @@ loop-holds c =
 mul-a : tie.Need-mul-a Inv-loop μ-loop
 mul-a c = omega (arith, room c)
 
+cast-t19 : tie.Need-cast-t19 Inv-loop μ-loop
+cast-t19 c = omega (arith, few c, plan-small _ _ (start c .pre .1 .1) (start c .pre .0 .page))
+
+visible : (c : tie.In-loop Inv-loop μ-loop) → rowFor (start c .args .b) (c .before .loop .l) < rowsOf (start c .args .b .page)
+visible c = line-row (start c .args .b) (start c .args .p) (start c .pre .1 .1) _ (few c)
+
+scan-for-requires : tie.Need-scan-for-requires Inv-loop μ-loop
+scan-for-requires c κs = (start c .pre .0 .chars-all, visible c)
+
+font-line-at-requires : tie.Need-font-line-at-requires Inv-loop μ-loop
+font-line-at-requires c κs = rw (c .scan-for .ensures) (scan-few (start (c .before) .args .b) _ _)
+
 sub-whole-line : tie.Need-sub-whole-line Inv-loop μ-loop
-sub-whole-line c = omega (arith, room c)
+sub-whole-line c = omega (arith, room (c .before .before))
 
 part-whole-line-start : tie.Need-part-whole-line-start Inv-loop μ-loop
-part-whole-line-start c = omega (arith, room c)
-
-cast-t22 : tie.Need-cast-t22 Inv-loop μ-loop
-cast-t22 c =
-    let i = c .before in
-    omega (arith, few i, plan-small _ _ (start i .pre .1) (start i .pre .0 .page))
+part-whole-line-start c = omega (arith, room (c .before .before))
 
 whole-line-requires : tie.Need-whole-line-requires Inv-loop μ-loop
 whole-line-requires c κs =
-    let i = c .before in
-    let k = start i in
-    line-passed (k .args .b) _ _ (font k) (k .args .field) _ (k .pre .1) (k .pre .0) _ _ (few i) (simp (length-take, length-drop) (omega (arith, room i)))
+    let i = c .before .before .before in
+    (start i .pre .0, (c .before .before .scan-for .ensures, visible i, line-room (start i .args .b) (start i .args .p) (start i .pre .1 .1) _ (simp (length-take, length-drop) (omega (arith, room i)))))
 
 add-l : tie.Need-add-l Inv-loop μ-loop
 add-l c =
-    let i = c .before .before .before .before in
-    omega (arith, few i, plan-small _ _ (start i .pre .1) (start i .pre .0 .page))
+    let i = c .before .before .before .before .before .before in
+    omega (arith, few i, plan-small _ _ (start i .pre .1 .1) (start i .pre .0 .page))
 
 loop-again : tie.Need-loop-again Inv-loop μ-loop
 loop-again c =
     let call = c .before .before in
-    let i = call .before .before in
+    let scan = call .before .before .before in
+    let i = scan .before in
     let k = start i in (
       omega (arith, i .loop-test .taken),
       join-turn (drawnAt k) _ (wide k) _ _ _ (i .before .loop .inv .1) (i .loop-test .taken) (whole (i .before .before))
-          (as-line-at (k .args .b) _ _ (font k) (k .args .field) _ (k .pre .1) _ _ _ (call .whole-line .ensures)),
+          (as-line-at (k .args .b) _ _ _ _ (k .args .lines) (k .args .field) _ (k .pre .1 .1) _ _ _
+          (rw (call .before .before .font-line-at .ensures, scan .scan-for .ensures) at (call .whole-line .ensures))),
     )
 
 same-length : tie.Need-same-length Inv-loop μ-loop
@@ -111,7 +112,7 @@ returns : tie.Need-returns Inv-loop μ-loop
 returns c =
     let all = c .before .before in
     let k = begin all in
-    lined (k .args .b) _ _ (font k) (k .args .field) _ (k .pre .1) _ _
+    lined (k .args .b) _ _ _ _ (k .args .lines) (k .args .field) _ (k .pre .1 .1) _ _
     (rw (counted all) at (join-ends (drawnAt k) _ (wide k) _ _ (c .before .loop .inv .1) (omega arith) (omega arith)))
 
 pub by-lines-spec : {M : Type 1} → statement M
@@ -124,10 +125,12 @@ by-lines-spec =
     (λ c κs. search needs)
     loop-holds
     mul-a
+    cast-t19
+    scan-for-requires
+    font-line-at-requires
     sub-whole-line
     part-whole-line-start
     (λ c. search needs)
-    cast-t22
     whole-line-requires
     add-l
     (λ c. search needs)

@@ -1,4 +1,4 @@
--- Rests on picture-passed: what whole_picture asks follows from the check.
+-- Rests on picture-passed, from which what whole_picture asks follows, and on as-picture: it draws the picture.
 use mathlib.Core.Path.{_≡_, ap, _∙_}
 use mathlib.Core.Bool.{Bool}
 use borrow.Author.Needs.{needs}
@@ -7,7 +7,7 @@ use Rattle.refusal.specs.Laws.{done-is, checked}
 use Rattle.shape.specs.Font.{Font, fontOf}
 use Rattle.video.specs.At.{lentRefused}
 use Rattle.picture.specs.Picture.{pictureCheck}
-use Rattle.picture.specs.Agree.{picture-passed, left-pictured, left-alone}
+use Rattle.picture.specs.Agree.{picture-passed, as-picture, left-pictured, left-alone}
 use Rattle.picture.proofs.draw_picture.Statement.{statement}
 use Rattle.picture.proofs.draw_picture.Tie as tie
 
@@ -26,15 +26,19 @@ check c =
 
 whole-picture-requires : tie.Need-whole-picture-requires
 whole-picture-requires c κs =
-    let then = c .before in
+    let then = c .before .before in
     let k = then .before .before in
     picture-passed _ _ _ (font k) _ (done-is _ (checked (check k) (then .before .is-done .ensures) (then .if1 .taken)))
 
 returns : tie.Need-returns
 returns c =
-    let then = c .before .before .before .before in
-    let k = then .before .before in
-    (check k, left-pictured _ _ _ (font k) _ _ (checked (check k) (then .before .is-done .ensures) (then .if1 .taken)) _ (c .before .before .whole-picture .ensures))
+    let drawn = c .before .before in
+    let then = drawn .before .before .before in
+    let k = then .before .before in (
+      check k,
+      left-pictured _ _ _ (font k) _ _ (checked (check k) (then .before .is-done .ensures) (then .if1 .taken)) _
+          (as-picture _ _ _ (font k) _ _ _ _ (drawn .before .before .font-lines .ensures) (drawn .whole-picture .ensures)),
+    )
 
 returns-2 : tie.Need-returns-2
 returns-2 c =
@@ -45,6 +49,7 @@ pub draw-picture-spec : {M : Type 1} → statement M
 draw-picture-spec =
     tie.close
     (tie.spec
+    (λ c κs. search needs)
     (λ c κs. search needs)
     (λ c κs. search needs)
     (λ c κs. search needs)

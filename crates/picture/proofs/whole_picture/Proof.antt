@@ -6,13 +6,19 @@ use Rattle.picture.proofs.whole_picture.Statement.{statement}
 use Rattle.picture.proofs.whole_picture.Tie as tie
 
 times-requires : tie.Need-times-requires
-times-requires c κs = omega (arith, plan-small _ _ (c .plan-of .ensures) (c .before .before .before .before .before .before .before .before .pre .page))
+times-requires c κs = omega (arith, plan-small _ _ (c .plan-of .ensures) (c .before .before .before .before .before .before .pre .0 .page))
 
 by-lines-requires : tie.Need-by-lines-requires
-by-lines-requires c κs = (c .before .before .before .before .before .before .before .before .before .before .before .before .pre, c .before .before .before .before .plan-of .ensures)
+by-lines-requires c κs =
+    let planned = c .before .before .before .before in
+    let start = planned .before .before .before .before .before .before in
+    (start .pre .0, (start .pre .1, planned .plan-of .ensures))
 
 by-rows-requires : tie.Need-by-rows-requires
-by-rows-requires c κs = (c .before .before .before .before .before .before .before .before .before .before .before .before .pre, c .before .before .before .before .plan-of .ensures)
+by-rows-requires c κs =
+    let planned = c .before .before .before .before in
+    let start = planned .before .before .before .before .before .before in
+    (start .pre .0, (start .pre .1, planned .plan-of .ensures))
 
 pub whole-picture-spec : {M : Type 1} → statement M
 whole-picture-spec =

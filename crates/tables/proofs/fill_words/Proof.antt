@@ -6,23 +6,22 @@ use borrow.Author.Needs.{needs}
 use lib.ListN.{length, drop, length-take, length-drop}
 use Rattle.lists.specs.Fill.{Filling}
 use Rattle.lists.specs.Join.{joined, join-begins, join-turn, join-ends}
-use Rattle.shape.specs.Font.{fontOf}
 use Rattle.tables.specs.Tables.{wordsAt}
 use Rattle.tables.specs.Laws.{length-words}
 use Rattle.tables.proofs.fill_words.Statement.{statement}
 use Rattle.tables.proofs.fill_words.Tie as tie
 
 abbrev Inv-loop : tie.InvT-loop
-Inv-loop table₀ words flags unshifted shifted d count s₀ table s =
+Inv-loop table₀ words flags lines d count s₀ table s =
     (s ≤ count)
-    × Filling (joined 0 count (wordsAt (fontOf words flags unshifted shifted) d) ++ drop (count * 256) table₀) table₀ (count * 256) table (s * 256)
-    (joined s (count - s) (wordsAt (fontOf words flags unshifted shifted) d))
+    × Filling (joined 0 count (wordsAt words flags lines d) ++ drop (count * 256) table₀) table₀ (count * 256) table (s * 256)
+    (joined s (count - s) (wordsAt words flags lines d))
 
 abbrev μ-loop : tie.MeasureT-loop
-μ-loop table₀ words flags unshifted shifted d count s₀ table s = count - s
+μ-loop table₀ words flags lines d count s₀ table s = count - s
 
 abbrev start : tie.In-loop Inv-loop μ-loop → tie.Start Inv-loop μ-loop
-start c = c .before .before .before .before .before .before .before .before
+start c = c .before .before .before .before .before .before
 
 -- the lines are few, and the table has room for them
 few : (c : tie.In-loop Inv-loop μ-loop) → (c .before .before .places .result ≤ 16) × (c .before .before .places .result * 256 ≤ length (start c .args .table .now))
@@ -31,10 +30,13 @@ few c =
     (omega (arith, same, start c .pre .2), omega (arith, same, start c .pre .3))
 
 loop-holds : tie.Need-loop-holds Inv-loop μ-loop
-loop-holds c = (omega arith, join-begins _ _ (length-words _ _) _ _)
+loop-holds c = (omega arith, join-begins _ _ (length-words _ _ _ _) _ _)
 
-cast-t14 : tie.Need-cast-t14 Inv-loop μ-loop
-cast-t14 c = omega (arith, c .loop-test .taken, few c .0)
+cast-t12 : tie.Need-cast-t12 Inv-loop μ-loop
+cast-t12 c = omega (arith, c .loop-test .taken, few c .0)
+
+font-line-at-requires : tie.Need-font-line-at-requires Inv-loop μ-loop
+font-line-at-requires c κs = omega (arith, c .loop-test .taken, few c .0)
 
 mul-a : tie.Need-mul-a Inv-loop μ-loop
 mul-a c = omega (arith, c .before .loop-test .taken, few (c .before) .0)
@@ -61,14 +63,14 @@ loop-again c =
     let line = call .before .before in
     let i = line .before in (
       omega (arith, i .loop-test .taken),
-      join-turn _ _ (length-words _ _) _ _ _ (i .before .loop .inv .1) (i .loop-test .taken) (few i .1) (rw (line .font-line .ensures) at (call .shown-words .ensures)),
+      join-turn _ _ (length-words _ _ _ _) _ _ _ (i .before .loop .inv .1) (i .loop-test .taken) (few i .1) (rw (line .font-line-at .ensures) at (call .shown-words .ensures)),
     )
 
 same-length : tie.Need-same-length Inv-loop μ-loop
 same-length c = c .before .loop .inv .1 .same
 
 returns : tie.Need-returns Inv-loop μ-loop
-returns c = rw (c .before .before .places .ensures) at (join-ends _ _ (length-words _ _) _ _ (c .before .loop .inv .1) (omega arith) (omega arith))
+returns c = rw (c .before .before .places .ensures) at (join-ends _ _ (length-words _ _ _ _) _ _ (c .before .loop .inv .1) (omega arith) (omega arith))
 
 pub fill-words-spec : {M : Type 1} → statement M
 fill-words-spec =
@@ -78,8 +80,8 @@ fill-words-spec =
     μ-loop
     (λ c κs. search needs)
     loop-holds
-    cast-t14
-    (λ c κs. search needs)
+    cast-t12
+    font-line-at-requires
     mul-a
     mul-shown-words
     sub-shown-words
