@@ -21,7 +21,7 @@ use Rattle.fetch.specs.declared.RowCells.{RowCells}
 use Rattle.fetch.specs.Run.{spanOf, runOf, oneRun, GivesSpan, GivesRun}
 use Rattle.fetch.specs.RowCells.{GivesCells}
 use Rattle.fetch.specs.Laws.{span-fits}
-use Rattle.fetch.specs.Rows.{entryOf, codeAt, rowStart, cellAt, fetchedOf, begunOf}
+use Rattle.fetch.specs.Rows.{entryOf, codeAt, rowStart, cellAt, fetchedOf, fetchedBefore}
 use Rattle.catalogue.specs.declared.Moved.{Moved}
 use Rattle.catalogue.specs.There.{MovesToTable}
 use Rattle.catalogue.specs.Back.{backOf}
@@ -86,8 +86,8 @@ code-at-one p chars row = only _
 pub fetched-of-one : (p : Page) (chars : List ℕ) (row : ℕ) → OneAnswer (λ r. r ≡ fetchedOf p chars row)
 fetched-of-one p chars row = only _
 
-pub begun-of-one : (p : Page) (chars : List ℕ) (row column : ℕ) → OneAnswer (λ r. r ≡ begunOf p chars row column)
-begun-of-one p chars row column = only _
+pub fetched-before-one : (p : Page) (chars : List ℕ) (row column : ℕ) → OneAnswer (λ r. r ≡ fetchedBefore p chars row column)
+fetched-before-one p chars row column = only _
 
 pub one-run-one : (b : Buffer) (start : Cell) (n : ℕ) → OneAnswer (λ r. r ≡ oneRun b (start .address) n)
 one-run-one b start n = only _

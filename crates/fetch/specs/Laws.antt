@@ -26,7 +26,7 @@ use Rattle.timing.specs.Fields.{codedOf, rowsOf, hactOf, tableOf, bufferOf, cou
 use Rattle.timing.specs.Laws.{Accepted, call-passed}
 use Rattle.fetch.specs.Feed.{feedIn, tallyIn, start-fed, accepted-fed, accepted-tallied}
 use Rattle.fetch.specs.declared.Span.{Span}
-use Rattle.fetch.specs.Rows.{entryOf, codeAt, wideAt, rowStart, fetchAt, fetchedOf, begunOf, movedOf, cellAt}
+use Rattle.fetch.specs.Rows.{entryOf, codeAt, wideAt, rowStart, fetchAt, fetchedOf, fetchedBefore, movedOf, cellAt}
 use Rattle.fetch.specs.Run.{runCheck, runCount, span, spanOf, runOf}
 
 pub entry-lt : (p : Page) (chars : List ℕ) (r : ℕ) → entryOf p chars r < 16384
@@ -100,19 +100,19 @@ module _ (p : Page) (chars : List ℕ) (r : ℕ) where
   unfolding movedOf
   moved-past c h = rw h
 
-  pub begun-by : {t : Bool} (c : ℕ) → t ≡ wideAt p chars r → pick t ((min c (hactOf p) + 1) / 2) (min c (hactOf p)) ≡ begunOf p chars r c
-  unfolding begunOf
+  pub begun-by : {t : Bool} (c : ℕ) → t ≡ wideAt p chars r → pick t ((min c (hactOf p) + 1) / 2) (min c (hactOf p)) ≡ fetchedBefore p chars r c
+  unfolding fetchedBefore
   begun-by c e = rw e
 
-  pub begun-least : (c : ℕ) → begunOf p chars r (min c (hactOf p)) ≡ begunOf p chars r c
-  unfolding begunOf
+  pub begun-least : (c : ℕ) → fetchedBefore p chars r (min c (hactOf p)) ≡ fetchedBefore p chars r c
+  unfolding fetchedBefore
   begun-least c =
       let m : min (min c (hactOf p)) (hactOf p) ≡ min c (hactOf p) = omega arith in
       rw m
 
   -- at the row's end all of them
-  pub begun-all : begunOf p chars r (hactOf p) ≡ fetchedOf p chars r
-  unfolding begunOf fetchedOf
+  pub begun-all : fetchedBefore p chars r (hactOf p) ≡ fetchedOf p chars r
+  unfolding fetchedBefore fetchedOf
   begun-all =
       let m : min (hactOf p) (hactOf p) ≡ hactOf p = omega arith in
       rw m

@@ -43,8 +43,8 @@ unfoldable pub fetchedOf : Page → List ℕ → (row : ℕ) → ℕ
 fetchedOf p chars r = pick (wideAt p chars r) ((hactOf p + 1) / 2) (hactOf p)
 
 -- how many it has fetched before column c
-unfoldable pub begunOf : Page → List ℕ → (row column : ℕ) → ℕ
-begunOf p chars r c = pick (wideAt p chars r) ((min c (hactOf p) + 1) / 2) (min c (hactOf p))
+unfoldable pub fetchedBefore : Page → List ℕ → (row column : ℕ) → ℕ
+fetchedBefore p chars r c = pick (wideAt p chars r) ((min c (hactOf p) + 1) / 2) (min c (hactOf p))
 
 -- how many it has moved on from by column c: past its last column, all of them
 unfoldable pub movedOf : Page → List ℕ → (row column : ℕ) → ℕ

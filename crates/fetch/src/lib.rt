@@ -6,7 +6,7 @@ ghost use denote.Ref.{ptr};
 ghost use lib.ListN.{length, drop};
 ghost use Rattle.lists.specs.Tab.{tab};
 ghost use Rattle.raster.specs.Moves.{cell, Bounded};
-ghost use Rattle.fetch.specs.Rows.{byteAt, entryOf, codeAt, rowStart, cellAt, fetchedOf, movedOf, begunOf};
+ghost use Rattle.fetch.specs.Rows.{byteAt, entryOf, codeAt, rowStart, cellAt, fetchedOf, movedOf, fetchedBefore};
 ghost use Rattle.fetch.specs.Run.{rowCheck, runCheck, runCount, oneRun, GivesSpan, GivesRun};
 ghost use Rattle.fetch.specs.RowCells.{cellsCheck, GivesCells};
 ghost use Rattle.fetch.specs.RowLaws.{columnBy};
@@ -99,9 +99,9 @@ fn moved_of(p: board::Page, chars: &[u8], row: u32, column: units::Clocks) -> u3
 }
 
 // How many it has fetched before a column.
-pub fn begun_of(p: board::Page, chars: &[u8], row: u32, column: units::Clocks) -> u32
+pub fn fetched_before(p: board::Page, chars: &[u8], row: u32, column: units::Clocks) -> u32
     requires { ⌜ (length (now chars) ≡ 16384) × (row < 8192) ⌝ }
-    ensures { λ r. ⌜ r ≡ begunOf p (now (chars .entry)) row (column .0) ⌝ }
+    ensures { λ r. ⌜ r ≡ fetchedBefore p (now (chars .entry)) row (column .0) ⌝ }
 {
     let t = timing::timing_of(p);
     let n = column.least(t.counts.hact);

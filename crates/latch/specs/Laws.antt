@@ -1,5 +1,5 @@
 -- What the proofs and callers use of what is latched. Assumes nothing.
---     held-valid     it is the raster's
+--     held-beam     it is the raster's
 --     held-first     nothing at the start of a frame
 --     held-in-row    within a row, from what the row began with
 --     held-along     the same, along the row from its start
@@ -25,12 +25,12 @@ use Rattle.raster.specs.Moves.{cell, advanceBy}
 use Rattle.raster.specs.Wide.{codeOf, isWide, againAt, fetchesAt}
 use Rattle.raster.specs.Latch.{latched, setsOf, lastSet, fetchedBy, last-none, same-last, last-over, last-kept, columns-cells}
 use Rattle.raster.specs.Cells.{startOf, cellOf}
-use Rattle.raster.specs.Beams.{validAt, valid-in-row}
+use Rattle.raster.specs.Beams as beams
 use Rattle.board.specs.declared.Page.{Page}
 use Rattle.board.specs.Modes.{fieldMode}
 use Rattle.timing.specs.declared.Timing.{Timing}
 use Rattle.timing.specs.Fields.{hactOf, bufferOf, timingOf, countsOf}
-use Rattle.fetch.specs.Rows.{codeAt, rowStart, fetchAt, fetchedOf, begunOf, movedOf, cellAt}
+use Rattle.fetch.specs.Rows.{codeAt, rowStart, fetchAt, fetchedOf, fetchedBefore, movedOf, cellAt}
 use Rattle.fetch.specs.Feed.{feedIn, tallyIn}
 use Rattle.fetch.specs.Run.{oneRun, run-fits, run-at}
 use Rattle.fetch.specs.Laws.{cell-shown, begun-all}
@@ -59,9 +59,9 @@ module _ (p : Page) (chars attrs : List ℕ) where
   abbrev H : ℕ
   H = hactOf p
 
-  pub held-valid : (r c : ℕ) → heldAt p chars attrs r c ≡ validAt (countsOf p) (feedIn p chars) (codeAt p chars) (setsOf (fieldMode p) attrs) (tallyIn p chars) r c
-  unfolding heldAt validAt cellAt fetchAt movedOf fetchedOf rowStart cellOf startOf countsOf
-  held-valid r c = refl
+  pub held-beam : (r c : ℕ) → heldAt p chars attrs r c ≡ beams.heldAt (countsOf p) (feedIn p chars) (codeAt p chars) (setsOf (fieldMode p) attrs) (tallyIn p chars) r c
+  unfolding heldAt beams.heldAt cellAt fetchAt movedOf fetchedOf rowStart cellOf startOf countsOf
+  held-beam r c = refl
 
   -- [R-1 frame]
   -- nothing is valid at the start of a frame
@@ -74,8 +74,8 @@ module _ (p : Page) (chars attrs : List ℕ) where
   -- [R-1 latch]
   -- in a row it goes by what the row began with
   pub held-in-row : (r c : ℕ) → c ≤ H → heldAt p chars attrs r c ≡ lastSet (setIn p chars attrs r) (heldAt p chars attrs r 0) c
-  unfolding heldAt validAt cellAt fetchAt movedOf fetchedOf rowStart cellOf startOf countsOf
-  held-in-row r c h = valid-in-row (countsOf p) (feedIn p chars) (codeAt p chars) (setsOf (fieldMode p) attrs) (tallyIn p chars) r c (omega arith)
+  unfolding heldAt beams.heldAt cellAt fetchAt movedOf fetchedOf rowStart cellOf startOf countsOf
+  held-in-row r c h = beams.held-in-row (countsOf p) (feedIn p chars) (codeAt p chars) (setsOf (fieldMode p) attrs) (tallyIn p chars) r c (omega arith)
 
   -- a column of the row, by the number of the cell that it shows
   column-sets : (r i : ℕ) → i < H
@@ -90,8 +90,8 @@ module _ (p : Page) (chars attrs : List ℕ) where
 
   -- the same along the row from its start, cell by cell
   pub held-along : (r c : ℕ) → c ≤ H
-      → heldAt p chars attrs r c ≡ lastSet (λ i. setsOf (fieldMode p) attrs (fetchAt p chars r i)) (heldAt p chars attrs r 0) (begunOf p chars r c)
-  unfolding begunOf fetchedBy
+      → heldAt p chars attrs r c ≡ lastSet (λ i. setsOf (fieldMode p) attrs (fetchAt p chars r i)) (heldAt p chars attrs r 0) (fetchedBefore p chars r c)
+  unfolding fetchedBefore fetchedBy
   held-along r c h =
       let m : min c H ≡ c = omega arith in
       held-in-row r c h
@@ -167,7 +167,7 @@ module _ (p : Page) (chars attrs : List ℕ) where
     abbrev bytes : ℕ → ℕ → ℕ
     bytes r = rowByte attrs (bufferOf p) (rowStart p chars r)
 
-    from-row : (r c : ℕ) → c ≤ H → heldAt p chars attrs r c ≡ lastSet (bytes r) (heldAt p chars attrs r 0) (begunOf p chars r c)
+    from-row : (r c : ℕ) → c ≤ H → heldAt p chars attrs r c ≡ lastSet (bytes r) (heldAt p chars attrs r 0) (fetchedBefore p chars r c)
     unfolding fetchAt
     from-row r c h = rw runs at (held-along r c h)
 
@@ -177,12 +177,12 @@ module _ (p : Page) (chars attrs : List ℕ) where
     looked-in r n eu es em e = rw (eu, es, em) at e
 
     -- in the row itself
-    module _ (r c v : ℕ) (h : c ≤ H) (e : v ≡ lastSet (bytes r) 0 (begunOf p chars r c)) where
+    module _ (r c v : ℕ) (h : c ≤ H) (e : v ≡ lastSet (bytes r) 0 (fetchedBefore p chars r c)) where
       pub found-here : (v ≡ 0 → ⊥) → v ≡ heldAt p chars attrs r c
-      found-here some = e ∙ sym (from-row r c h ∙ last-over (bytes r) (heldAt p chars attrs r 0) (begunOf p chars r c) .1 (λ z. some (e ∙ z)))
+      found-here some = e ∙ sym (from-row r c h ∙ last-over (bytes r) (heldAt p chars attrs r 0) (fetchedBefore p chars r c) .1 (λ z. some (e ∙ z)))
 
       pub none-here : v ≡ 0 → heldAt p chars attrs r 0 ≡ heldAt p chars attrs r c
-      none-here none = sym (from-row r c h ∙ last-over (bytes r) (heldAt p chars attrs r 0) (begunOf p chars r c) .0 (sym e ∙ none))
+      none-here none = sym (from-row r c h ∙ last-over (bytes r) (heldAt p chars attrs r 0) (fetchedBefore p chars r c) .0 (sym e ∙ none))
 
     -- in the row above
     module _ (r v : ℕ) (some : 0 < r) (e : v ≡ lastSet (bytes (r - 1)) 0 (fetchedOf p chars (r - 1))) where
@@ -191,7 +191,7 @@ module _ (p : Page) (chars attrs : List ℕ) where
           let one : suc (r - 1) ≡ r = omega arith in
           held-next (r - 1) ∙ ap (λ (x : ℕ). heldAt p chars attrs x 0) one
 
-      all-of : v ≡ lastSet (bytes (r - 1)) 0 (begunOf p chars (r - 1) H)
+      all-of : v ≡ lastSet (bytes (r - 1)) 0 (fetchedBefore p chars (r - 1) H)
       all-of = e ∙ ap (lastSet (bytes (r - 1)) 0) (sym (begun-all p chars (r - 1)))
 
       pub found-above : (v ≡ 0 → ⊥) → v ≡ heldAt p chars attrs r 0

@@ -121,7 +121,7 @@ pub fn held_at(
     if !board::field_mode(p) {
         return 0;
     }
-    let n = fetch::begun_of(p, chars, row, column);
+    let n = fetch::fetched_before(p, chars, row, column);
     let start = fetch::row_start(p, chars, row);
     let byte = last_in_row(attrs, timing::buffer_of(p), start, n);
     if byte != 0 {

@@ -30,7 +30,7 @@ use Rattle.timing.specs.declared.Timing.{Timing}
 use Rattle.timing.specs.Fields.{hactOf, rowsOf, linesOf, visibleOf, bufferOf, timingOf, countsOf}
 use Rattle.timing.specs.Check.{pageCheck, stateRefused, callCheck}
 use Rattle.timing.specs.Laws.{Accepted, row-shown, call-passed}
-use Rattle.fetch.specs.Rows.{codeAt, rowStart, cellAt, fetchedOf, begunOf, fetchAt}
+use Rattle.fetch.specs.Rows.{codeAt, rowStart, cellAt, fetchedOf, fetchedBefore, fetchAt}
 use Rattle.fetch.specs.Laws.{cell-shown, row-start-lt}
 use Rattle.latch.specs.Held.{heldAt, attributesAt}
 use Rattle.latch.specs.Laws.{held-along, held-plain, attributes-are}
@@ -135,7 +135,7 @@ draw-passed b chars attrs f line room e =
 abbrev pub validBy : Page → (chars attrs : List ℕ) → (r i : ℕ) → ℕ
 validBy p chars attrs r i = heldBy (fieldMode p) attrs (bufferOf p) (heldAt p chars attrs r 0) (rowStart p chars r) i
 
-pub valid-along : (p : Page) (chars attrs : List ℕ) (r c : ℕ) → c ≤ hactOf p → validBy p chars attrs r (begunOf p chars r c) ≡ heldAt p chars attrs r c
+pub valid-along : (p : Page) (chars attrs : List ℕ) (r c : ℕ) → c ≤ hactOf p → validBy p chars attrs r (fetchedBefore p chars r c) ≡ heldAt p chars attrs r c
 unfolding heldBy fetchAt
 valid-along p chars attrs r c h = sym (held-along p chars attrs r c h)
 
@@ -201,9 +201,9 @@ module _ (p : Page) (chars attrs : List ℕ) (r c : ℕ) (h : c < hactOf p) wher
   abbrev i : ℕ
   i = pick (isWide k) (c / 2) c
 
-  byte-is : latched (countedByte (readingOf p) (againAt k c) (getD attrs (fetchAt p chars r i) 0)) (validBy p chars attrs r (begunOf p chars r c))
+  byte-is : latched (countedByte (readingOf p) (againAt k c) (getD attrs (fetchAt p chars r i) 0)) (validBy p chars attrs r (fetchedBefore p chars r c))
       ≡ latched (getD attrs (fetchAt p chars r i) 0) (validBy p chars attrs r i)
-  unfolding begunOf fetchedBy
+  unfolding fetchedBefore fetchedBy
   byte-is = go (isWide k) (ℕ-discrete (c % 2) 1)
     where
       m : min c (hactOf p) ≡ c

@@ -25,7 +25,7 @@ use Rattle.timing.specs.Fields.{linesOf, rowsOf, hactOf, htOf, vtOf, visibleOf,
 use Rattle.fetch.specs.Rows.{codeAt, cellAt}
 use Rattle.fetch.specs.Feed.{feedIn, tallyIn, start-fed, cell-fed}
 use Rattle.latch.specs.Held.{heldAt}
-use Rattle.latch.specs.Laws.{held-valid}
+use Rattle.latch.specs.Laws.{held-beam}
 use Rattle.place.specs.declared.Carried.{Carried}
 use Rattle.place.specs.Place.{carried, placed, settled, heldIn, begunIn, loadedIn, pastCell, movedIn, turnedIn, nextPlace, rowAt, lineAt, carriedBefore, placeAt, lineIn, clockIn, frameIn}
 
@@ -140,11 +140,11 @@ module _ (p : Page) (chars attrs : List ℕ) (q : Place) where
 
 module _ (p : Page) (chars attrs : List ℕ) where
   pub walk-is : (r c : ℕ) → rowsIn p chars attrs .walk r c ≡ row (cellAt p chars r c) (heldAt p chars attrs r c) (codeAt p chars r)
-  walk-is r c = rw (cell-fed p chars r c, held-valid p chars attrs r c)
+  walk-is r c = rw (cell-fed p chars r c, held-beam p chars attrs r c)
 
   row-beam : (r c : ℕ) → rowAt p chars attrs r c ≡ carriedOf (pair (rowsIn p chars attrs .walk r c) (rowsIn p chars attrs .start r))
   unfolding rowAt
-  row-beam r c = rw (cell-fed p chars r c, start-fed p chars r, held-valid p chars attrs r c, held-valid p chars attrs r 0)
+  row-beam r c = rw (cell-fed p chars r c, start-fed p chars r, held-beam p chars attrs r c, held-beam p chars attrs r 0)
 
   last-beam : rowAt p chars attrs (rowsOf p - 1) (htOf p) ≡ carriedOf (tail (countsOf p) (rowsIn p chars attrs))
   unfolding tail countsOf

@@ -1,8 +1,8 @@
 -- What the beam carries: the carrier of `Cells.antt` with a latch and a row's code beside the address, and its rows at once. Assumes nothing.
 --     beamCarrier    a clock that fetches a cell latches its byte, and after a cell's last column it moves on, by the code that is carried; row 0 begins with
 --                    nothing latched, a later row with what is latched then, and each with its own code
---     validAt        what is latched when a column of a row is reached, at once
---     valid-in-row   the same from what the row began with
+--     heldAt        what is latched when a column of a row is reached, at once
+--     held-in-row   the same from what the row began with
 --     beams-lawful   the two agree
 use mathlib.Core.Path.{_≡_, sym, ap, ap₂, _∙_}
 use Prim.Native.Nat.{ℕ, suc, min, _+_, _*_, _/_, _%_, _<_}
@@ -63,12 +63,12 @@ module _ (g : Counts) (e : Feed) (code sets : ℕ → ℕ) where
     fetched k = pick (fetchesAt g (codeOf (code (k / HACT g))) (k % HACT g)) (sets (cellOf e t (k / HACT g) (k % HACT g))) 0
 
     -- when column c of row r is reached: the last cell with AFLG of those fetched in the frame, or none
-    unfoldable pub validAt : (r c : ℕ) → ℕ
-    validAt r c = lastSet fetched 0 (r * HACT g + min c (HACT g))
+    unfoldable pub heldAt : (r c : ℕ) → ℕ
+    heldAt r c = lastSet fetched 0 (r * HACT g + min c (HACT g))
 
     -- [R-1 lines] each scan line of a row starts with what was valid at the end of the previous row
     abbrev pub beamRows : Rows Row
-    beamRows = record { start = λ r. row (startOf e t r) (validAt r 0) (code r); walk = λ r c. row (cellOf e t r c) (validAt r c) (code r) }
+    beamRows = record { start = λ r. row (startOf e t r) (heldAt r 0) (code r); walk = λ r c. row (cellOf e t r c) (heldAt r c) (code r) }
 
     -- ---- the two agree
 
@@ -79,18 +79,18 @@ module _ (g : Counts) (e : Feed) (code sets : ℕ → ℕ) where
     fetched-at : (r c : ℕ) → c < HACT g → fetched (r * HACT g + c) ≡ setAt r c
     fetched-at r c h = rw (digits-div r h, digits-mod r h)
 
-    pub valid-in-row : (r c : ℕ) → c < suc (HACT g) → validAt r c ≡ lastSet (setAt r) (validAt r 0) c
-    unfolding validAt
-    valid-in-row r c h =
+    pub held-in-row : (r c : ℕ) → c < suc (HACT g) → heldAt r c ≡ lastSet (setAt r) (heldAt r 0) c
+    unfolding heldAt
+    held-in-row r c h =
         let m : min c (HACT g) ≡ c = omega arith in
         let z : r * HACT g + min 0 (HACT g) ≡ r * HACT g = omega arith in
         rw (m, z) (last-split fetched 0 (r * HACT g) c ∙ same-last _ (setAt r) _ c (λ i l. fetched-at r i (omega arith)))
 
-    valid-suc : (r c : ℕ) → validAt r (suc c) ≡ movesLatch (code r) c (cellOf e t r c) (validAt r c)
-    unfolding validAt lastSet
-    valid-suc r c = go (decLt c (HACT g))
+    held-suc : (r c : ℕ) → heldAt r (suc c) ≡ movesLatch (code r) c (cellOf e t r c) (heldAt r c)
+    unfolding heldAt lastSet
+    held-suc r c = go (decLt c (HACT g))
       where
-        go : Dec (c < HACT g) → validAt r (suc c) ≡ movesLatch (code r) c (cellOf e t r c) (validAt r c)
+        go : Dec (c < HACT g) → heldAt r (suc c) ≡ movesLatch (code r) c (cellOf e t r c) (heldAt r c)
         go (yes h) =
             let m : min c (HACT g) ≡ c = omega arith in
             let n : r * HACT g + min (suc c) (HACT g) ≡ suc (r * HACT g + c) = omega arith in
@@ -101,14 +101,14 @@ module _ (g : Counts) (e : Feed) (code sets : ℕ → ℕ) where
             let m : min (suc c) (HACT g) ≡ min c (HACT g) = omega arith in
             rw (le-ltb c (HACT g) (omega arith), m)
 
-    valid-zero : validAt 0 0 ≡ 0
-    unfolding validAt lastSet
-    valid-zero =
+    held-zero : heldAt 0 0 ≡ 0
+    unfolding heldAt lastSet
+    held-zero =
         let z : 0 * HACT g + min 0 (HACT g) ≡ 0 = omega (arith, zero-mul (HACT g)) in
         rw z
 
-    pub valid-next : Good g → (r : ℕ) → validAt r (HT g) ≡ validAt (suc r) 0
-    unfolding validAt
+    pub valid-next : Good g → (r : ℕ) → heldAt r (HT g) ≡ heldAt (suc r) 0
+    unfolding heldAt
     valid-next o r =
         let m : min (HT g) (HACT g) ≡ HACT g = omega (arith, o .hact-lt) in
         let n : suc r * HACT g + min 0 (HACT g) ≡ r * HACT g + HACT g = omega (arith, suc-mul r (HACT g)) in
@@ -124,10 +124,10 @@ module _ (g : Counts) (e : Feed) (code sets : ℕ → ℕ) where
       beams-lawful =
           let k = cells-lawful g e t d v in
           record {
-            walk-zero = λ r h. ap (λ (x : Cell). row (x .address) (validAt r 0) (code r)) (k .walk-zero r h);
+            walk-zero = λ r h. ap (λ (x : Cell). row (x .address) (heldAt r 0) (code r)) (k .walk-zero r h);
             walk-suc = λ r c h l.
-                ap₂ (λ (a x : ℕ). row a x (code r)) (ap (λ (x : Cell). x .address) (k .walk-suc r c h l) ∙ cell-moves r c (cellOf e t r c)) (valid-suc r c);
-            start-zero = λ x. ap₂ (λ (a l : ℕ). row a l (code 0)) (ap (λ (y : Cell). y .address) (k .start-zero (cell (x .address)))) (sym valid-zero);
+                ap₂ (λ (a x : ℕ). row a x (code r)) (ap (λ (x : Cell). x .address) (k .walk-suc r c h l) ∙ cell-moves r c (cellOf e t r c)) (held-suc r c);
+            start-zero = λ x. ap₂ (λ (a l : ℕ). row a l (code 0)) (ap (λ (y : Cell). y .address) (k .start-zero (cell (x .address)))) (sym held-zero);
             start-suc = λ r h.
                 ap₂ (λ (a l : ℕ). row a l (code (suc r))) (ap (λ (y : Cell). y .address) (k .start-suc r h)) (rw (ne-eqb (suc r) 0 (omega arith)) (valid-next o r));
           }

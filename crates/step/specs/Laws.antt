@@ -83,25 +83,25 @@ column-not-wide odd k w d most cell e = over-zeros d cell (cellDots k w d) most 
 
 -- ---- what a clock shows
 
-module _ (b : Board) (chars attrs words flags : List ℕ) (line : FontLine) (row held a : ℕ) where
-  pub shown-small : shownIn b chars attrs words flags line row held a .word < 1024
+module _ (b : Board) (chars attrs words flags : List ℕ) (line : FontLine) (code held a : ℕ) where
+  pub shown-small : shownIn b chars attrs words flags line code held a .word < 1024
   unfolding shownIn cellShown blankShown
   shown-small = go (activeAt (b .page) (b .place))
     where
-      go : (t : Bool) → (pick t (cellShown b chars attrs words flags line row held a) (blankShown b)) .word < 1024
+      go : (t : Bool) → (pick t (cellShown b chars attrs words flags line code held a) (blankShown b)) .word < 1024
       go true = by-small words flags line _
       go false = omega arith
 
-  shown-cursor : shownIn b chars attrs words flags line row held a .cursor ≡ (activeAt (b .page) (b .place) && cursorAt (sceneOf b (scanIn b row) (b .place .field)) a)
+  shown-cursor : shownIn b chars attrs words flags line code held a .cursor ≡ (activeAt (b .page) (b .place) && cursorAt (sceneOf b (scanIn b code) (b .place .field)) a)
   unfolding shownIn cellShown blankShown
   shown-cursor = go (activeAt (b .page) (b .place))
     where
-      go : (t : Bool) → (pick t (cellShown b chars attrs words flags line row held a) (blankShown b)) .cursor ≡ (t && cursorAt (sceneOf b (scanIn b row) (b .place .field)) a)
+      go : (t : Bool) → (pick t (cellShown b chars attrs words flags line code held a) (blankShown b)) .cursor ≡ (t && cursorAt (sceneOf b (scanIn b code) (b .place .field)) a)
       go true = refl
       go false = refl
 
   -- its CURSOR makes the signals
-  signals-shown : signalsWith b (shownIn b chars attrs words flags line row held a .cursor) ≡ signalsOf b row a
+  signals-shown : signalsWith b (shownIn b chars attrs words flags line code held a .cursor) ≡ signalsOf b code a
   unfolding signalsWith signalsOf
   signals-shown = ap (signalsWith b) shown-cursor
 
@@ -115,11 +115,11 @@ unfolding clockWith
 clock-parts b chars attrs words flags line c ec q eq s es g eg d ed = rw (eq, eg, ed, es, ec)
 
 -- its look and word make the dots
-dots-shown : (b : Board) (chars attrs : List ℕ) (f : Font) (row held a : ℕ) → b .page .video .dots .0 ≤ 12
-    → dotsShown b row (shownIn b chars attrs (f .words) (f .flags) (lineIn b (activeAt (b .page) (b .place)) row (f .unshifted) (f .shifted)) row held a)
-    ≡ clockDots b chars attrs f row held a
+dots-shown : (b : Board) (chars attrs : List ℕ) (f : Font) (code held a : ℕ) → b .page .video .dots .0 ≤ 12
+    → dotsShown b code (shownIn b chars attrs (f .words) (f .flags) (lineIn b (activeAt (b .page) (b .place)) code (f .unshifted) (f .shifted)) code held a)
+    ≡ clockDots b chars attrs f code held a
 unfolding shownIn cellShown blankShown lineIn clockDots dotsAt scanDots sceneOf wordOf
-dots-shown b chars attrs f row held a most = ap (λ (l : List ℕ). padded l d) (go (activeAt (b .page) (b .place)))
+dots-shown b chars attrs f code held a most = ap (λ (l : List ℕ). padded l d) (go (activeAt (b .page) (b .place)))
   where
     d : ℕ
     d = b .page .video .dots .0
@@ -128,10 +128,10 @@ dots-shown b chars attrs f row held a most = ap (λ (l : List ℕ). padded l d) 
     x = sceneOf b 0 (b .place .field) .blank
 
     s : Bool → Shown
-    s t = pick t (cellShown b chars attrs (f .words) (f .flags) (lineIn b t row (f .unshifted) (f .shifted)) row held a) (blankShown b)
+    s t = pick t (cellShown b chars attrs (f .words) (f .flags) (lineIn b t code (f .unshifted) (f .shifted)) code held a) (blankShown b)
 
-    go : (t : Bool) → columnOf (t && isWide (codeOf row)) (oddIn b) (cellDots (s t .look) (s t .word) d)
-        ≡ pick t (columnOf (isWide (codeOf row)) (oddIn b) (dotsAt b chars attrs f (scanIn b row) (b .place .field) (validIn b attrs row held a) a)) (replicate d x)
+    go : (t : Bool) → columnOf (t && isWide (codeOf code)) (oddIn b) (cellDots (s t .look) (s t .word) d)
+        ≡ pick t (columnOf (isWide (codeOf code)) (oddIn b) (dotsAt b chars attrs f (scanIn b code) (b .place .field) (validIn b attrs code held a) a)) (replicate d x)
     go true = refl
     go false = column-plain (oddIn b) (cellDots (blankLook x) 0 d) ∙ blank-cell x d most
 

@@ -34,7 +34,7 @@ signalsWith b cursor = record {
 }
 
 -- the cell at an address, with what its scan line takes from the font
-unfoldable pub cellShown : Board → (chars attrs words flags : List ℕ) → FontLine → (row held address : ℕ) → Shown
+unfoldable pub cellShown : Board → (chars attrs words flags : List ℕ) → FontLine → (code held address : ℕ) → Shown
 cellShown b chars attrs words flags line k held a = record {
   cursor = cursorAt (sceneOf b (scanIn b k) (b .place .field)) a;
   look =
@@ -49,15 +49,15 @@ unfoldable pub blankShown : Board → Shown
 blankShown b = record { cursor = false; look = blankLook (sceneOf b 0 (b .place .field) .blank); word = 0 }
 
 -- what a clock's scan line takes from the font
-unfoldable pub lineIn : Board → (active : Bool) → (row : ℕ) → (unshifted shifted : List ℕ) → FontLine
+unfoldable pub lineIn : Board → (active : Bool) → (code : ℕ) → (unshifted shifted : List ℕ) → FontLine
 lineIn b active k unshifted shifted = pick active (fontLineOf unshifted shifted (scanIn b k)) (record { unshifted = 0; shifted = 0 })
 
-unfoldable pub shownIn : Board → (chars attrs words flags : List ℕ) → FontLine → (row held address : ℕ) → Shown
+unfoldable pub shownIn : Board → (chars attrs words flags : List ℕ) → FontLine → (code held address : ℕ) → Shown
 shownIn b chars attrs words flags line k held a =
     pick (activeAt (b .page) (b .place)) (cellShown b chars attrs words flags line k held a) (blankShown b)
 
 -- the dots of a cell, or of one of its halves, in twelve places
-abbrev pub dotsShown : Board → (row : ℕ) → Shown → List ℕ
+abbrev pub dotsShown : Board → (code : ℕ) → Shown → List ℕ
 dotsShown b k s =
     padded
     (columnOf (activeAt (b .page) (b .place) && isWide (codeOf k)) (oddIn b) (cellDots (s .look) (s .word) (b .page .video .dots .0)))

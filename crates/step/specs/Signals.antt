@@ -18,7 +18,7 @@ use Rattle.place.specs.Place.{activeAt}
 use Rattle.step.specs.declared.Signals.{Signals}
 
 -- the scan line of the place, in a row with this code
-abbrev pub scanIn : Board → (row : ℕ) → ℕ
+abbrev pub scanIn : Board → (code : ℕ) → ℕ
 scanIn b k = scanAt (b .page) (codeOf k) (b .place .line .0)
 
 -- [clock parts] a line runs active, front porch, sync, back porch, and a frame likewise in lines
@@ -31,7 +31,7 @@ abbrev pub vsyncIn : Board → Bool
 vsyncIn b = during (visibleOf (b .page) .0 + vfpOf (b .page)) (vsyncOf (b .page)) (b .place .line .0)
 
 -- [clock blank] BLANK is high off the active clocks of visible lines, and always when the display is off
-unfoldable pub signalsOf : Board → (row address : ℕ) → Signals
+unfoldable pub signalsOf : Board → (code address : ℕ) → Signals
 signalsOf b k address = record {
   hsync = hsyncIn b;
   vsync = vsyncIn b;
@@ -50,11 +50,11 @@ abbrev pub oddIn : Board → Bool
 oddIn b = eqb (b .place .clock .0 % 2) 1
 
 -- the attributes valid at an active clock: what its cell sets there, over what is held
-abbrev pub validIn : Board → (attrs : List ℕ) → (row held address : ℕ) → ℕ
+abbrev pub validIn : Board → (attrs : List ℕ) → (code held address : ℕ) → ℕ
 validIn b attrs k held a = latched (countedByte (readingOf (b .page)) (againAt (codeOf k) (b .place .clock .0)) (getD attrs a 0)) held
 
 -- the column's dots on an active clock of a row with this code, where held is valid before it; the blank level off the active clocks
-unfoldable pub clockDots : Board → (chars attrs : List ℕ) → Font → (row held address : ℕ) → List ℕ
+unfoldable pub clockDots : Board → (chars attrs : List ℕ) → Font → (code held address : ℕ) → List ℕ
 clockDots b chars attrs f k held address =
     padded
     (pick (activeAt (b .page) (b .place))

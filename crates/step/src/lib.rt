@@ -50,11 +50,11 @@ struct Shown {
 }
 
 // The scan line of the place, in a row with this code.
-fn scan_in(b: board::Board, row: u8) -> units::Lines
-    ensures { λ r. ⌜ r ≡ lines (scanIn b row) ⌝ }
+fn scan_in(b: board::Board, code: u8) -> units::Lines
+    ensures { λ r. ⌜ r ≡ lines (scanIn b code) ⌝ }
 {
     let page = b.page;
-    video::scan_at(page, raster::code_of(row), b.place.line)
+    video::scan_at(page, raster::code_of(code), b.place.line)
 }
 
 fn hsync_in(b: board::Board) -> bool
@@ -90,10 +90,10 @@ fn signals_of(b: board::Board, active: bool, cursor: bool) -> Signals
 }
 
 // The scene of the place's scan line.
-fn scene_in(b: board::Board, row: u8) -> video::Scene
-    ensures { λ r. ⌜ r ≡ sceneOf b (scanIn b row) (b .place .field) ⌝ }
+fn scene_in(b: board::Board, code: u8) -> video::Scene
+    ensures { λ r. ⌜ r ≡ sceneOf b (scanIn b code) (b .place .field) ⌝ }
 {
-    video::scene_of(b, scan_in(b, row), b.place.field)
+    video::scene_of(b, scan_in(b, code), b.place.field)
 }
 
 // What an active clock shows, of the cell at its address.
@@ -104,26 +104,26 @@ fn cell_shown(
     words: &[u16],
     flags: &[u8],
     line: shape::FontLine,
-    row: u8,
+    code: u8,
     held: u8,
     address: usize,
 ) -> Shown
     requires { ⌜ (address < length (now chars)) × (address < length (now attrs)) × (length (now words) ≡ 1152) × (length (now flags) ≡ 128) ⌝ }
-    ensures { λ r. ⌜ r ≡ cellShown b (now (chars .entry)) (now (attrs .entry)) (now (words .entry)) (now (flags .entry)) line row held address ⌝ }
+    ensures { λ r. ⌜ r ≡ cellShown b (now (chars .entry)) (now (attrs .entry)) (now (words .entry)) (now (flags .entry)) line code held address ⌝ }
 {
     let page = b.page;
-    let scene = scene_in(b, row);
+    let scene = scene_in(b, code);
     let cursor = video::cursor_at(scene, address);
     let byte = attrs[address];
-    let again = raster::again_at(raster::code_of(row), b.place.clock);
+    let again = raster::again_at(raster::code_of(code), b.place.clock);
     let counted = video::counted_byte(video::reading_of(page), again, byte);
     let valid = raster::latched(counted, held);
     let hidden = board::setters_hidden(page);
-    let code = video::shown_code(hidden, chars[address], byte);
+    let letter = video::shown_code(hidden, chars[address], byte);
     Shown {
         cursor,
         look: video::look_of(scene, valid, cursor),
-        word: shape::word_by(words, flags, line, code),
+        word: shape::word_by(words, flags, line, letter),
     }
 }
 
@@ -147,14 +147,14 @@ fn blank_shown(b: board::Board) -> Shown
 fn line_in(
     b: board::Board,
     active: bool,
-    row: u8,
+    code: u8,
     unshifted: &[u8],
     shifted: &[u8],
 ) -> shape::FontLine
-    ensures { λ r. ⌜ r ≡ lineIn b active row (now (unshifted .entry)) (now (shifted .entry)) ⌝ }
+    ensures { λ r. ⌜ r ≡ lineIn b active code (now (unshifted .entry)) (now (shifted .entry)) ⌝ }
 {
     if active {
-        return shape::font_line(unshifted, shifted, scan_in(b, row));
+        return shape::font_line(unshifted, shifted, scan_in(b, code));
     }
     shape::FontLine {
         unshifted: 0,
@@ -171,15 +171,15 @@ fn shown_in(
     words: &[u16],
     flags: &[u8],
     line: shape::FontLine,
-    row: u8,
+    code: u8,
     held: u8,
     address: usize,
 ) -> Shown
     requires { ⌜ Lent b (now chars) (now attrs) (now words) (now flags) × (address < 16384) × (active ≡ activeAt (b .page) (b .place)) ⌝ }
-    ensures { λ r. ⌜ r ≡ shownIn b (now (chars .entry)) (now (attrs .entry)) (now (words .entry)) (now (flags .entry)) line row held address ⌝ }
+    ensures { λ r. ⌜ r ≡ shownIn b (now (chars .entry)) (now (attrs .entry)) (now (words .entry)) (now (flags .entry)) line code held address ⌝ }
 {
     if active {
-        return cell_shown(b, chars, attrs, words, flags, line, row, held, address);
+        return cell_shown(b, chars, attrs, words, flags, line, code, held, address);
     }
     blank_shown(b)
 }
@@ -227,7 +227,7 @@ fn one_clock(
     let page = b.page;
     let place = b.place;
     let next = place::place_after(page, attrs, place, c);
-    let row = c.beam.code;
+    let code = c.beam.code;
     let at = c.beam.address as usize;
     let shown = shown_in(
         b,
@@ -237,7 +237,7 @@ fn one_clock(
         words,
         flags,
         line,
-        row,
+        code,
         c.beam.latch,
         at,
     );
@@ -245,7 +245,11 @@ fn one_clock(
         refusal: refusal::Refusal::Done,
         signals: signals_of(b, active, shown.cursor),
         address: c.beam.address,
-        dots: column_dots(b, active & raster::is_wide(raster::code_of(row)), shown),
+        dots: column_dots(
+            b,
+            active & raster::is_wide(raster::code_of(code)),
+            shown,
+        ),
         place: next,
     }
 }

@@ -10,7 +10,7 @@ use Rattle.raster.specs.Latch.{lastSet}
 use Rattle.board.specs.declared.Page.{Page}
 use Rattle.board.specs.Modes.{fieldMode}
 use Rattle.timing.specs.Fields.{hactOf, bufferOf}
-use Rattle.fetch.specs.Rows.{rowStart, begunOf}
+use Rattle.fetch.specs.Rows.{rowStart, fetchedBefore}
 use Rattle.fetch.specs.Laws.{begun-least}
 use Rattle.latch.specs.Held.{heldAt}
 use Rattle.latch.specs.Laws.{rowByte, held-least, held-plain, looked-in, found-here, none-here}
@@ -19,7 +19,7 @@ use Rattle.latch.proofs.held_at.Tie as tie
 use Rattle.latch.proofs.held_at.Reads as reads
 use Rattle.latch.proofs.held_at.Lts as lts
 use Rattle.board.proofs.field_mode.Reads as field-mode-reads
-use Rattle.fetch.proofs.begun_of.Reads as begun-of-reads
+use Rattle.fetch.proofs.fetched_before.Reads as fetched-before-reads
 use Rattle.fetch.proofs.row_start.Reads as row-start-reads
 use Rattle.latch.proofs.last_in_row.Reads as last-in-row-reads
 use Rattle.timing.proofs.buffer_of.Reads as buffer-of-reads
@@ -28,7 +28,7 @@ returns : tie.Need-returns
 returns c = sym (held-plain _ _ _ (sym (c .before .field-mode .ensures) ∙ not-true _ (c .if1 .taken)) _ _)
 
 -- the search of the row itself
-module _ (c : lts.After-last-in-row (field-mode-reads.Asked, field-mode-reads.Learnt, begun-of-reads.Asked, begun-of-reads.Learnt, row-start-reads.Asked, row-start-reads.Learnt, buffer-of-reads.Asked, buffer-of-reads.Learnt, last-in-row-reads.Asked, last-in-row-reads.Learnt) reads.Pre reads.Post) where
+module _ (c : lts.After-last-in-row (field-mode-reads.Asked, field-mode-reads.Learnt, fetched-before-reads.Asked, fetched-before-reads.Learnt, row-start-reads.Asked, row-start-reads.Learnt, buffer-of-reads.Asked, buffer-of-reads.Learnt, last-in-row-reads.Asked, last-in-row-reads.Learnt) reads.Pre reads.Post) where
   abbrev p : Page
   p = c .before .before .before .before .before .before .before .before .args .p
 
@@ -50,10 +50,10 @@ module _ (c : lts.After-last-in-row (field-mode-reads.Asked, field-mode-reads.Le
   runs : fieldMode p ≡ true
   runs = sym (c .before .before .before .before .before .field-mode .ensures) ∙ not-false _ (c .before .before .before .before .if1 .left)
 
-  looked : byte ≡ lastSet (rowByte attrs (bufferOf p) (rowStart p chars row)) 0 (begunOf p chars row (min column (hactOf p)))
+  looked : byte ≡ lastSet (rowByte attrs (bufferOf p) (rowStart p chars row)) 0 (fetchedBefore p chars row (min column (hactOf p)))
   looked =
-      looked-in p chars attrs runs row (begunOf p chars row (min column (hactOf p))) (c .before .buffer-of .ensures) (c .before .before .row-start .ensures)
-      (c .before .before .before .begun-of .ensures ∙ sym (begun-least p chars row column)) (c .last-in-row .ensures)
+      looked-in p chars attrs runs row (fetchedBefore p chars row (min column (hactOf p))) (c .before .buffer-of .ensures) (c .before .before .row-start .ensures)
+      (c .before .before .before .fetched-before .ensures ∙ sym (begun-least p chars row column)) (c .last-in-row .ensures)
 
   found : (byte ≡ 0 → ⊥) → byte ≡ heldAt p chars attrs row column
   found some = found-here p chars attrs runs row (min column (hactOf p)) byte (omega arith) looked some ∙ held-least p chars attrs row column

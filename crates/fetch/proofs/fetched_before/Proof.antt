@@ -3,8 +3,8 @@ use mathlib.Core.Path.{sym, _∙_}
 use borrow.Author.Needs.{needs}
 use Rattle.timing.specs.Fields.{timingOf, countsOf}
 use Rattle.fetch.specs.Laws.{wide-is, begun-by}
-use Rattle.fetch.proofs.begun_of.Statement.{statement}
-use Rattle.fetch.proofs.begun_of.Tie as tie
+use Rattle.fetch.proofs.fetched_before.Statement.{statement}
+use Rattle.fetch.proofs.fetched_before.Tie as tie
 
 returns : tie.Need-returns
 unfolding timingOf countsOf
@@ -22,8 +22,8 @@ returns-2 c =
     rw (c .cells .ensures, least .least .ensures, least .before .timing-of .ensures)
     (begun-by _ _ _ _ (sym (c .before .if1 .left) ∙ wide-is _ _ _ (asked .is-wide .ensures) (asked .before .code-of .ensures) (asked .before .before .code-at .ensures)))
 
-pub begun-of-spec : {M : Type 1} → statement M
-begun-of-spec =
+pub fetched-before-spec : {M : Type 1} → statement M
+fetched-before-spec =
     tie.close
     (tie.spec
     (λ c κs. search needs)
