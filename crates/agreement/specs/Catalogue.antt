@@ -1,9 +1,9 @@
 -- 02, R-5: a sheet that is moved to a row table, and a page that is moved back, show the same. Assumes nothing.
---     there-alike      the table says where each row starts, and no row fetches a cell of it
---     there-shows      so the moved page shows the same
---     back-alike       the rows of a page that is moved back follow one another
---     back-shows       so it shows the same, and moved there again too (back-and-there)
---     there-and-back   only screen start 2 differs, and of memory the table's cells (memory-back)
+--     as-table-alike      the table says where each row starts, and no row fetches a cell of it
+--     as-table-shows      so the moved page shows the same
+--     as-sheet-alike       the rows of a page that is moved back follow one another
+--     as-sheet-shows       so it shows the same, and moved there again too (sheet-then-table)
+--     table-then-sheet   only screen start 2 differs, and of memory the table's cells (memory-back)
 use Prim.Native.Nat.{ℕ, zero, suc, _+_, _-_, _*_, _/_, _%_, _≤_, _<_}
 use mathlib.Core.Path.{_≡_, refl, sym, ap, ap₂, _∙_}
 use mathlib.Core.Bool.{true, false, not, true≢false}
@@ -12,8 +12,7 @@ use native.Mathlib.Nat.{zero-mul, suc-mul}
 use native.Mathlib.Numerals.{add-one}
 use native.Mathlib.Decide.{decLt}
 use native.Mathlib.Omega.{arith}
-use borrow.Author.Tests.{not-true, not-false, eqb-true, eq-eqb, ne-eqb}
-use lib.Dec.{eqb}
+use borrow.Author.Tests.{not-true, not-false, eqb-true, eqb-false, eq-eqb, ne-eqb}
 use lib.ListN.{length, getD, set, take, drop, length-set, length-append, length-drop, List·getD-append}
 use lib.Seq.{set-getD, getD-set-same, getD-set-other, getD-take, getD-drop, getD-append-add, length-take-le}
 use Rattle.lists.specs.Tab.{tab, length-tab, getD-tab}
@@ -26,17 +25,36 @@ use Rattle.board.specs.declared.Board.{Board}
 use Rattle.board.specs.Range.{memoryRefused}
 use Rattle.timing.specs.Check.{pageCheck}
 use Rattle.timing.specs.Fields.{ir, codedOf, rowsOf, hactOf, tableOf, bufferOf}
-use Rattle.timing.specs.Laws.{call-passed, buffer-bounded}
+use Rattle.timing.specs.Laws.{call-passed, buffer-bounded, range-ok, call-ok, call-page}
 use Rattle.fetch.specs.Rows.{byteAt, entryOf, rowStart, cellAt, fetchedOf}
 use Rattle.fetch.specs.Laws.{no-codes, entry-lt, row-start-lt, start-table, start-sheet, cell-shown}
-use Rattle.board.specs.Parts.{withPage}
-use Rattle.catalogue.specs.There.{fetchesCell, tableSize, tablePlaces, unfetchedAt, tablePlace, tableByte, therePage, thereChars, ownCheck, thereCheck, movedTo, thereOf, thereLeft}
-use Rattle.catalogue.specs.Back.{followsRow, rowsApart, backPage, backCheck, backOf}
-use Rattle.catalogue.specs.Marks.{Movable, Returnable, there-passed, back-passed}
+use Rattle.board.specs.Parts.{withIrs, withStarts, withPage}
+use Rattle.catalogue.specs.ToTable.{fetchesCell, tableSize, tablePlaces, unfetchedAt, tablePlace, tableByte, asTablePage, asTableChars, ownCheck, asTableCheck, movedTo, asTable, asTableLeft}
+use Rattle.catalogue.specs.ToSheet.{followsRow, rowsApart, asSheetPage, asSheetCheck, asSheet}
+use Rattle.catalogue.specs.Marks.{Movable, Returnable, as-table-passed, as-sheet-passed}
+use Rattle.alike.specs.Pages.{Same, same-coded, same-buffer, same-hact, same-rows, same-accepted, same-state}
+use Rattle.alike.specs.Views.{viewOf, Alike}
+use Rattle.alike.specs.Shown.{Shows, shows-on, alike-shows}
 use Rattle.agreement.specs.Rows.{nthCell, cell-in}
-use Rattle.agreement.specs.Alike.{Same, Alike, changed, changed-accepted, same-state, same-buffer, same-hact, same-rows}
-use Rattle.agreement.specs.AlikeShown.{Shows, shows-on, alike-shows}
-use Rattle.agreement.specs.Steps.{range-ok, call-ok, call-page}
+
+-- a page with other registers and screen starts
+abbrev pub changed : Page → (irs : List ℕ) → (start1 start2 : ℕ) → Page
+changed p irs s t = withStarts (withIrs p irs) (record { start1 = s; cursor = p .starts .cursor; start2 = t })
+
+-- as `alike` has it, if of the registers IR2 alone is another and keeps its seven low bits
+kept-page : (p : Page) (x s t : ℕ) → 2 < length (p .irs) → x % 128 ≡ ir p 2 % 128 → Same p (changed p (set (p .irs) 2 x) s t)
+kept-page p x s t registers low = record {
+  version = refl;
+  switches = refl;
+  video = refl;
+  cursor = refl;
+  others = λ n other. sym (getD-set-other (p .irs) 2 n x 0 (eqb-false n 2 other));
+  low = sym (ap (λ (k : ℕ). k % 128) (getD-set-same (p .irs) 2 x 0 registers) ∙ low);
+}
+
+-- one board and character memory show what another board and memory show, with any attribute memory and font
+abbrev pub ShowsSame : Board → (chars : List ℕ) → Board → (chars′ : List ℕ) → Type 0
+ShowsSame b chars n chars′ = (attrs : List ℕ) → Shows (viewOf b chars attrs) (viewOf n chars′ attrs)
 
 set-twice : (l : List ℕ) (i a b : ℕ) → set (set l i a) i b ≡ set l i b
 set-twice [] i a b = refl
@@ -97,13 +115,10 @@ module _ (b : Board) (chars : List ℕ) (m : Movable b chars) (registers : 2 < l
   q = changed p irs′ (p .starts .start1) place
 
   abbrev chars′ : List ℕ
-  chars′ = thereChars p chars place
+  chars′ = asTableChars p chars place
 
-  same-registers : Same (p .irs) irs′
-  same-registers = record {
-    others = λ n f. sym (getD-set-other (p .irs) 2 n (ir p 2 % 128 + 128) 0 f);
-    low = let e = getD-set-same (p .irs) 2 (ir p 2 % 128 + 128) 0 registers in omega (arith, e);
-  }
+  same-page : Same p q
+  same-page = kept-page p (ir p 2 % 128 + 128) (p .starts .start1) place registers (omega arith)
 
   table-on : tableOf q ≡ true
   unfolding tableOf
@@ -112,8 +127,7 @@ module _ (b : Board) (chars : List ℕ) (m : Movable b chars) (registers : 2 < l
       eq-eqb (ir q 2 / 128 % 2) 1 (omega (arith, e))
 
   plain : codedOf q ≡ false
-  unfolding codedOf
-  plain = ap (λ (x : ℕ). eqb (x / 128 % 2) 1) (sym (same-registers .others 0 (λ z. omega (arith, z)))) ∙ m .page .coded (m .off)
+  plain = sym (same-coded same-page) ∙ m .page .coded (m .off)
 
   room : place + tableSize p ≤ length chars
   room = omega (arith, m .found, m .whole)
@@ -122,19 +136,19 @@ module _ (b : Board) (chars : List ℕ) (m : Movable b chars) (registers : 2 < l
   bytes-long = length-tab (tableSize p) (tableByte p chars)
 
   -- the table's bytes
-  byte-there : (i : ℕ) → i < tableSize p → byteAt chars′ (place + i) ≡ tableByte p chars i
-  unfolding thereChars
-  byte-there i h =
+  byte-tabled : (i : ℕ) → i < tableSize p → byteAt chars′ (place + i) ≡ tableByte p chars i
+  unfolding asTableChars
+  byte-tabled i h =
       let e : (place + i) % 16384 ≡ place + i = omega (arith, h, m .found) in
       rw e (put-in chars (tab (tableSize p) (tableByte p chars)) place (tableSize p) bytes-long room i h ∙ getD-tab (tableSize p) (tableByte p chars) i h)
 
-  entry-there : (r : ℕ) → r < rowsOf p → entryOf q chars′ r ≡ rowStart p chars r
+  entry-tabled : (r : ℕ) → r < rowsOf p → entryOf q chars′ r ≡ rowStart p chars r
   unfolding entryOf tableByte
-  entry-there r h =
+  entry-tabled r h =
       let x = rowStart p chars r in
       let lt = row-start-lt p chars (m .page) r in
-      let low = byte-there (2 * r) (omega (arith, h)) in
-      let high = byte-there (2 * r + 1) (omega (arith, h)) in
+      let low = byte-tabled (2 * r) (omega (arith, h)) in
+      let high = byte-tabled (2 * r + 1) (omega (arith, h)) in
       let at-high : place + 2 * r + 1 ≡ place + (2 * r + 1) = omega arith in
       let even : 2 * r % 2 ≡ 0 = omega arith in
       let odd : (2 * r + 1) % 2 ≡ 1 = omega arith in
@@ -158,36 +172,37 @@ module _ (b : Board) (chars : List ℕ) (m : Movable b chars) (registers : 2 < l
       let none = none-of (λ i. fetchesCell p chars (place + i)) (tableSize p) free (x - place) (omega (arith, low, high)) in
       true≢false (sym (fetches r c h l) ∙ ap (fetchesCell p chars) (sym e) ∙ none)
 
-  pub there-alike : (attrs : List ℕ) → Alike p irs′ (p .starts .start1) place chars attrs chars′ attrs
-  unfolding thereChars
-  there-alike attrs = record {
-    registers = same-registers;
+  -- of memory nothing but the table's cells has changed
+  pub kept-cells : (x : ℕ) → (place ≤ x → x < place + tableSize p → ⊥) → getD chars′ x 0 ≡ getD chars x 0
+  unfolding asTableChars
+  kept-cells x f = put-out chars (tab (tableSize p) (tableByte p chars)) place (tableSize p) bytes-long room x f
+
+  pub as-table-alike : (attrs : List ℕ) → Alike (viewOf b chars attrs) (viewOf (withPage b q) chars′ attrs)
+  as-table-alike attrs = record {
+    board = refl;
+    page = same-page;
     code = λ r h. no-codes p chars (m .page .coded (m .off)) r ∙ sym (no-codes q chars′ plain r);
-    start = λ r h. sym (entry-there r h) ∙ start-table q chars′ r table-on;
-    letter = letter-kept;
-    byte = λ r c h l. refl;
+    start = λ r h. sym (entry-tabled r h) ∙ start-table q chars′ r table-on;
+    bytes = λ r c h l. (sym (kept-cells (cellAt p chars r c) (not-in-table r c h l)), refl);
   }
-    where
-      letter-kept : (r c : ℕ) → r < rowsOf p → c < hactOf p → getD chars (cellAt p chars r c) 0 ≡ getD chars′ (cellAt p chars r c) 0
-      letter-kept r c h l = sym (put-out chars (tab (tableSize p) (tableByte p chars)) place (tableSize p) bytes-long room (cellAt p chars r c) (not-in-table r c h l))
 
   page-ok : pageCheck p ≡ Done
   unfolding ownCheck
   page-ok = call-page b (memoryRefused (length chars)) false false (m .own)
 
   -- the moved page is accepted
-  pub there-accepted : pageCheck (therePage p place) ≡ Done
-  unfolding therePage
-  there-accepted = changed-accepted p irs′ (p .starts .start1) place same-registers page-ok (m .page .start1) (omega (arith, m .found)) (rw plain)
+  pub as-table-accepted : pageCheck (asTablePage p place) ≡ Done
+  unfolding asTablePage
+  as-table-accepted = same-accepted same-page page-ok (m .page .start1) (omega (arith, m .found)) (rw plain)
 
   chars-whole : length chars′ ≡ length chars
-  unfolding thereChars
+  unfolding asTableChars
   chars-whole = length-put chars (tab (tableSize p) (tableByte p chars)) place (tableSize p) bytes-long room
 
   -- so it shows the same
-  pub there-shown : Shows b chars (withPage b (therePage p place)) chars′
-  unfolding therePage
-  there-shown = alike-shows b irs′ (p .starts .start1) place chars chars′ there-alike chars-whole page-ok there-accepted
+  pub as-table-shown : ShowsSame b chars (withPage b (asTablePage p place)) chars′
+  unfolding asTablePage
+  as-table-shown attrs = alike-shows (as-table-alike attrs) (sym chars-whole) refl page-ok as-table-accepted
 
   -- ---- there and back
 
@@ -212,23 +227,23 @@ module _ (b : Board) (chars : List ℕ) (m : Movable b chars) (registers : 2 < l
   unfolding rowsApart followsRow
   rows-follow =
       any-none _ (rowsOf q - 1) (λ r h.
-      let rows = same-rows p q same-registers in
-      let here = entry-there r (omega (arith, h, rows)) in
-      let next = entry-there (r + 1) (omega (arith, h, rows)) in
-      ap not (eq-eqb _ _ (next ∙ row-next r ∙ ap₂ (λ (u : Buffer) (w : ℕ). advanceBy u w (rowStart p chars r)) (same-buffer p q same-registers) (same-hact p q same-registers)
+      let rows = same-rows same-page in
+      let here = entry-tabled r (omega (arith, h, rows)) in
+      let next = entry-tabled (r + 1) (omega (arith, h, rows)) in
+      ap not (eq-eqb _ _ (next ∙ row-next r ∙ ap₂ (λ (u : Buffer) (w : ℕ). advanceBy u w (rowStart p chars r)) (same-buffer same-page) (same-hact same-page)
       ∙ ap (advanceBy (bufferOf q) (hactOf q)) (sym here))))
 
-  own-there : ownCheck (withPage b q) (length chars′) ≡ Done
-  unfolding ownCheck therePage
-  own-there =
+  own-as-table : ownCheck (withPage b q) (length chars′) ≡ Done
+  unfolding ownCheck asTablePage
+  own-as-table =
       let all = call-passed b (memoryRefused (length chars)) false false (m .own) in
-      let state = sym (same-state b irs′ (p .starts .start1) place same-registers) ∙ range-ok b (all .state) in
+      let state = sym (same-state b q same-page) ∙ range-ok b (all .state) in
       let sized : memoryRefused (length chars′) ≡ false = rw chars-whole (all .sized) in
-      call-ok (withPage b q) (memoryRefused (length chars′)) sized there-accepted state
+      call-ok (withPage b q) (memoryRefused (length chars′)) sized as-table-accepted state
 
-  back-done : backCheck (withPage b q) chars′ ≡ Done
-  unfolding backCheck
-  back-done = rw (own-there, table-on, plain, rows-follow)
+  as-sheet-done : asSheetCheck (withPage b q) chars′ ≡ Done
+  unfolding asSheetCheck
+  as-sheet-done = rw (own-as-table, table-on, plain, rows-follow)
 
   -- a register is a byte
   module _ (byte : ir p 2 < 256) where
@@ -243,16 +258,11 @@ module _ (b : Board) (chars : List ℕ) (m : Movable b chars) (registers : 2 < l
     registers-back = set-twice (p .irs) 2 (ir p 2 % 128 + 128) (ir q 2 % 128) ∙ ap (set (p .irs) 2) low-bits ∙ set-getD (p .irs) 2 0
 
     -- there and back: nothing but screen start 2 has changed
-    pub returned : backOf (withPage b q) chars′ ≡ movedTo Done (withPage b (changed p (p .irs) (p .starts .start1) place))
-    unfolding backOf backPage
+    pub returned : asSheet (withPage b q) chars′ ≡ movedTo Done (withPage b (changed p (p .irs) (p .starts .start1) place))
+    unfolding asSheet asSheetPage
     returned =
-        let start = entry-there 0 (omega arith) ∙ row-zero in
-        rw back-done (ap₂ (λ (l : List ℕ) (x : ℕ). movedTo Done (withPage b (changed p l x place))) registers-back start)
-
-  -- and of memory nothing but the table's cells
-  pub kept-cells : (x : ℕ) → (place ≤ x → x < place + tableSize p → ⊥) → getD chars′ x 0 ≡ getD chars x 0
-  unfolding thereChars
-  kept-cells x f = put-out chars (tab (tableSize p) (tableByte p chars)) place (tableSize p) bytes-long room x f
+        let start = entry-tabled 0 (omega arith) ∙ row-zero in
+        rw as-sheet-done (ap₂ (λ (l : List ℕ) (x : ℕ). movedTo Done (withPage b (changed p l x place))) registers-back start)
 
 -- ---- moving back
 
@@ -266,11 +276,8 @@ module _ (b : Board) (chars : List ℕ) (m : Returnable b chars) (registers : 2 
   abbrev sheet : Page
   sheet = changed (b .page) sheetIrs first (b .page .starts .start2)
 
-  sheet-registers : Same (b .page .irs) sheetIrs
-  sheet-registers = record {
-    others = λ n f. sym (getD-set-other (b .page .irs) 2 n (ir (b .page) 2 % 128) 0 f);
-    low = let e = getD-set-same (b .page .irs) 2 (ir (b .page) 2 % 128) 0 registers in omega (arith, e);
-  }
+  sheet-same : Same (b .page) sheet
+  sheet-same = kept-page (b .page) (ir (b .page) 2 % 128) first (b .page .starts .start2) registers (omega arith)
 
   sheet-off : tableOf sheet ≡ false
   unfolding tableOf
@@ -279,8 +286,7 @@ module _ (b : Board) (chars : List ℕ) (m : Returnable b chars) (registers : 2 
       ne-eqb (ir sheet 2 / 128 % 2) 1 (λ z. omega (arith, e, z))
 
   sheet-plain : codedOf sheet ≡ false
-  unfolding codedOf
-  sheet-plain = ap (λ (x : ℕ). eqb (x / 128 % 2) 1) (sym (sheet-registers .others 0 (λ z. omega (arith, z)))) ∙ m .codeless
+  sheet-plain = sym (same-coded sheet-same) ∙ m .codeless
 
   -- the rows follow one another
   follows-on : (r : ℕ) → r < rowsOf (b .page) → entryOf (b .page) chars r ≡ advanceBy (bufferOf (b .page)) (r * hactOf (b .page)) first
@@ -299,67 +305,66 @@ module _ (b : Board) (chars : List ℕ) (m : Returnable b chars) (registers : 2 
       ∙ sym (advanceBy-add B (buffer-bounded (b .page)) H (r * H) first (entry-lt (b .page) chars 0))
       ∙ ap (λ (k : ℕ). advanceBy B k first) more
 
-  pub back-alike : (attrs : List ℕ) → Alike (b .page) sheetIrs first (b .page .starts .start2) chars attrs chars attrs
-  back-alike attrs = record {
-    registers = sheet-registers;
+  pub as-sheet-alike : (attrs : List ℕ) → Alike (viewOf b chars attrs) (viewOf (withPage b sheet) chars attrs)
+  as-sheet-alike attrs = record {
+    board = refl;
+    page = sheet-same;
     code = λ r h. no-codes (b .page) chars (m .codeless) r ∙ sym (no-codes sheet chars sheet-plain r);
     start = λ r h.
         sym (start-table (b .page) chars r (m .on))
         ∙ follows-on r h
-        ∙ ap₂ (λ (u : Buffer) (n : ℕ). advanceBy u (r * n) first) (same-buffer (b .page) sheet sheet-registers) (same-hact (b .page) sheet sheet-registers)
+        ∙ ap₂ (λ (u : Buffer) (n : ℕ). advanceBy u (r * n) first) (same-buffer sheet-same) (same-hact sheet-same)
         ∙ start-sheet sheet chars r sheet-off;
-    letter = λ r c h l. refl;
-    byte = λ r c h l. refl;
+    bytes = λ r c h l. (refl, refl);
   }
 
   sheet-page-ok : pageCheck (b .page) ≡ Done
   unfolding ownCheck
   sheet-page-ok = call-page b (memoryRefused (length chars)) false false (m .own)
 
-  pub back-accepted : pageCheck (backPage (b .page) chars) ≡ Done
-  unfolding backPage
-  back-accepted =
-      changed-accepted (b .page) sheetIrs first (b .page .starts .start2) sheet-registers sheet-page-ok (omega (arith, entry-lt (b .page) chars 0)) (m .page .start2) (rw sheet-plain)
+  pub as-sheet-accepted : pageCheck (asSheetPage (b .page) chars) ≡ Done
+  unfolding asSheetPage
+  as-sheet-accepted = same-accepted sheet-same sheet-page-ok (omega (arith, entry-lt (b .page) chars 0)) (m .page .start2) (rw sheet-plain)
 
   -- so it shows the same
-  pub back-shown : Shows b chars (withPage b (backPage (b .page) chars)) chars
-  unfolding backPage
-  back-shown = alike-shows b sheetIrs first (b .page .starts .start2) chars chars back-alike refl sheet-page-ok back-accepted
+  pub as-sheet-shown : ShowsSame b chars (withPage b (asSheetPage (b .page) chars)) chars
+  unfolding asSheetPage
+  as-sheet-shown attrs = alike-shows (as-sheet-alike attrs) refl refl sheet-page-ok as-sheet-accepted
 
 -- ---- as the calls answer
 
 -- [R-5 same]
 -- a sheet that `to_table` moves shows the same: it is accepted, its pictures are the same in every field and both attribute modes, and so are signals, address and dots of every step. Here and below a
 -- board's registers reach to IR2, as those of every board in the code do
-pub there-shows : (b : Board) (chars : List ℕ) → 2 < length (b .page .irs) → thereCheck b chars ≡ Done → Shows b chars (thereOf b chars .board) (thereLeft b chars)
-unfolding thereOf thereLeft
-there-shows b chars registers ok = rw ok (there-shown b chars (there-passed b chars ok) registers)
+pub as-table-shows : (b : Board) (chars : List ℕ) → 2 < length (b .page .irs) → asTableCheck b chars ≡ Done → ShowsSame b chars (asTable b chars .board) (asTableLeft b chars)
+unfolding asTable asTableLeft
+as-table-shows b chars registers ok = rw ok (as-table-shown b chars (as-table-passed b chars ok) registers)
 
 module _ (b : Board) (chars : List ℕ) (registers : 2 < length (b .page .irs)) where
   -- [R-5 sheet]
   -- so does a page that `to_sheet` moves
-  pub back-shows : backCheck b chars ≡ Done → Shows b chars (backOf b chars .board) chars
-  unfolding backOf
-  back-shows ok = rw ok (back-shown b chars (back-passed b chars ok) registers)
+  pub as-sheet-shows : asSheetCheck b chars ≡ Done → ShowsSame b chars (asSheet b chars .board) chars
+  unfolding asSheet
+  as-sheet-shows ok = rw ok (as-sheet-shown b chars (as-sheet-passed b chars ok) registers)
 
-  registers-kept : backCheck b chars ≡ Done → 2 < length (backOf b chars .board .page .irs)
-  unfolding backOf backPage
+  registers-kept : asSheetCheck b chars ≡ Done → 2 < length (asSheet b chars .board .page .irs)
+  unfolding asSheet asSheetPage
   registers-kept ok = rw (ok, length-set (b .page .irs) 2 (ir (b .page) 2 % 128)) registers
 
   -- and one that is moved back and there again
-  pub back-and-there : backCheck b chars ≡ Done → thereCheck (backOf b chars .board) chars ≡ Done
-      → Shows b chars (thereOf (backOf b chars .board) chars .board) (thereLeft (backOf b chars .board) chars)
-  back-and-there ok again = shows-on (back-shows ok) (there-shows (backOf b chars .board) chars (registers-kept ok) again)
+  pub sheet-then-table : asSheetCheck b chars ≡ Done → asTableCheck (asSheet b chars .board) chars ≡ Done
+      → ShowsSame b chars (asTable (asSheet b chars .board) chars .board) (asTableLeft (asSheet b chars .board) chars)
+  sheet-then-table ok again attrs = shows-on (as-sheet-shows ok attrs) (as-table-shows (asSheet b chars .board) chars (registers-kept ok) again attrs)
 
   -- [R-5 both] a sheet moved there and back differs only in screen start 2 and the table's cells
   -- a sheet that is moved there and back has another screen start 2, and nothing else of its board has changed
-  pub there-and-back : ir (b .page) 2 < 256 → thereCheck b chars ≡ Done
-      → backOf (thereOf b chars .board) (thereLeft b chars) ≡ movedTo Done (withPage b (changed (b .page) (b .page .irs) (b .page .starts .start1) (tablePlace (b .page) chars)))
-  unfolding thereOf thereLeft therePage
-  there-and-back byte ok = rw ok (returned b chars (there-passed b chars ok) registers byte)
+  pub table-then-sheet : ir (b .page) 2 < 256 → asTableCheck b chars ≡ Done
+      → asSheet (asTable b chars .board) (asTableLeft b chars) ≡ movedTo Done (withPage b (changed (b .page) (b .page .irs) (b .page .starts .start1) (tablePlace (b .page) chars)))
+  unfolding asTable asTableLeft asTablePage
+  table-then-sheet byte ok = rw ok (returned b chars (as-table-passed b chars ok) registers byte)
 
   -- [R-5 table]
   -- and of memory the table's cells
-  pub memory-back : thereCheck b chars ≡ Done → (x : ℕ) → (tablePlace (b .page) chars ≤ x → x < tablePlace (b .page) chars + tableSize (b .page) → ⊥) → getD (thereLeft b chars) x 0 ≡ getD chars x 0
-  unfolding thereLeft
-  memory-back ok x out = rw ok (kept-cells b chars (there-passed b chars ok) registers x out)
+  pub memory-back : asTableCheck b chars ≡ Done → (x : ℕ) → (tablePlace (b .page) chars ≤ x → x < tablePlace (b .page) chars + tableSize (b .page) → ⊥) → getD (asTableLeft b chars) x 0 ≡ getD chars x 0
+  unfolding asTableLeft
+  memory-back ok x out = rw ok (kept-cells b chars (as-table-passed b chars ok) registers x out)

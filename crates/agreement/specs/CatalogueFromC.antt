@@ -25,14 +25,16 @@ use Rattle.board.specs.Range.{memoryRefused}
 use Rattle.board.specs.Laws.{layout-fits}
 use Rattle.timing.specs.Fields.{ir}
 use Rattle.timing.specs.Check.{callCheck}
+use Rattle.timing.specs.Laws.{call-page}
 use Rattle.shape.specs.Font.{Font, fontOf}
 use Rattle.video.specs.At.{lentRefused}
 use Rattle.step.specs.declared.Stepped.{Stepped}
 use Rattle.step.specs.Step.{stepOf}
+use Rattle.step.specs.After.{step-answers}
 use Rattle.catalogue.specs.declared.Moved.{Moved}
-use Rattle.catalogue.specs.There.{tablePlace, tableSize, therePage, thereChars, ownCheck, thereCheck, movedTo, thereOf, thereLeft}
-use Rattle.catalogue.specs.Back.{backPage, backCheck, backOf}
-use Rattle.catalogue.specs.Marks.{there-passed, back-passed}
+use Rattle.catalogue.specs.ToTable.{tablePlace, tableSize, asTablePage, asTableChars, ownCheck, asTableCheck, movedTo, asTable, asTableLeft}
+use Rattle.catalogue.specs.ToSheet.{asSheetPage, asSheetCheck, asSheet}
+use Rattle.catalogue.specs.Marks.{as-table-passed, as-sheet-passed}
 use Rattle.files.specs.Page.{versionIn, irsIn, pageAt, tailOf}
 use Rattle.files.specs.Laws.{page-irs}
 use Rattle.files.specs.Round.{Bytes, bytes-again, ir-byte, version-again, on}
@@ -41,10 +43,7 @@ use Rattle.numbers.specs.Laws.{numbers-passed, numbers-room, numbers-version, p
 use Rattle.feldrime.specs.PictureDraw.{pictureDrawCheck, pictureDrawn}
 use Rattle.feldrime.specs.Catalogue.{movedNumbers, toTableCheck, toTableNumbers, toTableChars, toSheetCheck, toSheetNumbers}
 use Rattle.feldrime.specs.Step.{numbered}
-use Rattle.agreement.specs.Steps.{step-answers, call-page}
-use Rattle.agreement.specs.Alike.{changed}
-use Rattle.agreement.specs.AlikeShown.{Shows}
-use Rattle.agreement.specs.Catalogue.{there-shows, back-shows, there-and-back, memory-back}
+use Rattle.agreement.specs.Catalogue.{changed, ShowsSame, as-table-shows, as-sheet-shows, table-then-sheet, memory-back}
 use Rattle.agreement.specs.FromC.{stepC, fit-from-c, begins-from-c, steps-from-c}
 
 -- numbers and character memory show what others show: `feldrime_picture_draw` answers and leaves the same in every field, with any attribute memory, font and buffer, and every `feldrime_step`, from the boards
@@ -89,10 +88,10 @@ unfolding numbered stepOf callCheck
 size-alone x y chars chars′ attrs f e e′ = rw (e, e′)
 
 module _ (numbers chars numbers′ chars′ : List ℕ) (ok : numbersCheck numbers ≡ Done) (fine : numbersRefused numbers′ ≡ false)
-    (s : Shows (numbersBoard numbers) chars (numbersBoard numbers′) chars′) where
+    (s : ShowsSame (numbersBoard numbers) chars (numbersBoard numbers′) chars′) where
   ok′ : numbersCheck numbers′ ≡ Done
   unfolding numbersCheck
-  ok′ = rw fine (s .accepted)
+  ok′ = rw fine (s [] .accepted)
 
   -- with memories and font parts of the right sizes
   sized-same : (attrs words flags unshifted shifted : List ℕ) → lentRefused chars attrs (fontOf words flags unshifted shifted) ≡ false
@@ -100,9 +99,9 @@ module _ (numbers chars numbers′ chars′ : List ℕ) (ok : numbersCheck numbe
   sized-same attrs words flags unshifted shifted sized k =
       let f = fontOf words flags unshifted shifted in
       let fit = fit-from-c numbers chars attrs words flags unshifted shifted ok sized in
-      let both = s .stepped attrs f fit in
+      let both = s attrs .stepped f fit in
       let begun = begins-from-c numbers chars attrs words flags unshifted shifted ok sized in
-      let begun′ = begins-from-c numbers′ chars′ attrs words flags unshifted shifted ok′ (sym (s .sized attrs f) ∙ sized) in
+      let begun′ = begins-from-c numbers′ chars′ attrs words flags unshifted shifted ok′ (sym (s attrs .sized f) ∙ sized) in
       let refused = step-answers (numbersBoard numbers) chars attrs f fit k ∙ sym (step-answers (numbersBoard numbers′) chars′ attrs f (both .0) k) in
       let shown = both .1 k in
       rw (steps-from-c numbers chars attrs words flags unshifted shifted (begun .0) (begun .1) k, steps-from-c numbers′ chars′ attrs words flags unshifted shifted (begun′ .0) (begun′ .1) k)
@@ -115,7 +114,7 @@ module _ (numbers chars numbers′ chars′ : List ℕ) (ok : numbersCheck numbe
       f = fontOf words flags unshifted shifted
 
       go : (t : Bool) → lentRefused chars attrs f ≡ t → stepC numbers chars attrs words flags unshifted shifted k ≡ stepC numbers′ chars′ attrs words flags unshifted shifted k
-      go true e = size-alone _ _ chars chars′ attrs f e (sym (s .sized attrs f) ∙ e)
+      go true e = size-alone _ _ chars chars′ attrs f e (sym (s attrs .sized f) ∙ e)
       go false e = sized-same attrs words flags unshifted shifted e k
 
   shows-from-c : ShowsC numbers chars numbers′ chars′
@@ -123,8 +122,8 @@ module _ (numbers chars numbers′ chars′ : List ℕ) (ok : numbersCheck numbe
   shows-from-c = record {
     accepted = ok′;
     same = record {
-      answered = λ attrs f room. rw (numbers-passed numbers ok, fine) (s .answered attrs f room);
-      pictured = λ attrs f field out. rw (numbers-passed numbers ok, fine) (s .pictured attrs f field out);
+      answered = λ attrs f room. rw (numbers-passed numbers ok, fine) (s attrs .answered f room);
+      pictured = λ attrs f field out. rw (numbers-passed numbers ok, fine) (s attrs .pictured f field out);
       stepped = step-same;
     };
   }
@@ -134,19 +133,19 @@ module _ (numbers chars numbers′ chars′ : List ℕ) (ok : numbersCheck numbe
 -- [demand untouched]
 -- a refused move leaves numbers and memory
 pub table-refused : (numbers chars : List ℕ) → doneOf (toTableCheck numbers chars) ≡ false → (toTableNumbers numbers chars ≡ numbers) × (toTableChars numbers chars ≡ chars)
-unfolding toTableCheck toTableNumbers toTableChars thereOf thereLeft
-table-refused numbers chars = go (numbersRefused numbers) (thereOf (numbersBoard numbers) chars .board .page) (thereCheck (numbersBoard numbers) chars)
+unfolding toTableCheck toTableNumbers toTableChars asTable asTableLeft
+table-refused numbers chars = go (numbersRefused numbers) (asTable (numbersBoard numbers) chars .board .page) (asTableCheck (numbersBoard numbers) chars)
   where
     go : (t : Bool) (p : Page) (r : Refusal) → doneOf (pick t Size r) ≡ false → (pick t numbers (pick (doneOf r) (pageIn p numbers) numbers) ≡ numbers)
-        × (pick t chars (pick (doneOf r) (thereChars (numbersBoard numbers .page) chars (tablePlace (numbersBoard numbers .page) chars)) chars) ≡ chars)
+        × (pick t chars (pick (doneOf r) (asTableChars (numbersBoard numbers .page) chars (tablePlace (numbersBoard numbers .page) chars)) chars) ≡ chars)
     go true p r e = (refl, refl)
     go false p r e = rw e (refl, refl)
 
 -- [demand untouched]
 -- and a refused way back the numbers
 pub sheet-refused : (numbers chars : List ℕ) → doneOf (toSheetCheck numbers chars) ≡ false → toSheetNumbers numbers chars ≡ numbers
-unfolding toSheetCheck toSheetNumbers backOf
-sheet-refused numbers chars = go (numbersRefused numbers) (backOf (numbersBoard numbers) chars .board .page) (backCheck (numbersBoard numbers) chars)
+unfolding toSheetCheck toSheetNumbers asSheet
+sheet-refused numbers chars = go (numbersRefused numbers) (asSheet (numbersBoard numbers) chars .board .page) (asSheetCheck (numbersBoard numbers) chars)
   where
     go : (t : Bool) (p : Page) (r : Refusal) → doneOf (pick t Size r) ≡ false → pick t numbers (pick (doneOf r) (pageIn p numbers) numbers) ≡ numbers
     go true p r e = refl
@@ -199,9 +198,9 @@ module _ (numbers : List ℕ) (fits : Bytes numbers) (fine : numbersRefused numb
   abbrev irs : List ℕ
   irs = take (layoutOf v .irs) (own .irs)
 
-  own-back : pageIn own numbers ≡ numbers
+  own-as-sheet : pageIn own numbers ≡ numbers
   unfolding pageAt
-  own-back =
+  own-as-sheet =
       ap₂ (λ (k : ℕ) (l : List ℕ). numbersFront k l (drop (counted v) numbers)) (version-again numbers 1 (numbers-version numbers fine)) (bytes-again numbers fits 1 (numbers-room numbers fine))
       ∙ ap (λ (l : List ℕ). v ∷ l) (on numbers 1 (pageLength v))
       ∙ sym (drop-cons numbers 0 0 (omega (arith, numbers-room numbers fine)))
@@ -219,7 +218,7 @@ module _ (numbers : List ℕ) (fits : Bytes numbers) (fine : numbersRefused numb
       ap (λ (l : List ℕ). versionOf own ∷ l) (append-assoc irs _ (drop (counted v) numbers))
       ∙ sym (start-set irs (layoutOf v .irs) irs-long (versionOf own) _ _ _ _ _ _ (x / 256) (x % 256) _)
       ∙ ap (λ (l : List ℕ). set (set (versionOf own ∷ l) (irsIn numbers + 5) (x / 256)) (irsIn numbers + 6) (x % 256)) (sym (append-assoc irs _ (drop (counted v) numbers)))
-      ∙ ap (λ (l : List ℕ). set (set l (irsIn numbers + 5) (x / 256)) (irsIn numbers + 6) (x % 256)) own-back
+      ∙ ap (λ (l : List ℕ). set (set l (irsIn numbers + 5) (x / 256)) (irsIn numbers + 6) (x % 256)) own-as-sheet
 
 -- what the page's own refusals passed
 own-ok : (numbers chars : List ℕ) → numbersRefused numbers ≡ false → ownCheck (numbersBoard numbers) (length chars) ≡ Done → numbersCheck numbers ≡ Done
@@ -238,51 +237,51 @@ module _ (numbers chars : List ℕ) (done : toTableCheck numbers chars ≡ Done)
   place = tablePlace p chars
 
   abbrev m : Moved
-  m = thereOf b chars
+  m = asTable b chars
 
-  taken : (numbersRefused numbers ≡ false) × (thereCheck b chars ≡ Done)
-  unfolding toTableCheck thereOf
+  taken : (numbersRefused numbers ≡ false) × (asTableCheck b chars ≡ Done)
+  unfolding toTableCheck asTable
   taken = passed (numbersRefused numbers) Size _ refl done
 
   m-done : m .refusal ≡ Done
-  unfolding thereOf
+  unfolding asTable
   m-done = taken .1
 
-  moved : m .board ≡ boardOf (therePage p place)
-  unfolding thereOf
+  moved : m .board ≡ boardOf (asTablePage p place)
+  unfolding asTable
   moved = rw (taken .1)
 
   long : length (p .irs) ≡ 15
   long = irs-all numbers (taken .0)
 
-  long′ : length (therePage p place .irs) ≡ 15
-  unfolding therePage
+  long′ : length (asTablePage p place .irs) ≡ 15
+  unfolding asTablePage
   long′ = length-set (p .irs) 2 (ir p 2 % 128 + 128) ∙ long
 
-  version : therePage p place .version ≡ getD numbers 0 0
-  unfolding therePage pageAt
+  version : asTablePage p place .version ≡ getD numbers 0 0
+  unfolding asTablePage pageAt
   version = refl
 
   numbers-left : toTableNumbers numbers chars ≡ movedNumbers m numbers
   unfolding toTableNumbers
   numbers-left = rw (taken .0)
 
-  chars-left : toTableChars numbers chars ≡ thereLeft b chars
+  chars-left : toTableChars numbers chars ≡ asTableLeft b chars
   unfolding toTableChars
   chars-left = rw (taken .0)
 
   table-fine : numbersRefused (toTableNumbers numbers chars) ≡ false
-  table-fine = rw numbers-left (moved-fine numbers (taken .0) m m-done (therePage p place) moved long′ version)
+  table-fine = rw numbers-left (moved-fine numbers (taken .0) m m-done (asTablePage p place) moved long′ version)
 
   table-board : numbersBoard (toTableNumbers numbers chars) ≡ m .board
-  table-board = ap numbersBoard numbers-left ∙ board-is numbers (taken .0) m m-done (therePage p place) moved long′ version
+  table-board = ap numbersBoard numbers-left ∙ board-is numbers (taken .0) m m-done (asTablePage p place) moved long′ version
 
   -- [R-5 same]
   -- they and character memory show the same
   pub table-shows : ShowsC numbers chars (toTableNumbers numbers chars) (toTableChars numbers chars)
   table-shows =
-      shows-from-c numbers chars (toTableNumbers numbers chars) (toTableChars numbers chars) (own-ok numbers chars (taken .0) (there-passed b chars (taken .1) .own)) table-fine
-      (rw (table-board, chars-left) (there-shows b chars (omega (arith, long)) (taken .1)))
+      shows-from-c numbers chars (toTableNumbers numbers chars) (toTableChars numbers chars) (own-ok numbers chars (taken .0) (as-table-passed b chars (taken .1) .own)) table-fine
+      (rw (table-board, chars-left) (as-table-shows b chars (omega (arith, long)) (taken .1)))
 
   -- [R-5 both]
   -- of memory only the table's cells have changed
@@ -291,18 +290,18 @@ module _ (numbers chars : List ℕ) (done : toTableCheck numbers chars ≡ Done)
 
   -- and moved back the numbers have another screen start 2, and nothing else has changed
   module _ (fits : Bytes numbers) where
-    there-back : backOf (m .board) (thereLeft b chars) ≡ movedTo Done (boardOf (changed p (p .irs) (p .starts .start1) place))
+    then-sheet : asSheet (m .board) (asTableLeft b chars) ≡ movedTo Done (boardOf (changed p (p .irs) (p .starts .start1) place))
     unfolding pageAt
-    there-back = there-and-back b chars (omega (arith, long)) (ir-byte numbers fits 1 2 (numbers-room numbers (taken .0))) (taken .1)
+    then-sheet = table-then-sheet b chars (omega (arith, long)) (ir-byte numbers fits 1 2 (numbers-room numbers (taken .0))) (taken .1)
 
-    back-left : backOf (numbersBoard (toTableNumbers numbers chars)) (toTableChars numbers chars) ≡ movedTo Done (boardOf (changed p (p .irs) (p .starts .start1) place))
-    back-left = ap₂ backOf table-board chars-left ∙ there-back
+    as-sheet-left : asSheet (numbersBoard (toTableNumbers numbers chars)) (toTableChars numbers chars) ≡ movedTo Done (boardOf (changed p (p .irs) (p .starts .start1) place))
+    as-sheet-left = ap₂ asSheet table-board chars-left ∙ then-sheet
 
     rest-left : drop (counted (p .version)) (toTableNumbers numbers chars) ≡ drop (counted (p .version)) numbers
-    unfolding therePage
+    unfolding asTablePage
     rest-left =
-        ap (drop (counted (p .version))) (numbers-left ∙ numbers-are numbers (taken .0) m m-done (therePage p place) moved long′ version)
-        ∙ put-rest numbers (taken .0) (therePage p place) long′
+        ap (drop (counted (p .version))) (numbers-left ∙ numbers-are numbers (taken .0) m m-done (asTablePage p place) moved long′ version)
+        ∙ put-rest numbers (taken .0) (asTablePage p place) long′
 
     -- [R-5 both]
     -- there and back: feldrime_to_sheet answers 0, and the numbers differ in bytes 20 and 21 alone
@@ -310,48 +309,48 @@ module _ (numbers chars : List ℕ) (done : toTableCheck numbers chars ≡ Done)
         × (toSheetNumbers (toTableNumbers numbers chars) (toTableChars numbers chars) ≡ withStart2 numbers place)
     unfolding toSheetCheck toSheetNumbers
     sheet-again = (
-      rw (table-fine, back-left),
-      rw (table-fine, back-left, rest-left) (start-put numbers fits (taken .0) place),
+      rw (table-fine, as-sheet-left),
+      rw (table-fine, as-sheet-left, rest-left) (start-put numbers fits (taken .0) place),
     )
 
 -- numbers that feldrime_to_sheet moves
 module _ (numbers chars : List ℕ) (done : toSheetCheck numbers chars ≡ Done) where
   abbrev sheetPage : Page
-  sheetPage = backPage (numbersBoard numbers .page) chars
+  sheetPage = asSheetPage (numbersBoard numbers .page) chars
 
-  back-taken : (numbersRefused numbers ≡ false) × (backCheck (numbersBoard numbers) chars ≡ Done)
-  unfolding toSheetCheck backOf
-  back-taken = passed (numbersRefused numbers) Size _ refl done
+  as-sheet-taken : (numbersRefused numbers ≡ false) × (asSheetCheck (numbersBoard numbers) chars ≡ Done)
+  unfolding toSheetCheck asSheet
+  as-sheet-taken = passed (numbersRefused numbers) Size _ refl done
 
-  back-moved : backOf (numbersBoard numbers) chars .board ≡ boardOf sheetPage
-  unfolding backOf
-  back-moved = rw (back-taken .1)
+  as-sheet-moved : asSheet (numbersBoard numbers) chars .board ≡ boardOf sheetPage
+  unfolding asSheet
+  as-sheet-moved = rw (as-sheet-taken .1)
 
-  back-done : backOf (numbersBoard numbers) chars .refusal ≡ Done
-  unfolding backOf
-  back-done = back-taken .1
+  as-sheet-done : asSheet (numbersBoard numbers) chars .refusal ≡ Done
+  unfolding asSheet
+  as-sheet-done = as-sheet-taken .1
 
-  back-long : length (sheetPage .irs) ≡ 15
-  unfolding backPage
-  back-long = length-set (numbersBoard numbers .page .irs) 2 (ir (numbersBoard numbers .page) 2 % 128) ∙ irs-all numbers (back-taken .0)
+  as-sheet-long : length (sheetPage .irs) ≡ 15
+  unfolding asSheetPage
+  as-sheet-long = length-set (numbersBoard numbers .page .irs) 2 (ir (numbersBoard numbers .page) 2 % 128) ∙ irs-all numbers (as-sheet-taken .0)
 
-  back-version : sheetPage .version ≡ getD numbers 0 0
-  unfolding backPage pageAt
-  back-version = refl
+  as-sheet-version : sheetPage .version ≡ getD numbers 0 0
+  unfolding asSheetPage pageAt
+  as-sheet-version = refl
 
-  sheet-left : toSheetNumbers numbers chars ≡ movedNumbers (backOf (numbersBoard numbers) chars) numbers
+  sheet-left : toSheetNumbers numbers chars ≡ movedNumbers (asSheet (numbersBoard numbers) chars) numbers
   unfolding toSheetNumbers
-  sheet-left = rw (back-taken .0)
+  sheet-left = rw (as-sheet-taken .0)
 
   -- [R-5 sheet]
   -- they show the same
   pub sheet-shows : ShowsC numbers chars (toSheetNumbers numbers chars) chars
   sheet-shows =
-      let back = backOf (numbersBoard numbers) chars in
-      let fine = moved-fine numbers (back-taken .0) back back-done sheetPage back-moved back-long back-version in
-      let board = board-is numbers (back-taken .0) back back-done sheetPage back-moved back-long back-version in
-      shows-from-c numbers chars (toSheetNumbers numbers chars) chars (own-ok numbers chars (back-taken .0) (back-passed (numbersBoard numbers) chars (back-taken .1) .own)) (rw sheet-left fine)
-      (rw (sheet-left, board) (back-shows (numbersBoard numbers) chars (omega (arith, irs-all numbers (back-taken .0))) (back-taken .1)))
+      let back = asSheet (numbersBoard numbers) chars in
+      let fine = moved-fine numbers (as-sheet-taken .0) back as-sheet-done sheetPage as-sheet-moved as-sheet-long as-sheet-version in
+      let board = board-is numbers (as-sheet-taken .0) back as-sheet-done sheetPage as-sheet-moved as-sheet-long as-sheet-version in
+      shows-from-c numbers chars (toSheetNumbers numbers chars) chars (own-ok numbers chars (as-sheet-taken .0) (as-sheet-passed (numbersBoard numbers) chars (as-sheet-taken .1) .own)) (rw sheet-left fine)
+      (rw (sheet-left, board) (as-sheet-shows (numbersBoard numbers) chars (omega (arith, irs-all numbers (as-sheet-taken .0))) (as-sheet-taken .1)))
 
   -- and so they do where they are moved there again
   pub table-again : toTableCheck (toSheetNumbers numbers chars) chars ≡ Done

@@ -19,6 +19,7 @@ use Rattle.board.specs.Layout.{newestVersion, layoutOf, lengthField, charsPlace
 use Rattle.board.specs.Range.{memoriesRefused}
 use Rattle.board.specs.Laws.{layout-kept}
 use Rattle.timing.specs.Check.{pageCheck, stateRefused}
+use Rattle.timing.specs.Laws.{range-ok, call-ok, call-page}
 use Rattle.shape.specs.Font.{Font, fontRefused}
 use Rattle.copies.specs.Put.{length-part}
 use Rattle.files.specs.Page.{wordAt, versionIn, pageAt, keptPage}
@@ -30,7 +31,6 @@ use Rattle.files.specs.FontRound.{font-again}
 use Rattle.numbers.specs.Numbers.{numbersRefused}
 use Rattle.numbers.specs.Files.{numbersRead}
 use Rattle.numbers.specs.Laws.{numbers-long, numbers-page}
-use Rattle.agreement.specs.Steps.{range-ok, call-ok, call-page}
 
 -- an accepted file's length
 length-is : (file : List ℕ) (n : ℕ) → lengthRefused file n ≡ false → longAt file 1 ≡ n

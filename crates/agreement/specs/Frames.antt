@@ -22,7 +22,7 @@ use Rattle.shape.specs.Font.{Font}
 use Rattle.place.specs.Place.{placeAt}
 use Rattle.place.specs.Beam.{rowsIn}
 use Rattle.step.specs.Step.{stepCheck}
-use Rattle.agreement.specs.Steps.{after, fits, steps-are}
+use Rattle.step.specs.After.{after, fits, steps-are}
 use Rattle.agreement.specs.Lines.{addressAt, DrawnFrom, address-is, drawn-from}
 
 -- the clocks of a frame

@@ -21,7 +21,7 @@ use Rattle.board.specs.declared.Board.{Board}
 use Rattle.board.specs.State.{clockZero, powerOf}
 use Rattle.timing.specs.Fields.{hactOf, linesOf, rowsOf, visibleOf, tableOf, bufferOf}
 use Rattle.timing.specs.Check.{pageCheck, sizeOf}
-use Rattle.timing.specs.Laws.{call-passed}
+use Rattle.timing.specs.Laws.{call-passed, call-ok, call-page}
 use Rattle.fetch.specs.Rows.{entryOf, fetchedOf}
 use Rattle.fetch.specs.Run.{spanOf}
 use Rattle.fetch.specs.RowCells.{cellsPut}
@@ -32,6 +32,7 @@ use Rattle.line.specs.Line.{rowFor, lineLength, drawCheck, drawnOf}
 use Rattle.picture.specs.Picture.{picturedOf}
 use Rattle.video.specs.At.{lentRefused}
 use Rattle.step.specs.Step.{steppedOf, stepCheck, stepOf}
+use Rattle.step.specs.After.{after, step-answers}
 use Rattle.board.specs.Parts.{withPlace}
 use Rattle.place.specs.State.{stateOf}
 use Rattle.files.specs.Page.{pageAt}
@@ -46,7 +47,7 @@ use Rattle.feldrime.specs.LineDraw.{lineDrawCheck, lineDrawn}
 use Rattle.feldrime.specs.PictureDraw.{pictureDrawCheck, pictureDrawn}
 use Rattle.feldrime.specs.RowCells.{cellsFor, cellsPutFor}
 use Rattle.feldrime.specs.Step.{numbered, stepNumbers}
-use Rattle.agreement.specs.Steps.{call-ok, call-page, after, step-answers, at-once-anywhere}
+use Rattle.agreement.specs.Steps.{at-once-anywhere}
 use Rattle.agreement.specs.Files.{zero-ok}
 use Rattle.agreement.specs.Lines.{clockOf, shownAt, DrawnFrom, draw-answers, same-line}
 use Rattle.agreement.specs.Frames.{frameClocks, every-frame, frame-at-most, stays-inside}

@@ -12,9 +12,6 @@ pub mod Rows
 pub mod Modes
 pub mod Porches
 pub mod Pictures
-pub mod Alike
-pub mod AlikeSteps
-pub mod AlikeShown
 pub mod Catalogue
 pub mod Moved
 pub mod Tall

@@ -12,15 +12,10 @@ use lib.Seq.{take-at}
 use Rattle.lists.specs.Join.{joined, same-joined}
 use Rattle.refusal.specs.declared.Refusal.the-variants.{Done}
 use Rattle.raster.specs.declared.Row.{Row}
-use Rattle.raster.specs.Raster.{Pair, Scan, loaded, atOnce}
-use Rattle.raster.specs.Agree.{loaded-meets}
 use Rattle.raster.specs.Wide.{isWide}
 use Rattle.raster.specs.Beams.{row}
-use Rattle.board.specs.declared.Page.{Page}
-use Rattle.board.specs.declared.Place.{Place}
 use Rattle.board.specs.declared.Board.{Board}
-use Rattle.timing.specs.Fields.{htOf, vtOf, hactOf, linesOf, visibleOf, countsOf}
-use Rattle.timing.specs.Laws.{accepted-good}
+use Rattle.timing.specs.Fields.{htOf, vtOf, hactOf, linesOf, visibleOf}
 use Rattle.fetch.specs.Rows.{codeAt, cellAt}
 use Rattle.latch.specs.Held.{heldAt, attributesAt}
 use Rattle.latch.specs.Laws.{attributes-are}
@@ -30,13 +25,11 @@ use Rattle.line.specs.Length.{length-dots}
 use Rattle.line.specs.Line.{rowFor, codeFor, scanFor, columnDots, lineDots, lineLength, drawCheck, drawnOf}
 use Rattle.video.specs.Cell.{columnOf}
 use Rattle.video.specs.At.{scanDots, dotsAt, lentRefused}
-use Rattle.place.specs.declared.Carried.{Carried}
-use Rattle.place.specs.Place.{activeAt, loadedIn, clockIn, lineIn, frameIn, placeAt}
-use Rattle.place.specs.Beam.{rasterOf, carriedOf, carrierOf, rowsIn, loaded-beam, walk-is}
-use Rattle.place.specs.Settled.{settledIn, at-settled}
+use Rattle.place.specs.Place.{activeAt, loadedIn, placeAt}
+use Rattle.place.specs.Walk.{beam-at}
 use Rattle.step.specs.Signals.{padded, clockDots}
 use Rattle.step.specs.Step.{steppedOf, stepCheck, stepOf}
-use Rattle.agreement.specs.Steps.{after, fits, lawful, raster-at, atClock, step-is, steps-are}
+use Rattle.step.specs.After.{after, fits, atClock, step-is, steps-are}
 
 -- line l of frame k, and clock c of it, counted from clock 0
 unfoldable pub lineCount : Board → (k l : ℕ) → ℕ
@@ -63,31 +56,7 @@ DrawnFrom b chars attrs f line address = (field : ℕ) (out : List ℕ) → line
     ≡ joined 0 (hactOf (b .page)) (λ c. shownAt b chars attrs f line field c (attributesAt (b .page) chars attrs (rowFor b line) c) (address c))
     ++ drop (lineLength b) out
 
-loaded-visible : (p : Page) (chars attrs : List ℕ) (q : Place) → settledIn p q ≡ q → q .line .0 < visibleOf p .0
-    → loadedIn p chars q ≡ carriedOf (loaded (countsOf p) (carrierOf p chars attrs) (q .line .0) (q .clock .0) (rasterOf q .carried))
-loaded-visible p chars attrs q s h =
-    loaded-beam p chars attrs q
-    ∙ rw (lt-ltb (q .line .0) (visibleOf p .0) h)
-    (ap (λ (x : Place). carriedOf (loaded (countsOf p) (carrierOf p chars attrs) (q .line .0) (q .clock .0) (rasterOf x .carried))) s)
-
 module _ (b : Board) (chars attrs : List ℕ) (f : Font) (ok : stepCheck b chars attrs f ≡ Done) where
-  -- what the step at clock n works on in a visible line
-  pub beam-at : (n : ℕ) → lineIn (b .page) n < visibleOf (b .page) .0
-      → loadedIn (b .page) chars (placeAt (b .page) chars attrs n) .beam
-      ≡ row (cellAt (b .page) chars (lineIn (b .page) n / linesOf (b .page)) (clockIn (b .page) n))
-      (heldAt (b .page) chars attrs (lineIn (b .page) n / linesOf (b .page)) (clockIn (b .page) n))
-      (codeAt (b .page) chars (lineIn (b .page) n / linesOf (b .page)))
-  unfolding placeAt atOnce countsOf
-  beam-at n h =
-      let p = b .page in
-      let page = fits b chars attrs f ok .page in
-      ap (λ (x : Carried). x .beam) (loaded-visible p chars attrs (placeAt p chars attrs n) (at-settled p chars attrs n) h)
-      ∙ ap (λ (s : Scan Row). loaded (countsOf p) (carrierOf p chars attrs) (lineIn p n) (clockIn p n) (s .carried) .beam) (raster-at p chars attrs page n)
-      ∙ ap (λ (x : Pair Row). x .beam)
-      (loaded-meets (countsOf p) (carrierOf p chars attrs) (rowsIn p chars attrs) (accepted-good p page) (lawful p chars attrs page)
-      (row 0 0 0) (clockIn p n) (lineIn p n) (frameIn p n) h)
-      ∙ walk-is p chars attrs (lineIn p n / linesOf p) (clockIn p n)
-
   module _ (k l c : ℕ) (hl : l < visibleOf (b .page) .0) (hc : c < hactOf (b .page)) where
     c-lt : c < htOf (b .page)
     c-lt = omega (arith, fits b chars attrs f ok .page .hfp)
@@ -113,7 +82,7 @@ module _ (b : Board) (chars attrs : List ℕ) (f : Font) (ok : stepCheck b chars
 
     worked-on : loadedIn (b .page) chars (placeAt (b .page) chars attrs (clockOf b k l c)) .beam
         ≡ row (cellAt (b .page) chars (rowFor b l) c) (heldAt (b .page) chars attrs (rowFor b l) c) (codeAt (b .page) chars (rowFor b l))
-    worked-on = beam-at (clockOf b k l c) (rw line-is hl) ∙ rw (line-is, clock-is)
+    worked-on = beam-at (b .page) chars attrs (fits b chars attrs f ok .page) (clockOf b k l c) (rw line-is hl) ∙ rw (line-is, clock-is)
 
     -- the address that the step puts out, and the board's place
     pub address-is : stepOf (after b chars attrs f (clockOf b k l c)) chars attrs f .address ≡ cellAt (b .page) chars (l / linesOf (b .page)) c

@@ -1,9 +1,9 @@
 -- 02, R-5: 16, 19, 17 and 18 are each answered exactly where their fact holds and none before it does. Assumes nothing.
 --     own-below     the page's own refusals are below 16
---     there-told    moving there: 16, 17
+--     as-table-told    moving there: 16, 17
 --     never-coded   and never 19, since 4 comes first
 --     no-place      17 is the fact that from every place on some row fetches one of the table's cells
---     back-told     moving back: 16, 19, 18
+--     as-sheet-told     moving back: 16, 19, 18
 use Prim.Native.Nat.{ℕ, _<_}
 use mathlib.Core.Path.{_≡_, refl, sym, _∙_}
 use mathlib.Core.Bool.{Bool, true, false, not, _&&_, _||_, true≢false}
@@ -23,8 +23,8 @@ use Rattle.board.specs.declared.Board.{Board}
 use Rattle.board.specs.Range.{memoryRefused, addressRefused}
 use Rattle.timing.specs.Fields.{codedOf, tableOf}
 use Rattle.timing.specs.Check.{reservedRefused, backPorchRefused, lineShort, frontPorchRefused, missing, widthRefused, pageCheck, stateRefused, callCheck}
-use Rattle.catalogue.specs.There.{tablePlaces, unfetchedAt, tablePlace, ownCheck, thereCheck}
-use Rattle.catalogue.specs.Back.{rowsApart, backCheck}
+use Rattle.catalogue.specs.ToTable.{tablePlaces, unfetchedAt, tablePlace, ownCheck, asTableCheck}
+use Rattle.catalogue.specs.ToSheet.{rowsApart, asSheetCheck}
 use Rattle.catalogue.specs.Marks.{own-passed}
 
 page-below : (p : Page) → numberOf (pageCheck p) < 16
@@ -74,11 +74,11 @@ module _ (b : Board) where
 
     -- [R-5 refusals]
     -- 16, 19 and 17 are each answered exactly if their fact holds and none before it does
-    pub there-told : (eqb (numberOf (thereCheck b chars)) 16 ≡ own && on)
-        × (eqb (numberOf (thereCheck b chars)) 19 ≡ own && not on && coded)
-        × (eqb (numberOf (thereCheck b chars)) 17 ≡ own && not on && not coded && none)
-    unfolding thereCheck
-    there-told = go own refl on coded none
+    pub as-table-told : (eqb (numberOf (asTableCheck b chars)) 16 ≡ own && on)
+        × (eqb (numberOf (asTableCheck b chars)) 19 ≡ own && not on && coded)
+        × (eqb (numberOf (asTableCheck b chars)) 17 ≡ own && not on && not coded && none)
+    unfolding asTableCheck
+    as-table-told = go own refl on coded none
       where
         go : (t : Bool) → own ≡ t → (o c n : Bool)
             → (eqb (numberOf (pick t (firstOf ((o, Kind) ∷ (c, Coded) ∷ (n, Stretch) ∷ []) Done) (ownCheck b (length chars)))) 16 ≡ t && o)
@@ -92,8 +92,8 @@ module _ (b : Board) where
 
     -- [R-5 refusals]
     -- 19 is never answered moving there: 4 comes first
-    pub never-coded : numberOf (thereCheck b chars) ≡ 19 → ⊥
-    never-coded e = true≢false (sym (eq-eqb _ _ e) ∙ there-told .1 ∙ go own refl on refl)
+    pub never-coded : numberOf (asTableCheck b chars) ≡ 19 → ⊥
+    never-coded e = true≢false (sym (eq-eqb _ _ e) ∙ as-table-told .1 ∙ go own refl on refl)
       where
         go : (t : Bool) → own ≡ t → (o : Bool) → on ≡ o → (t && not o && coded) ≡ false
         go false q o z = refl
@@ -112,11 +112,11 @@ module _ (b : Board) where
 
     -- [R-5 refusals]
     -- 16, 19 and 18 are each answered exactly if their fact holds and none before it does
-    pub back-told : (eqb (numberOf (backCheck b chars)) 16 ≡ own && not on)
-        × (eqb (numberOf (backCheck b chars)) 19 ≡ own && on && coded)
-        × (eqb (numberOf (backCheck b chars)) 18 ≡ own && on && not coded && rowsApart (b .page) chars)
-    unfolding backCheck
-    back-told = go own on coded (rowsApart (b .page) chars)
+    pub as-sheet-told : (eqb (numberOf (asSheetCheck b chars)) 16 ≡ own && not on)
+        × (eqb (numberOf (asSheetCheck b chars)) 19 ≡ own && on && coded)
+        × (eqb (numberOf (asSheetCheck b chars)) 18 ≡ own && on && not coded && rowsApart (b .page) chars)
+    unfolding asSheetCheck
+    as-sheet-told = go own on coded (rowsApart (b .page) chars)
       where
         go : (t o c n : Bool)
             → (eqb (numberOf (pick t (firstOf ((not o, Kind) ∷ (c, Coded) ∷ (n, Apart) ∷ []) Done) (ownCheck b (length chars)))) 16 ≡ t && not o)

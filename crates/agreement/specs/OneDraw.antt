@@ -23,8 +23,8 @@ use Rattle.fetch.specs.RowCells.{GivesCells}
 use Rattle.fetch.specs.Laws.{span-fits}
 use Rattle.fetch.specs.Rows.{entryOf, codeAt, rowStart, cellAt, fetchedOf, fetchedBefore}
 use Rattle.catalogue.specs.declared.Moved.{Moved}
-use Rattle.catalogue.specs.There.{MovesToTable}
-use Rattle.catalogue.specs.Back.{backOf}
+use Rattle.catalogue.specs.ToTable.{MovesToTable}
+use Rattle.catalogue.specs.ToSheet.{asSheet}
 use Rattle.records.specs.declared.Phrase.{Phrase}
 use Rattle.records.specs.declared.PhraseAnswer.{PhraseAnswer}
 use Rattle.records.specs.declared.PairAnswer.{PairAnswer}
@@ -104,7 +104,7 @@ cell-at-one p chars row column = only _
 pub to-table-one : (b : Board) (chars : List ℕ) → OneAnswer (λ (r : Moved × List ℕ). MovesToTable b chars (r .0) (r .1))
 to-table-one b chars = only-both _ _
 
-pub to-sheet-one : (b : Board) (chars : List ℕ) → OneAnswer (λ r. r ≡ backOf b chars)
+pub to-sheet-one : (b : Board) (chars : List ℕ) → OneAnswer (λ r. r ≡ asSheet b chars)
 to-sheet-one b chars = only _
 
 -- ---- `records`

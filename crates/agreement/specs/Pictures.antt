@@ -20,7 +20,7 @@ use Rattle.line.specs.Line.{columnDots, lineDots, lineLength, drawnOf}
 use Rattle.line.specs.Length.{length-line}
 use Rattle.picture.specs.Picture.{pictureDots, pictureLength, pictureCheck, picturedOf}
 use Rattle.step.specs.Step.{stepCheck, stepOf}
-use Rattle.agreement.specs.Steps.{after, fits}
+use Rattle.step.specs.After.{after, fits}
 use Rattle.agreement.specs.Lines.{clockOf, shownAt, draw-is, stepped-line}
 use Rattle.agreement.specs.Rows.{lineOf, nthCell, at-column}
 

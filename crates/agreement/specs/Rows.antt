@@ -20,6 +20,7 @@ use Rattle.board.specs.declared.Board.{Board}
 use Rattle.board.specs.Modes.{fieldMode}
 use Rattle.board.specs.Range.{memoryRefused}
 use Rattle.timing.specs.Fields.{hactOf, linesOf, rowsOf, visibleOf, tableOf, bufferOf}
+use Rattle.timing.specs.Laws.{range-ok, call-ok}
 use Rattle.fetch.specs.Rows.{entryOf, codeAt, rowStart, cellAt, fetchedOf, fetchAt}
 use Rattle.fetch.specs.Run.{runCheck, spanOf}
 use Rattle.fetch.specs.RowCells.{cellsOf, cellsCheck, rowOf, cellsGiven, cellsPut}
@@ -30,7 +31,7 @@ use Rattle.latch.specs.Held.{attributesAt}
 use Rattle.shape.specs.Font.{Font}
 use Rattle.line.specs.Line.{lineLength, drawnOf}
 use Rattle.step.specs.Step.{stepCheck}
-use Rattle.agreement.specs.Steps.{range-ok, call-ok, fits, page-ok}
+use Rattle.step.specs.After.{fits, page-ok}
 use Rattle.agreement.specs.Lines.{addressAt, shownAt, DrawnFrom, address-is, drawn-from}
 
 -- line l of row r

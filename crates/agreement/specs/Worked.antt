@@ -20,9 +20,10 @@ use Rattle.latch.specs.Held.{heldAt}
 use Rattle.timing.specs.Fields.{bufferOf, countsOf, codedOf, linesOf, tableOf, hbpOf, vsyncOf}
 use Rattle.timing.specs.Check.{pageCheck, stateRefused, callCheck}
 use Rattle.shape.specs.Font.{Font, fontOf, fontRefused}
-use Rattle.catalogue.specs.There.{ownCheck, fetchesCell, tablePlaces, unfetchedAt, tablePlace, thereCheck}
-use Rattle.catalogue.specs.Back.{followsRow, rowsApart, backCheck}
+use Rattle.catalogue.specs.ToTable.{ownCheck, fetchesCell, tablePlaces, unfetchedAt, tablePlace, asTableCheck}
+use Rattle.catalogue.specs.ToSheet.{followsRow, rowsApart, asSheetCheck}
 use Rattle.step.specs.Step.{stepCheck}
+use Rattle.step.specs.After.{after}
 use Rattle.files.specs.File.{readCheck, fileCheck, lengthRefused, longAt, headOf, fileOf}
 use Rattle.files.specs.Page.{wordAt, pageAt, tailOf}
 use Rattle.files.specs.FontFile.{fontLength, fontCheck, fontHead}
@@ -30,7 +31,6 @@ use Rattle.numbers.specs.Numbers.{numbersOfCheck}
 use Rattle.numbers.specs.Files.{pageReadSize}
 use Rattle.feldrime.specs.Answers.{answerOf}
 use Rattle.agreement.specs.Cases.{page}
-use Rattle.agreement.specs.Steps.{after}
 use Rattle.agreement.specs.Frames.{frameClocks, every-frame}
 use Rattle.agreement.specs.Lines.{addressAt}
 use Rattle.agreement.specs.Rows.{row-from-table, row-from-start}
@@ -157,9 +157,9 @@ room-at-1 : unfetchedAt (small .page) memory 1 ≡ true
 unfolding small memory unfetchedAt fetchesCell anyBelow fetchAt fetchedOf linesOf vsyncOf countsOf codedOf tableOf codeAt rowStart advanceBy toLast bufferOf
 room-at-1 = refl
 
-pub there-taken : thereCheck small memory ≡ Done
-unfolding small codedOf tableOf thereCheck tablePlace
-there-taken =
+pub as-table-taken : asTableCheck small memory ≡ Done
+unfolding small codedOf tableOf asTableCheck tablePlace
+as-table-taken =
     let n : ℕ = tablePlaces (small .page) in
     let found : tablePlace (small .page) memory < n = first-lt (unfetchedAt (small .page) memory) n (any-some (unfetchedAt (small .page) memory) n 1 (omega arith) room-at-1) in
     rw (small-own, ne-eqb (tablePlace (small .page) memory) n (λ e. absurd (omega (arith, e, found))))
@@ -170,6 +170,6 @@ follows-on = boardOf (catalogued 2 1 0 1 1 1)
 pub follow-entries : List ℕ
 follow-entries = 0 ∷ 0 ∷ 1 ∷ replicate 16381 0
 
-pub back-taken : backCheck follows-on follow-entries ≡ Done
-unfolding follows-on follow-entries backCheck ownCheck callCheck pageCheck addressRefused codedOf linesOf tableOf hbpOf vsyncOf stateRefused layoutOf rowsApart followsRow anyBelow entryOf advanceBy toLast bufferOf
-back-taken = refl
+pub as-sheet-taken : asSheetCheck follows-on follow-entries ≡ Done
+unfolding follows-on follow-entries asSheetCheck ownCheck callCheck pageCheck addressRefused codedOf linesOf tableOf hbpOf vsyncOf stateRefused layoutOf rowsApart followsRow anyBelow entryOf advanceBy toLast bufferOf
+as-sheet-taken = refl

@@ -7,7 +7,7 @@ use borrow.Author.Tests.{ne-eqb}
 use Rattle.lists.specs.Choice.{pick}
 use Rattle.refusal.specs.declared.Refusal.the-variants.{Done}
 use Rattle.refusal.specs.Number.{doneOf}
-use Rattle.catalogue.specs.There.{tablePlace}
+use Rattle.catalogue.specs.ToTable.{tablePlace}
 use Rattle.files.specs.Page.{pageAt}
 use Rattle.files.specs.Round.{Bytes}
 use Rattle.feldrime.specs.declared.Answer.{Answer}
@@ -28,10 +28,10 @@ module _ (numbers chars : List ℕ) {a : Answer} {x y : List ℕ}
       let refused : doneOf (toTableCheck numbers chars) ≡ false = ne-eqb _ _ (λ z. e (ap (λ (k : Answer). k .refusal) (there .0) ∙ z)) in
       (there .0, rw refused (there .1 ∙ table-refused numbers chars refused .0), there .2)
 
-  pub moved-back : Bytes numbers → a .refusal ≡ 0 → {c : Answer} {z : List ℕ} → (c ≡ answerOf (toSheetCheck x y)) × (z ≡ toSheetNumbers x y)
+  pub moved-to-sheet : Bytes numbers → a .refusal ≡ 0 → {c : Answer} {z : List ℕ} → (c ≡ answerOf (toSheetCheck x y)) × (z ≡ toSheetNumbers x y)
       → (c ≡ answerOf (toTableCheck numbers chars)) × (z ≡ returnedNumbers numbers chars) × (y ≡ toTableChars numbers chars)
   unfolding returnedNumbers
-  moved-back fits e back =
+  moved-to-sheet fits e back =
       let done = answer-done (toTableCheck numbers chars) (there .0) e in
       let again = sheet-again numbers chars done fits in
       let answered : toSheetCheck x y ≡ Done = rw (there .1, there .2) (again .0) in

@@ -19,6 +19,7 @@ use Rattle.board.specs.Modes.{versionOf}
 use Rattle.board.specs.Range.{memoriesRefused}
 use Rattle.board.specs.Laws.{memories-all, layout-kept}
 use Rattle.timing.specs.Check.{pageCheck, stateRefused, callCheck}
+use Rattle.timing.specs.Laws.{range-ok}
 use Rattle.files.specs.declared.PageRead.{PageRead}
 use Rattle.files.specs.Page.{versionIn, pageAt, pageBytes}
 use Rattle.files.specs.File.{fileCheck, readCheck, readPageOf, headOf, fileOf, writeCheck, written}
@@ -31,7 +32,6 @@ use Rattle.feldrime.specs.declared.Answer.{Answer}
 use Rattle.feldrime.specs.declared.BoardAnswer.{BoardAnswer}
 use Rattle.feldrime.specs.Answers.{answerOf}
 use Rattle.feldrime.specs.Pages.{boardFor}
-use Rattle.agreement.specs.Steps.{range-ok}
 use Rattle.agreement.specs.Files.{length-file, board-same}
 use Rattle.callers.specs.Sizes.{made-refused, made-done}
 

@@ -17,6 +17,7 @@ use Rattle.board.specs.declared.Board.{Board}
 use Rattle.board.specs.Range.{addressRefused}
 use Rattle.timing.specs.Fields.{visibleOf}
 use Rattle.timing.specs.Check.{reservedRefused, backPorchRefused, lineShort, frontPorchRefused, missing, widthRefused, pageCheck, sizeOf, stateRefused, callCheck}
+use Rattle.timing.specs.Laws.{range-ok, call-ok}
 use Rattle.shape.specs.Font.{Font, fontOf}
 use Rattle.line.specs.Line.{lineLength, lineDots, drawCheck, drawnOf}
 use Rattle.video.specs.At.{lentRefused}
@@ -31,7 +32,6 @@ use Rattle.feldrime.specs.Answers.{answerOf}
 use Rattle.feldrime.specs.Pages.{sizeFor, boardFor}
 use Rattle.feldrime.specs.LineDraw.{lineDrawCheck, lineDrawn}
 use Rattle.feldrime.specs.Step.{numbered, stepNumbers}
-use Rattle.agreement.specs.Steps.{range-ok, call-ok}
 use Rattle.callers_stepped.specs.Lines.{Steppable}
 
 -- a number with none beside it

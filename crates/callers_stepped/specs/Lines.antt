@@ -20,12 +20,13 @@ use Rattle.shape.specs.Font.{Font, fontOf}
 use Rattle.line.specs.Line.{columnDots, lineLength}
 use Rattle.line.specs.Length.{length-dots}
 use Rattle.step.specs.Step.{stepCheck}
+use Rattle.step.specs.After.{after, fits}
 use Rattle.place.specs.State.{stateOf}
 use Rattle.feldrime.specs.declared.StepBy.{StepBy}
 use Rattle.feldrime.specs.declared.BoardAnswer.{BoardAnswer}
 use Rattle.feldrime.specs.Answers.{boardAnswer}
 use Rattle.feldrime.specs.Step.{numbered, stepNumbers}
-use Rattle.agreement.specs.Steps.{after, fits, at-once}
+use Rattle.agreement.specs.Steps.{at-once}
 use Rattle.agreement.specs.Lines.{lineCount, clockOf, dots-are}
 
 -- a line that stepping can draw

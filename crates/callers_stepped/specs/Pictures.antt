@@ -15,7 +15,7 @@ use Rattle.refusal.specs.Laws.{passed}
 use Rattle.board.specs.declared.Board.{Board}
 use Rattle.timing.specs.Fields.{visibleOf}
 use Rattle.timing.specs.Check.{pageCheck, sizeOf}
-use Rattle.timing.specs.Laws.{Accepted, call-passed, visible-bound, dots-bound}
+use Rattle.timing.specs.Laws.{Accepted, call-passed, visible-bound, dots-bound, call-page}
 use Rattle.shape.specs.Font.{Font, fontOf}
 use Rattle.video.specs.At.{lentRefused}
 use Rattle.line.specs.Line.{lineDots, lineLength}
@@ -23,13 +23,13 @@ use Rattle.line.specs.Length.{length-line}
 use Rattle.picture.specs.Picture.{pictureDots, pictureLength, pictureCheck, picturedOf}
 use Rattle.picture.specs.Agree.{picture-passed}
 use Rattle.step.specs.Step.{stepCheck}
+use Rattle.step.specs.After.{fits}
 use Rattle.numbers.specs.Numbers.{numbersRefused, numbersBoard, numbersCheck}
 use Rattle.feldrime.specs.declared.SizeAnswer.{SizeAnswer}
 use Rattle.feldrime.specs.Answers.{answerOf, sizeAnswer}
 use Rattle.feldrime.specs.Pages.{sizeFor}
 use Rattle.feldrime.specs.LineDraw.{lineDrawn}
 use Rattle.feldrime.specs.PictureDraw.{pictureDrawCheck, pictureDrawn}
-use Rattle.agreement.specs.Steps.{call-page, fits}
 use Rattle.agreement.specs.Lines.{draw-is}
 use Rattle.agreement.specs.FromC.{zero-done, fit-from-c}
 

@@ -14,11 +14,12 @@ use Rattle.board.specs.declared.Board.{Board}
 use Rattle.shape.specs.Font.{Font, fontOf}
 use Rattle.place.specs.State.{stateOf}
 use Rattle.step.specs.Step.{stepCheck, stepOf}
+use Rattle.step.specs.After.{after}
 use Rattle.feldrime.specs.declared.BoardAnswer.{BoardAnswer}
 use Rattle.feldrime.specs.declared.StepBy.{StepBy}
 use Rattle.feldrime.specs.Answers.{boardAnswer}
 use Rattle.feldrime.specs.Step.{stepNumbers}
-use Rattle.agreement.specs.Steps.{after, at-once}
+use Rattle.agreement.specs.Steps.{at-once}
 use Rattle.callers_stepped.specs.Asked.{step-by-value, step-beside}
 
 -- what a step answers for the board; where that is 0, the board that is asked for at clock n, and else the old one

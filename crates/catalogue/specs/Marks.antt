@@ -1,7 +1,7 @@
 -- The cells that rows fetch, as marks in a list; the search for a stretch without one; and the table that is written there. Assumes nothing.
 --     marked-none, marked-more      the loop that marks
 --     Searching                     where the loop that searches stands, and how it begins, goes on and ends
---     sheet-place                   of a sheet it finds the place of `There.antt`
+--     sheet-place                   of a sheet it finds the place of `ToTable.antt`
 use Prim.Native.Nat.{ℕ, _+_, _-_, _*_, _/_, _%_, _≤_, _<_}
 use mathlib.Core.Path.{_≡_, refl, sym, ap, ap₂, _∙_}
 use mathlib.Core.Bool.{Bool, true, false, not, _&&_, _||_, true≢false}
@@ -35,9 +35,9 @@ use Rattle.timing.specs.Laws.{Accepted, call-passed, buffer-bounded}
 use Rattle.fetch.specs.Rows.{entryOf, fetchedOf, fetchAt}
 use Rattle.fetch.specs.Laws.{no-codes, start-sheet}
 use Rattle.catalogue.specs.declared.Moved.{Moved}
-use Rattle.catalogue.specs.Back.{followsRow, rowsApart, backPage, backOrder, backCheck, backOf}
+use Rattle.catalogue.specs.ToSheet.{followsRow, rowsApart, asSheetPage, asSheetOrder, asSheetCheck, asSheet}
 use Rattle.board.specs.Parts.{withPage}
-use Rattle.catalogue.specs.There.{fetchesCell, tableSize, tablePlaces, unfetchedAt, tablePlace, tableByte, therePage, thereChars, ownCheck, thereOrder, thereCheck, movedTo, thereOf, thereLeft}
+use Rattle.catalogue.specs.ToTable.{fetchesCell, tableSize, tablePlaces, unfetchedAt, tablePlace, tableByte, asTablePage, asTableChars, ownCheck, asTableOrder, asTableCheck, movedTo, asTable, asTableLeft}
 
 -- a move on from the cell n moves after another
 pub one-on : (b : Buffer) → Bounded b → (n a : ℕ) (x : Cell) → a < 16384 → x ≡ cell (advanceBy b n a) → cell (advance b (x .address)) ≡ cell (advanceBy b (n + 1) a)
@@ -258,42 +258,42 @@ module _ (p : Page) (chars : List ℕ) (a : Accepted p) (off : tableOf p ≡ fal
 
 -- the check as the code has it
 unfoldable pub sheetCheck : Board → (n : ℕ) → Refusal
-sheetCheck b n = pick (doneOf (ownCheck b n)) (thereOrder (b .page) (sheetPlace (b .page))) (ownCheck b n)
+sheetCheck b n = pick (doneOf (ownCheck b n)) (asTableOrder (b .page) (sheetPlace (b .page))) (ownCheck b n)
 
 pub own-passed : (b : Board) (n : ℕ) → ownCheck b n ≡ Done → Accepted (b .page) × (n ≡ 16384)
 unfolding ownCheck
 own-passed b n e = let k = call-passed b (memoryRefused n) false false e in (k .page, memory-all n (k .sized))
 
-pub same-check : (b : Board) (chars : List ℕ) → sheetCheck b (length chars) ≡ thereCheck b chars
-unfolding sheetCheck thereCheck
+pub same-check : (b : Board) (chars : List ℕ) → sheetCheck b (length chars) ≡ asTableCheck b chars
+unfolding sheetCheck asTableCheck
 same-check b chars = go (doneOf (ownCheck b (length chars))) refl (tableOf (b .page)) refl
   where
     p : Page
     p = b .page
 
     go : (t : Bool) → doneOf (ownCheck b (length chars)) ≡ t → (on : Bool) → tableOf p ≡ on
-        → pick t (thereOrder p (sheetPlace p)) (ownCheck b (length chars)) ≡ pick t (thereOrder p (tablePlace p chars)) (ownCheck b (length chars))
+        → pick t (asTableOrder p (sheetPlace p)) (ownCheck b (length chars)) ≡ pick t (asTableOrder p (tablePlace p chars)) (ownCheck b (length chars))
     go false e on q = refl
     go true e true q = rw q
-    go true e false q = ap (thereOrder p) (sheet-place p chars (own-passed b (length chars) (done-is _ e) .0) q)
+    go true e false q = ap (asTableOrder p) (sheet-place p chars (own-passed b (length chars) (done-is _ e) .0) q)
 
 -- a check that nothing refuses
 pub record Movable (b : Board) (chars : List ℕ) : Type 0 where
-  pub done : thereCheck b chars ≡ Done
+  pub done : asTableCheck b chars ≡ Done
   pub own : ownCheck b (length chars) ≡ Done
   pub page : Accepted (b .page)
   pub whole : length chars ≡ 16384
   pub off : tableOf (b .page) ≡ false
   pub found : tablePlace (b .page) chars < tablePlaces (b .page)
 
-pub there-passed : (b : Board) (chars : List ℕ) → thereCheck b chars ≡ Done → Movable b chars
-unfolding thereCheck tablePlace
-there-passed b chars all = go (doneOf (ownCheck b (length chars))) refl all
+pub as-table-passed : (b : Board) (chars : List ℕ) → asTableCheck b chars ≡ Done → Movable b chars
+unfolding asTableCheck tablePlace
+as-table-passed b chars all = go (doneOf (ownCheck b (length chars))) refl all
   where
     p : Page
     p = b .page
 
-    go : (t : Bool) → doneOf (ownCheck b (length chars)) ≡ t → pick t (thereOrder p (tablePlace p chars)) (ownCheck b (length chars)) ≡ Done → Movable b chars
+    go : (t : Bool) → doneOf (ownCheck b (length chars)) ≡ t → pick t (asTableOrder p (tablePlace p chars)) (ownCheck b (length chars)) ≡ Done → Movable b chars
     go false q e = absurd (true≢false (sym (ap doneOf e) ∙ q))
     go true q e =
         let own = own-passed b (length chars) (done-is _ q) in
@@ -308,28 +308,28 @@ module _ (b : Board) (chars : List ℕ) where
   page = b .page
 
   -- a table has room where it is written
-  pub there-room : Movable b chars → {a : ℕ} → a ≡ sheetPlace page → (a + tableSize page ≤ length chars) × (a < 16384)
-  there-room m e =
+  pub as-table-room : Movable b chars → {a : ℕ} → a ≡ sheetPlace page → (a + tableSize page ≤ length chars) × (a < 16384)
+  as-table-room m e =
       let k = e ∙ sheet-place page chars (m .page) (m .off) in
       (omega (arith, k, m .found, m .whole), omega (arith, k, m .found))
 
   -- what is answered and left, in the words of the calls that move the page
-  pub there-moved : Movable b chars → {r : Refusal} {a : ℕ} {p : Page} {n : Board} → r ≡ thereCheck b chars → a ≡ sheetPlace page → p ≡ therePage page a → n ≡ withPage b p → (out : List ℕ)
+  pub as-table-moved : Movable b chars → {r : Refusal} {a : ℕ} {p : Page} {n : Board} → r ≡ asTableCheck b chars → a ≡ sheetPlace page → p ≡ asTablePage page a → n ≡ withPage b p → (out : List ℕ)
       → out ≡ take a chars ++ (tab (tableSize page) (entryByte (bufferOf page) (page .starts .start1) (hactOf page)) ++ drop (a + tableSize page) chars)
-      → (_≡_ {A = Moved} (movedTo r n) (thereOf b chars)) × (out ≡ thereLeft b chars)
-  unfolding thereOf thereLeft thereChars
-  there-moved m re ae pe ne out q =
+      → (_≡_ {A = Moved} (movedTo r n) (asTable b chars)) × (out ≡ asTableLeft b chars)
+  unfolding asTable asTableLeft asTableChars
+  as-table-moved m re ae pe ne out q =
       let k = ae ∙ sheet-place page chars (m .page) (m .off) in
-      let moved = ne ∙ ap (withPage b) (pe ∙ ap (therePage page) k) in
+      let moved = ne ∙ ap (withPage b) (pe ∙ ap (asTablePage page) k) in
       let same = same-tab (tableSize page) _ _ (λ i _. sheet-byte page chars (m .page) (m .off) i) in
       rw (m .done) (
         (λ i. movedTo ((re ∙ m .done) i) (moved i)),
         q ∙ ap₂ (λ (x : ℕ) (l : List ℕ). take x chars ++ (l ++ drop (x + tableSize page) chars)) k same,
       )
 
-  pub there-kept : {r : Refusal} → r ≡ thereCheck b chars → doneOf (thereCheck b chars) ≡ false → (_≡_ {A = Moved} (movedTo r b) (thereOf b chars)) × (chars ≡ thereLeft b chars)
-  unfolding thereOf thereLeft
-  there-kept re d = (rw (re, d), rw d)
+  pub as-table-kept : {r : Refusal} → r ≡ asTableCheck b chars → doneOf (asTableCheck b chars) ≡ false → (_≡_ {A = Moved} (movedTo r b) (asTable b chars)) × (chars ≡ asTableLeft b chars)
+  unfolding asTable asTableLeft
+  as-table-kept re d = (rw (re, d), rw d)
 
 -- ---- the way back
 
@@ -348,14 +348,14 @@ unfolding rowsApart timingOf countsOf
 apart-all p chars te re e = rw (re, te) at e
 
 -- what is answered
-module _ (b : Board) (chars : List ℕ) {r : Refusal} (re : r ≡ backCheck b chars) where
-  pub back-moved : doneOf (backCheck b chars) ≡ true → {p : Page} {n : Board} → p ≡ backPage (b .page) chars → n ≡ withPage b p → _≡_ {A = Moved} (movedTo r n) (backOf b chars)
-  unfolding backOf
-  back-moved d pe ne = rw d (λ i. movedTo (re i) ((ne ∙ ap (withPage b) pe) i))
+module _ (b : Board) (chars : List ℕ) {r : Refusal} (re : r ≡ asSheetCheck b chars) where
+  pub as-sheet-moved : doneOf (asSheetCheck b chars) ≡ true → {p : Page} {n : Board} → p ≡ asSheetPage (b .page) chars → n ≡ withPage b p → _≡_ {A = Moved} (movedTo r n) (asSheet b chars)
+  unfolding asSheet
+  as-sheet-moved d pe ne = rw d (λ i. movedTo (re i) ((ne ∙ ap (withPage b) pe) i))
 
-  pub back-kept : doneOf (backCheck b chars) ≡ false → _≡_ {A = Moved} (movedTo r b) (backOf b chars)
-  unfolding backOf
-  back-kept d = rw (re, d)
+  pub as-sheet-kept : doneOf (asSheetCheck b chars) ≡ false → _≡_ {A = Moved} (movedTo r b) (asSheet b chars)
+  unfolding asSheet
+  as-sheet-kept d = rw (re, d)
 
 -- a check that nothing refuses
 pub record Returnable (b : Board) (chars : List ℕ) : Type 0 where
@@ -366,14 +366,14 @@ pub record Returnable (b : Board) (chars : List ℕ) : Type 0 where
   pub codeless : codedOf (b .page) ≡ false
   pub joined : rowsApart (b .page) chars ≡ false
 
-pub back-passed : (b : Board) (chars : List ℕ) → backCheck b chars ≡ Done → Returnable b chars
-unfolding backCheck
-back-passed b chars = go (doneOf (ownCheck b (length chars))) refl
+pub as-sheet-passed : (b : Board) (chars : List ℕ) → asSheetCheck b chars ≡ Done → Returnable b chars
+unfolding asSheetCheck
+as-sheet-passed b chars = go (doneOf (ownCheck b (length chars))) refl
   where
     p : Page
     p = b .page
 
-    go : (t : Bool) → doneOf (ownCheck b (length chars)) ≡ t → pick t (backOrder p chars) (ownCheck b (length chars)) ≡ Done → Returnable b chars
+    go : (t : Bool) → doneOf (ownCheck b (length chars)) ≡ t → pick t (asSheetOrder p chars) (ownCheck b (length chars)) ≡ Done → Returnable b chars
     go false d e = absurd (true≢false (sym (ap doneOf e) ∙ d))
     go true d e =
         let own = own-passed b (length chars) (done-is _ d) in
@@ -384,10 +384,10 @@ back-passed b chars = go (doneOf (ownCheck b (length chars))) refl
 
 -- ---- a moved page is as wide
 
-pub there-width : (b : Board) (chars : List ℕ) → doneOf (thereOf b chars .refusal) ≡ true → thereOf b chars .board .page .video .dots .0 ≤ 12
-unfolding thereOf therePage
-there-width b chars d = rw d (there-passed b chars (done-is _ d) .page .most)
+pub as-table-width : (b : Board) (chars : List ℕ) → doneOf (asTable b chars .refusal) ≡ true → asTable b chars .board .page .video .dots .0 ≤ 12
+unfolding asTable asTablePage
+as-table-width b chars d = rw d (as-table-passed b chars (done-is _ d) .page .most)
 
-pub back-width : (b : Board) (chars : List ℕ) → doneOf (backOf b chars .refusal) ≡ true → backOf b chars .board .page .video .dots .0 ≤ 12
-unfolding backOf backPage
-back-width b chars d = rw d (back-passed b chars (done-is _ d) .page .most)
+pub as-sheet-width : (b : Board) (chars : List ℕ) → doneOf (asSheet b chars .refusal) ≡ true → asSheet b chars .board .page .video .dots .0 ≤ 12
+unfolding asSheet asSheetPage
+as-sheet-width b chars d = rw d (as-sheet-passed b chars (done-is _ d) .page .most)

@@ -11,8 +11,8 @@ ghost use Rattle.raster.specs.Moves.{Bounded};
 ghost use Rattle.timing.specs.Fields.{hactOf, bufferOf};
 ghost use Rattle.timing.specs.Laws.{Accepted};
 ghost use Rattle.board.specs.Parts.{withPage};
-ghost use Rattle.catalogue.specs.There.{tableSize, therePage, ownCheck, thereOrder, MovesToTable};
-ghost use Rattle.catalogue.specs.Back.{rowsApart, backPage, backOrder, backCheck, backOf};
+ghost use Rattle.catalogue.specs.ToTable.{tableSize, asTablePage, ownCheck, asTableOrder, MovesToTable};
+ghost use Rattle.catalogue.specs.ToSheet.{rowsApart, asSheetPage, asSheetOrder, asSheetCheck, asSheet};
 ghost use Rattle.catalogue.specs.Marks.{markedBy, freeIn, sheetPlace, entryByte, sheetCheck};
 
 // A board with its page moved, or the old one.
@@ -100,9 +100,9 @@ fn own_check(b: board::Board, n: usize) -> refusal::Refusal
 }
 
 // 16, 19, 17 for an accepted page.
-fn there_order(p: board::Page) -> refusal::Refusal
+fn as_table_order(p: board::Page) -> refusal::Refusal
     requires { ⌜ Accepted p ⌝ }
-    ensures { λ r. ⌜ r ≡ thereOrder p (sheetPlace p) ⌝ }
+    ensures { λ r. ⌜ r ≡ asTableOrder p (sheetPlace p) ⌝ }
 {
     if timing::table_of(p) {
         return refusal::Refusal::Kind;
@@ -117,19 +117,19 @@ fn there_order(p: board::Page) -> refusal::Refusal
     refusal::Refusal::Done
 }
 
-fn there_check(b: board::Board, n: usize) -> refusal::Refusal
+fn as_table_check(b: board::Board, n: usize) -> refusal::Refusal
     ensures { λ r. ⌜ r ≡ sheetCheck b n ⌝ }
 {
     let refused = own_check(b, n);
     if refusal::is_done(refused) {
-        return there_order(b.page);
+        return as_table_order(b.page);
     }
     refused
 }
 
 // The page with a table at a place.
-fn there_page(p: board::Page, place: u16) -> board::Page
-    ensures { λ r. ⌜ r ≡ therePage p place ⌝ }
+fn as_table_page(p: board::Page, place: u16) -> board::Page
+    ensures { λ r. ⌜ r ≡ asTablePage p place ⌝ }
 {
     let mut n = p;
     n.irs[2] = n.irs[2] % 128 + 128;
@@ -171,14 +171,14 @@ fn write_table(chars: &mut [u8], p: board::Page, place: usize)
 pub fn to_table(b: board::Board, chars: &mut [u8]) -> Moved
     ensures { λ r. ⌜ MovesToTable b (now (chars .entry)) r (now (chars .exit)) ⌝ }
 {
-    let refused = there_check(b, chars.len());
+    let refused = as_table_check(b, chars.len());
     if refusal::is_done(refused) {
         let page = b.page;
         let place = place_for(page);
         write_table(chars, page, place);
         return Moved {
             refusal: refused,
-            board: with_page(b, there_page(page, place as u16)),
+            board: with_page(b, as_table_page(page, place as u16)),
         };
     }
     Moved {
@@ -208,9 +208,9 @@ fn rows_apart(p: board::Page, chars: &[u8]) -> bool
 }
 
 // 16, 19, 18 for an accepted page.
-fn back_order(p: board::Page, chars: &[u8]) -> refusal::Refusal
+fn as_sheet_order(p: board::Page, chars: &[u8]) -> refusal::Refusal
     requires { ⌜ Accepted p × (length (now chars) ≡ 16384) ⌝ }
-    ensures { λ r. ⌜ r ≡ backOrder p (now (chars .entry)) ⌝ }
+    ensures { λ r. ⌜ r ≡ asSheetOrder p (now (chars .entry)) ⌝ }
 {
     if !timing::table_of(p) {
         return refusal::Refusal::Kind;
@@ -224,20 +224,20 @@ fn back_order(p: board::Page, chars: &[u8]) -> refusal::Refusal
     refusal::Refusal::Done
 }
 
-fn back_check(b: board::Board, chars: &[u8]) -> refusal::Refusal
-    ensures { λ r. ⌜ r ≡ backCheck b (now (chars .entry)) ⌝ }
+fn as_sheet_check(b: board::Board, chars: &[u8]) -> refusal::Refusal
+    ensures { λ r. ⌜ r ≡ asSheetCheck b (now (chars .entry)) ⌝ }
 {
     let refused = own_check(b, chars.len());
     if refusal::is_done(refused) {
-        return back_order(b.page, chars);
+        return as_sheet_order(b.page, chars);
     }
     refused
 }
 
 // The page without its table.
-fn back_page(p: board::Page, chars: &[u8]) -> board::Page
+fn as_sheet_page(p: board::Page, chars: &[u8]) -> board::Page
     requires { ⌜ length (now chars) ≡ 16384 ⌝ }
-    ensures { λ r. ⌜ r ≡ backPage p (now (chars .entry)) ⌝ }
+    ensures { λ r. ⌜ r ≡ asSheetPage p (now (chars .entry)) ⌝ }
 {
     let first = fetch::entry(p, chars, 0);
     let mut n = p;
@@ -248,14 +248,14 @@ fn back_page(p: board::Page, chars: &[u8]) -> board::Page
 
 // A page whose rows follow one another becomes a sheet.
 pub fn to_sheet(b: board::Board, chars: &[u8]) -> Moved
-    ensures { λ r. ⌜ r ≡ backOf b (now (chars .entry)) ⌝ }
+    ensures { λ r. ⌜ r ≡ asSheet b (now (chars .entry)) ⌝ }
 {
-    let refused = back_check(b, chars);
+    let refused = as_sheet_check(b, chars);
     if refusal::is_done(refused) {
         let page = b.page;
         return Moved {
             refusal: refused,
-            board: with_page(b, back_page(page, chars)),
+            board: with_page(b, as_sheet_page(page, chars)),
         };
     }
     Moved {

@@ -8,8 +8,8 @@ use Rattle.lists.specs.Choice.{pick}
 use Rattle.refusal.specs.declared.Refusal.{Refusal}
 use Rattle.refusal.specs.declared.Refusal.the-variants.{Size}
 use Rattle.catalogue.specs.declared.Moved.{Moved}
-use Rattle.catalogue.specs.There.{thereOf, thereLeft}
-use Rattle.catalogue.specs.Back.{backOf}
+use Rattle.catalogue.specs.ToTable.{asTable, asTableLeft}
+use Rattle.catalogue.specs.ToSheet.{asSheet}
 use Rattle.numbers.specs.Numbers.{numbersRefused, numbersBoard, pageOrOwn}
 
 -- the moved page in the place of the numbers' own; a refusal leaves them
@@ -18,21 +18,21 @@ movedNumbers m numbers = pageOrOwn (m .refusal) (m .board .page) numbers
 
 -- 3 for the numbers, then the move's own
 unfoldable pub toTableCheck : (numbers chars : List ℕ) → Refusal
-toTableCheck numbers chars = pick (numbersRefused numbers) Size (thereOf (numbersBoard numbers) chars .refusal)
+toTableCheck numbers chars = pick (numbersRefused numbers) Size (asTable (numbersBoard numbers) chars .refusal)
 
 unfoldable pub toSheetCheck : (numbers chars : List ℕ) → Refusal
-toSheetCheck numbers chars = pick (numbersRefused numbers) Size (backOf (numbersBoard numbers) chars .refusal)
+toSheetCheck numbers chars = pick (numbersRefused numbers) Size (asSheet (numbersBoard numbers) chars .refusal)
 
 -- the numbers afterwards
 unfoldable pub toTableNumbers : (numbers chars : List ℕ) → List ℕ
-toTableNumbers numbers chars = pick (numbersRefused numbers) numbers (movedNumbers (thereOf (numbersBoard numbers) chars) numbers)
+toTableNumbers numbers chars = pick (numbersRefused numbers) numbers (movedNumbers (asTable (numbersBoard numbers) chars) numbers)
 
 unfoldable pub toSheetNumbers : (numbers chars : List ℕ) → List ℕ
-toSheetNumbers numbers chars = pick (numbersRefused numbers) numbers (movedNumbers (backOf (numbersBoard numbers) chars) numbers)
+toSheetNumbers numbers chars = pick (numbersRefused numbers) numbers (movedNumbers (asSheet (numbersBoard numbers) chars) numbers)
 
 -- character memory afterwards
 unfoldable pub toTableChars : (numbers chars : List ℕ) → List ℕ
-toTableChars numbers chars = pick (numbersRefused numbers) chars (thereLeft (numbersBoard numbers) chars)
+toTableChars numbers chars = pick (numbersRefused numbers) chars (asTableLeft (numbersBoard numbers) chars)
 
 -- ---- the calls: the answer, the numbers and character memory afterwards
 

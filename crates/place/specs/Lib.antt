@@ -5,3 +5,4 @@ pub mod State
 pub mod Laws
 pub mod Settled
 pub mod Beam
+pub mod Walk

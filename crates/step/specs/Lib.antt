@@ -3,3 +3,4 @@ pub mod Signals
 pub mod Step
 pub mod Shown
 pub mod Laws
+pub mod After

@@ -245,11 +245,7 @@ fn one_clock(
         refusal: refusal::Refusal::Done,
         signals: signals_of(b, active, shown.cursor),
         address: c.beam.address,
-        dots: column_dots(
-            b,
-            active & raster::is_wide(raster::code_of(code)),
-            shown,
-        ),
+        dots: column_dots(b, active & raster::is_wide(raster::code_of(code)), shown),
         place: next,
     }
 }

@@ -5,7 +5,7 @@ use mathlib.Core.Bool.{Bool, true, false, not, _&&_, _||_, true≢false}
 use mathlib.Core.List.{List}
 use native.Mathlib.Nat.{mul-le-mul, div-lt-iff-lt-mul}
 use native.Mathlib.Omega.{arith}
-use borrow.Author.Tests.{ltb-false, leb-false, eqb-false}
+use borrow.Author.Tests.{ltb-false, leb-false, eqb-false, lt-leb, le-ltb}
 use lib.Dec.{eqb, ltb, leb}
 use Rattle.lists.specs.Choice.{pick, neither, pick-le}
 use Rattle.units.specs.declared.Lines.{Lines}
@@ -214,6 +214,25 @@ call-passed b size asked room e =
       in-reach = q .1;
       roomy = o .0;
     }
+
+pub call-page : (b : Board) (size asked room : Bool) → callCheck b size asked room ≡ Done → pageCheck (b .page) ≡ Done
+unfolding callCheck
+call-page b size asked room e = not-refused (pageCheck (b .page)) _ (passed size Size _ refl e .1) .0
+
+-- ---- what is in range and accepted is not refused
+
+pub range-ok : (b : Board) → InRange b → stateRefused b ≡ false
+unfolding stateRefused
+range-ok b i =
+    let line = lt-leb (vtOf (b .page)) (b .place .line .0) (i .line-lt) in
+    let clock = lt-leb (htOf (b .page)) (b .place .clock .0) (i .clock-lt) in
+    let beam = le-ltb 16383 (b .place .beam .address) (i .beam-le) in
+    let row = le-ltb 16383 (b .place .row .address) (i .row-le) in
+    rw (line, clock, beam, row, le-ltb (lastIr (b .page .version)) (b .pointer) (i .pointer-le))
+
+pub call-ok : (b : Board) (size : Bool) → size ≡ false → pageCheck (b .page) ≡ Done → stateRefused b ≡ false → callCheck b size false false ≡ Done
+unfolding callCheck
+call-ok b size s p r = rw (s, p, r)
 
 -- the refusal that comes with the size is the page's own
 pub size-refusal : (p : Page) → sizeOf p .refusal ≡ pageCheck p

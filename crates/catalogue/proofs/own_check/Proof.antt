@@ -1,5 +1,5 @@
 use borrow.Author.Needs.{needs}
-use Rattle.catalogue.specs.There.{ownCheck}
+use Rattle.catalogue.specs.ToTable.{ownCheck}
 use Rattle.catalogue.proofs.own_check.Statement.{statement}
 use Rattle.catalogue.proofs.own_check.Tie as tie
 

@@ -3,8 +3,8 @@ use mathlib.Core.Path.{_≡_, sym, ap, _∙_}
 use borrow.Author.Needs.{needs}
 use Rattle.board.specs.declared.Board.{Board}
 use Rattle.catalogue.specs.declared.Moved.{Moved}
-use Rattle.catalogue.specs.Back.{backOf}
-use Rattle.catalogue.specs.Marks.{back-width}
+use Rattle.catalogue.specs.ToSheet.{asSheet}
+use Rattle.catalogue.specs.Marks.{as-sheet-width}
 use Rattle.numbers.specs.Numbers.{numbersBoard}
 use Rattle.numbers.specs.Laws.{numbers-all, numbers-room}
 use Rattle.feldrime.specs.Catalogue.{movedNumbers, toSheetCheck, toSheetNumbers}
@@ -16,8 +16,8 @@ use Rattle.feldrime.proofs.feldrime_to_sheet.Tie as tie
 abbrev begin : tie.After-to-sheet → tie.Start
 begin c = c .before .before .before .before .before .before .before .before
 
-moved : (c : tie.After-to-sheet) → c .to-sheet .result ≡ backOf (numbersBoard (begin c .args .numbers .now)) (begin c .args .chars .now)
-moved c = c .to-sheet .ensures ∙ ap (λ (b : Board). backOf b (begin c .args .chars .now)) (c .before .board-at .ensures)
+moved : (c : tie.After-to-sheet) → c .to-sheet .result ≡ asSheet (numbersBoard (begin c .args .numbers .now)) (begin c .args .chars .now)
+moved c = c .to-sheet .ensures ∙ ap (λ (b : Board). asSheet b (begin c .args .chars .now)) (c .before .board-at .ensures)
 
 returns : tie.Need-returns
 unfolding toSheetCheck toSheetNumbers
@@ -32,7 +32,7 @@ put-page-requires : tie.Need-put-page-requires
 put-page-requires c κs =
     let back = c .before .before in
     let left = back .before .before .before in
-    (numbers-all _ (sym (left .before .numbers-refused .ensures) ∙ left .if1 .left), rw (moved back) (back-width _ _))
+    (numbers-all _ (sym (left .before .numbers-refused .ensures) ∙ left .if1 .left), rw (moved back) (as-sheet-width _ _))
 
 returns-2 : tie.Need-returns-2
 unfolding toSheetCheck toSheetNumbers

@@ -4,8 +4,8 @@ use borrow.Author.Needs.{needs}
 use Rattle.lists.specs.Choice.{stop, pass}
 use Rattle.board.specs.declared.Board.{Board}
 use Rattle.catalogue.specs.declared.Moved.{Moved}
-use Rattle.catalogue.specs.There.{thereOf, thereLeft}
-use Rattle.catalogue.specs.Marks.{there-width}
+use Rattle.catalogue.specs.ToTable.{asTable, asTableLeft}
+use Rattle.catalogue.specs.Marks.{as-table-width}
 use Rattle.numbers.specs.Numbers.{numbersBoard}
 use Rattle.numbers.specs.Laws.{numbers-all, numbers-room}
 use Rattle.feldrime.specs.Catalogue.{movedNumbers, toTableCheck, toTableNumbers, toTableChars}
@@ -17,8 +17,8 @@ use Rattle.feldrime.proofs.feldrime_to_table.Tie as tie
 abbrev begin : tie.After-to-table → tie.Start
 begin c = c .before .before .before .before .before .before .before .before .before
 
-moved : (c : tie.After-to-table) → c .to-table .result ≡ thereOf (numbersBoard (begin c .args .numbers .now)) (begin c .args .chars .now)
-moved c = c .to-table .ensures .0 ∙ ap (λ (b : Board). thereOf b (begin c .args .chars .now)) (c .before .before .board-at .ensures)
+moved : (c : tie.After-to-table) → c .to-table .result ≡ asTable (numbersBoard (begin c .args .numbers .now)) (begin c .args .chars .now)
+moved c = c .to-table .ensures .0 ∙ ap (λ (b : Board). asTable b (begin c .args .chars .now)) (c .before .before .board-at .ensures)
 
 returns : tie.Need-returns
 unfolding toTableCheck toTableNumbers toTableChars
@@ -36,7 +36,7 @@ put-page-requires : tie.Need-put-page-requires
 put-page-requires c κs =
     let there = c .before .before .before .before in
     let left = there .before .before .before .before in
-    (numbers-all _ (sym (left .before .numbers-refused .ensures) ∙ left .if1 .left), rw (moved there) (there-width _ _))
+    (numbers-all _ (sym (left .before .numbers-refused .ensures) ∙ left .if1 .left), rw (moved there) (as-table-width _ _))
 
 returns-2 : tie.Need-returns-2
 unfolding toTableCheck toTableNumbers toTableChars
@@ -52,7 +52,7 @@ returns-2 c =
     (c .answered2 .ensures) in (
       left-so .0,
       left-so .1,
-      pass _ t (there .to-table .ensures .1 ∙ ap (λ (b : Board). thereLeft b (begin there .args .chars .now)) (there .before .before .board-at .ensures)),
+      pass _ t (there .to-table .ensures .1 ∙ ap (λ (b : Board). asTableLeft b (begin there .args .chars .now)) (there .before .before .board-at .ensures)),
     )
 
 pub feldrime-to-table-spec : {M : Type 1} → statement M

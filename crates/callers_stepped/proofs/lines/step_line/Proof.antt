@@ -9,8 +9,8 @@ use Rattle.lists.specs.Fill.{Filling}
 use Rattle.lists.specs.Join.{joined, stretch-inside, join-begins, join-turn, join-ends}
 use Rattle.shape.specs.Font.{fontOf}
 use Rattle.line.specs.Line.{columnDots, lineDots}
+use Rattle.step.specs.After.{after}
 use Rattle.timing.specs.Fields.{hactOf}
-use Rattle.agreement.specs.Steps.{after}
 use Rattle.agreement.specs.Lines.{clockOf}
 use Rattle.timing.specs.Decoded.{hact-is}
 use Rattle.callers_stepped.specs.Lines.{width, turns-fit, each, line-begins, goes-on, wide, enough, copied}

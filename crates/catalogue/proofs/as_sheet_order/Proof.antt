@@ -3,8 +3,8 @@ use mathlib.Core.Path.{refl, sym, ap, _∙_}
 use mathlib.Core.Bool.{not}
 use borrow.Author.Needs.{needs}
 use Rattle.lists.specs.Choice.{stop, pass}
-use Rattle.catalogue.proofs.back_order.Statement.{statement}
-use Rattle.catalogue.proofs.back_order.Tie as tie
+use Rattle.catalogue.proofs.as_sheet_order.Statement.{statement}
+use Rattle.catalogue.proofs.as_sheet_order.Tie as tie
 
 returns : tie.Need-returns
 returns c = stop _ (ap not (sym (c .before .table-of .ensures)) ∙ c .if1 .taken) refl
@@ -30,5 +30,5 @@ returns-4 c =
     (pass _ (sym (plain .before .coded-of .ensures) ∙ plain .if2 .left)
     (pass _ (sym (c .before .rows-apart .ensures) ∙ c .if3 .left) refl))
 
-pub back-order-spec : {M : Type 1} → statement M
-back-order-spec = tie.close (tie.spec (λ c κs. search needs) returns (λ c κs. search needs) returns-2 (λ c κs. search needs) returns-3 returns-4)
+pub as-sheet-order-spec : {M : Type 1} → statement M
+as-sheet-order-spec = tie.close (tie.spec (λ c κs. search needs) returns (λ c κs. search needs) returns-2 (λ c κs. search needs) returns-3 returns-4)

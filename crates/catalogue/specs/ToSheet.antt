@@ -16,7 +16,7 @@ use Rattle.timing.specs.Fields.{ir, codedOf, tableOf, rowsOf, hactOf, bufferOf}
 use Rattle.fetch.specs.Rows.{entryOf}
 use Rattle.catalogue.specs.declared.Moved.{Moved}
 use Rattle.board.specs.Parts.{withIrs, withStarts, withPage}
-use Rattle.catalogue.specs.There.{ownCheck, movedTo}
+use Rattle.catalogue.specs.ToTable.{ownCheck, movedTo}
 
 -- [R-5 back] the way back takes a plain page whose every later entry is where the row before ended; row 0's is anything
 -- the entry of the row after row r is where row r ended; of its high byte six bits count
@@ -35,19 +35,19 @@ sheetAt p a =
     withStarts (withIrs p (set (p .irs) 2 (ir p 2 % 128))) (record { start1 = a; cursor = p .starts .cursor; start2 = p .starts .start2 })
 
 -- [R-5 sheet] it clears IR2[7], sets screen start 1 to the first entry, and leaves memory
-unfoldable pub backPage : Page → (chars : List ℕ) → Page
-backPage p chars = sheetAt p (entryOf p chars 0)
+unfoldable pub asSheetPage : Page → (chars : List ℕ) → Page
+asSheetPage p chars = sheetAt p (entryOf p chars 0)
 
 -- [R-5 refusals]
 -- 16, 19, 18
-abbrev pub backOrder : Page → (chars : List ℕ) → Refusal
-backOrder p chars = firstOf ((not (tableOf p), Kind) ∷ (codedOf p, Coded) ∷ (rowsApart p chars, Apart) ∷ []) Done
+abbrev pub asSheetOrder : Page → (chars : List ℕ) → Refusal
+asSheetOrder p chars = firstOf ((not (tableOf p), Kind) ∷ (codedOf p, Coded) ∷ (rowsApart p chars, Apart) ∷ []) Done
 
 -- [R-5 refusals]
 -- after the page's own
-unfoldable pub backCheck : Board → (chars : List ℕ) → Refusal
-backCheck b chars = pick (doneOf (ownCheck b (length chars))) (backOrder (b .page) chars) (ownCheck b (length chars))
+unfoldable pub asSheetCheck : Board → (chars : List ℕ) → Refusal
+asSheetCheck b chars = pick (doneOf (ownCheck b (length chars))) (asSheetOrder (b .page) chars) (ownCheck b (length chars))
 
 -- [R-5 sheet]
-unfoldable pub backOf : Board → (chars : List ℕ) → Moved
-backOf b chars = movedTo (backCheck b chars) (pick (doneOf (backCheck b chars)) (withPage b (backPage (b .page) chars)) b)
+unfoldable pub asSheet : Board → (chars : List ℕ) → Moved
+asSheet b chars = movedTo (asSheetCheck b chars) (pick (doneOf (asSheetCheck b chars)) (withPage b (asSheetPage (b .page) chars)) b)

@@ -1,8 +1,8 @@
--- Rests on not-moved and moved-back.
+-- Rests on not-moved and moved-to-sheet.
 use borrow.Author.Needs.{needs}
-use Rattle.callers.specs.Moved.{not-moved, moved-back}
-use Rattle.callers.proofs.moved.there_and_back.Statement.{statement}
-use Rattle.callers.proofs.moved.there_and_back.Tie as tie
+use Rattle.callers.specs.Moved.{not-moved, moved-to-sheet}
+use Rattle.callers.proofs.moved.table_then_sheet.Statement.{statement}
+use Rattle.callers.proofs.moved.table_then_sheet.Tie as tie
 
 returns : tie.Need-returns
 returns c = not-moved _ _ (c .before .before .before .before .before .before .feldrime-to-table .ensures) (c .if1 .taken)
@@ -12,10 +12,10 @@ returns-2 c =
     let left = c .before .before .before .before .before in
     let there = left .before .before .before .before .before .before in
     let known = there .before .before .before .before in
-    moved-back _ _ (there .feldrime-to-table .ensures) (λ i. known .slice-known .given i .fits) (left .if1 .left) (c .before .before .feldrime-to-sheet .ensures)
+    moved-to-sheet _ _ (there .feldrime-to-table .ensures) (λ i. known .slice-known .given i .fits) (left .if1 .left) (c .before .before .feldrime-to-sheet .ensures)
 
-pub there-and-back-spec : {M : Type 1} → statement M
-there-and-back-spec =
+pub table-then-sheet-spec : {M : Type 1} → statement M
+table-then-sheet-spec =
     tie.close
     (tie.spec
     (λ c κs. search needs)

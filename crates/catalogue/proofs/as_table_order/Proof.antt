@@ -6,8 +6,8 @@ use borrow.Author.Needs.{needs}
 use borrow.Author.Tests.{eq-eqb, ne-eqb}
 use Rattle.lists.specs.Choice.{stop, pass}
 use Rattle.timing.specs.Fields.{timingOf, countsOf}
-use Rattle.catalogue.proofs.there_order.Statement.{statement}
-use Rattle.catalogue.proofs.there_order.Tie as tie
+use Rattle.catalogue.proofs.as_table_order.Statement.{statement}
+use Rattle.catalogue.proofs.as_table_order.Tie as tie
 
 returns : tie.Need-returns
 returns c = stop _ (sym (c .before .table-of .ensures) ∙ c .if1 .taken) refl
@@ -50,8 +50,8 @@ returns-4 c =
     (pass _ (sym (plain .before .coded-of .ensures) ∙ plain .if2 .left)
     (pass _ (ne-eqb _ _ (rw (c .before .before .place-for .ensures, timed .timing-of .ensures) at (c .if3 .left))) refl))
 
-pub there-order-spec : {M : Type 1} → statement M
-there-order-spec =
+pub as-table-order-spec : {M : Type 1} → statement M
+as-table-order-spec =
     tie.close
     (tie.spec
     (λ c κs. search needs)

@@ -51,14 +51,14 @@ tableByte p chars i = pick (eqb (i % 2) 0) (rowStart p chars (i / 2) % 256) (row
 
 -- [R-5 table]
 -- the page with it: screen start 2 is its place and IR2[7] is set, nothing else changes
-unfoldable pub therePage : Page → (place : ℕ) → Page
-therePage p a =
+unfoldable pub asTablePage : Page → (place : ℕ) → Page
+asTablePage p a =
     withStarts (withIrs p (set (p .irs) 2 (ir p 2 % 128 + 128))) (record { start1 = p .starts .start1; cursor = p .starts .cursor; start2 = a })
 
 -- [R-5 table]
 -- character memory with it
-unfoldable pub thereChars : Page → (chars : List ℕ) → (place : ℕ) → List ℕ
-thereChars p chars a = take a chars ++ (tab (tableSize p) (tableByte p chars) ++ drop (a + tableSize p) chars)
+unfoldable pub asTableChars : Page → (chars : List ℕ) → (place : ℕ) → List ℕ
+asTableChars p chars a = take a chars ++ (tab (tableSize p) (tableByte p chars) ++ drop (a + tableSize p) chars)
 
 -- [R-5 refusals]
 -- the page's own: 3 for character memory, 12, 4, 13, 14, 15, 6, 7
@@ -67,27 +67,27 @@ ownCheck b n = callCheck b (memoryRefused n) false false
 
 -- [R-5 refusals] after the page's own 16, 19, 17 or 18, each exactly when its fact holds and none before it does
 -- then 16, 19, 17
-abbrev pub thereOrder : Page → (place : ℕ) → Refusal
-thereOrder p a = firstOf ((tableOf p, Kind) ∷ (codedOf p, Coded) ∷ (eqb a (tablePlaces p), Stretch) ∷ []) Done
+abbrev pub asTableOrder : Page → (place : ℕ) → Refusal
+asTableOrder p a = firstOf ((tableOf p, Kind) ∷ (codedOf p, Coded) ∷ (eqb a (tablePlaces p), Stretch) ∷ []) Done
 
 -- [R-5 refusals]
-unfoldable pub thereCheck : Board → (chars : List ℕ) → Refusal
-thereCheck b chars = pick (doneOf (ownCheck b (length chars))) (thereOrder (b .page) (tablePlace (b .page) chars)) (ownCheck b (length chars))
+unfoldable pub asTableCheck : Board → (chars : List ℕ) → Refusal
+asTableCheck b chars = pick (doneOf (ownCheck b (length chars))) (asTableOrder (b .page) (tablePlace (b .page) chars)) (ownCheck b (length chars))
 
 abbrev pub movedTo : Refusal → Board → Moved
 movedTo r b = record { refusal = r; board = b }
 
 -- [R-5 same] typed sheets become row table pages with the same picture in every frame
 -- pointer, place and power state stay; a refusal gives the old board and leaves memory
-unfoldable pub thereOf : Board → (chars : List ℕ) → Moved
-thereOf b chars =
-    movedTo (thereCheck b chars) (pick (doneOf (thereCheck b chars)) (withPage b (therePage (b .page) (tablePlace (b .page) chars))) b)
+unfoldable pub asTable : Board → (chars : List ℕ) → Moved
+asTable b chars =
+    movedTo (asTableCheck b chars) (pick (doneOf (asTableCheck b chars)) (withPage b (asTablePage (b .page) (tablePlace (b .page) chars))) b)
 
 -- [R-5 same]
-unfoldable pub thereLeft : Board → (chars : List ℕ) → List ℕ
-thereLeft b chars = pick (doneOf (thereCheck b chars)) (thereChars (b .page) chars (tablePlace (b .page) chars)) chars
+unfoldable pub asTableLeft : Board → (chars : List ℕ) → List ℕ
+asTableLeft b chars = pick (doneOf (asTableCheck b chars)) (asTableChars (b .page) chars (tablePlace (b .page) chars)) chars
 
 -- [demand untouched]
 -- the call: its answer, and character memory afterwards
 abbrev pub MovesToTable : Board → (chars : List ℕ) → Moved → (left : List ℕ) → Type 0
-MovesToTable b chars r left = (r ≡ thereOf b chars) × (left ≡ thereLeft b chars)
+MovesToTable b chars r left = (r ≡ asTable b chars) × (left ≡ asTableLeft b chars)
