@@ -8,7 +8,7 @@ WIDTHS = {'u8': 'w8', 'u16': 'w16', 'u32': 'w32', 'u64': 'w64', 'usize': 'w64'}
 # Where each name comes from: a module and its names. A line that is indented goes on with the one before it.
 SOURCES = '''
 mathlib.Core.Path _≡_ refl sym ap _∙_
-Prim.Native.Nat ℕ _+_ _-_ _*_ _≤_ _<_ _^_ zero-le
+Prim.Native.Nat ℕ _+_ _-_ _*_ _%_ _≤_ _<_ _^_ zero-le
 native.Mathlib.Nat eq-or-lt-of-le lt-of-le-of-lt
 native.Mathlib.Numerals add-one add-one-le add-one-dec
 native.Mathlib.Omega arith
@@ -44,7 +44,7 @@ sound.WpLaws FmC fmOf WpFn-mono
 denote.RattleType RattleType Denots Valss owns
 denote.Laws Is Ises Are shows
 denote.Memory pointee
-denote.Plain uint-makes uint-vals uint-tells uint-copy bool-vals bool-tells bool-copy
+denote.Plain uint-lawful uint-makes uint-vals uint-tells uint-copy bool-vals bool-tells bool-copy
 denote.Builtin u8 u16 u32 u64 usize bool
 denote.Ref RefT MutRef ptr-vals mut-tells
 denote.Slice sliceTy sliceVal ShrSlice slice-vals shr-slice-tells shr-slice-copy

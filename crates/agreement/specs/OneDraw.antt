@@ -32,7 +32,7 @@ use Rattle.records.specs.declared.Asked.{Asked}
 use Rattle.records.specs.declared.Mate.{Mate}
 use Rattle.records.specs.Records.{phraseOfRow, phrasesDiffer}
 use Rattle.records.specs.Ends.{askedOf}
-use Rattle.records.specs.Folds.{startOf, visitOf, searchOf, mateStart, mateVisit, pairStart, pairVisit}
+use Rattle.records.specs.Folds.{startOf, visitOf, searchOf, mateStart, mateVisit, mateFour, foursFrom, pairStart, pairVisit}
 use Rattle.columns.specs.Columns.{recordsOf}
 use Rattle.latch.specs.Held.{heldAt}
 use Rattle.shape.specs.declared.FontLine.{FontLine}
@@ -123,6 +123,12 @@ start-mate-one o = only _
 
 pub visit-mate-one : (s : Mate) (p : Phrase) (i : ℕ) (o : Phrase) → OneAnswer (λ r. r ≡ mateVisit s p i o)
 visit-mate-one s p i o = only _
+
+pub visit-four-one : (s : Mate) (a b c d : Phrase) (i : ℕ) (o : Phrase) → OneAnswer (λ r. r ≡ mateFour s a b c d i o)
+visit-four-one s a b c d i o = only _
+
+pub fours-from-one : (after n : ℕ) → OneAnswer (λ r. r ≡ foursFrom after n)
+fours-from-one after n = only _
 
 pub start-pair-one : OneAnswer (λ r. r ≡ pairStart)
 start-pair-one = only _

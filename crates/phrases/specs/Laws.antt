@@ -2,10 +2,10 @@
 --     search-all     the search through all records: the lowest that holds both ends
 --     held-refused   what was refused before stays
 --     row-held       at what a row asks it is the record of the row
---     mate-begins, mate-turn, mate-all      the search for a later record that disagrees with one
+--     mate-begins, mate-turn, mate-fours, mate-all      the search for a later record that disagrees with one
 --     pairs-all      and for the first two
 use Prim.Native.Nat.{ℕ, zero, suc, _+_, _<_}
-use mathlib.Core.Path.{_≡_, refl, _∙_}
+use mathlib.Core.Path.{_≡_, refl, ap, _∙_}
 use mathlib.Core.Bool.{Bool, true, false, not, _&&_, _||_}
 use mathlib.Core.List.{List}
 use native.Mathlib.Omega.{arith}
@@ -23,7 +23,7 @@ use Rattle.records.specs.declared.PairAnswer.{PairAnswer}
 use Rattle.records.specs.declared.Asked.{Asked}
 use Rattle.records.specs.Records.{none, badRecord, holdsRow, disagrees, at, among, phraseAnswer, phraseOfRow, pairAnswer, laterDiffers, phrasesDiffer}
 use Rattle.records.specs.Ends.{lowTo, highTo, asked, askedOf, holdsEnds, holds-row}
-use Rattle.records.specs.Folds.{turn, startOf, visitOf, searchTo, phraseAmong, searchOf, mateOn, mateStart, mateVisit, mateTo, mateOf, pairStart, pairVisit, pairsTo}
+use Rattle.records.specs.Folds.{turn, startOf, visitOf, searchTo, phraseAmong, searchOf, mateOn, mateStart, mateVisit, mateFour, mateTo, mateOf, pairStart, pairVisit, pairsTo}
 
 -- a turn more of a search that keeps its whole answer
 module _ {A : Type 0} (refused found : ℕ → A) (nothing : A) (bad good : ℕ → Bool) (unrefused unfound : A → Bool)
@@ -125,6 +125,16 @@ module _ (rs : List Phrase) (after : ℕ) where
       go true xe d e = rw (first-kept (laterDiffers rs after) n xe)
       go false xe true e = rw (first-new (laterDiffers rs after) n xe e)
       go false xe false e = refl
+
+  step : (n m : ℕ) → after < n → m ≡ n + 1 → mateVisit (mateTo rs after n) (getD rs n none) n (getD rs after none) ≡ mateTo rs after m
+  step n m l e = mate-turn n l ∙ ap (mateTo rs after) (omega (arith, e))
+
+  pub mate-fours : (n : ℕ) → after < n
+      → mateFour (mateTo rs after n) (getD rs n none) (getD rs (n + 1) none) (getD rs (n + 2) none) (getD rs (n + 3) none) n (getD rs after none) ≡ mateTo rs after (n + 4)
+  unfolding mateFour
+  mate-fours n l =
+      rw (step n (n + 1) l refl, step (n + 1) (n + 2) (omega (arith, l)) (omega arith), step (n + 2) (n + 3) (omega (arith, l)) (omega arith))
+      (step (n + 3) (n + 4) (omega (arith, l)) (omega arith))
 
   pub mate-all : mateTo rs after (length rs) ≡ mateOf rs after
   unfolding mateOf

@@ -1,9 +1,9 @@
 // An index of phrases (02, R-6): which record holds a row, and which two records disagree. The decisions are the crate `records`'; these go over the list.
 ghost use mathlib.Core.Path.{_≡_};
-ghost use Prim.Native.Nat.{_<_};
+ghost use Prim.Native.Nat.{_≤_, _<_};
 ghost use lib.ListN.{length, getD};
 ghost use Rattle.records.specs.Records.{none, phraseOfRow, phrasesDiffer};
-ghost use Rattle.records.specs.Folds.{searchOf, mateOf};
+ghost use Rattle.records.specs.Folds.{searchOf, mateTo, mateOf};
 
 // The record at a position.
 fn phrase_at(phrases: &[records::Phrase], i: usize) -> records::Phrase
@@ -39,17 +39,40 @@ pub fn phrase_of_row(
     search(phrases, asked)
 }
 
+// The first record after a position and before an end that disagrees with the one there.
+fn mate_near(phrases: &[records::Phrase], after: usize, end: usize) -> records::Mate
+    requires { ⌜ (after < end) × (end ≤ length (now phrases)) ⌝ }
+    ensures { λ r. ⌜ r ≡ mateTo (now (phrases .entry)) after end ⌝ }
+{
+    let o = phrase_at(phrases, after);
+    let mut s = records::start_mate(o);
+    let mut i = after + 1;
+    while i < end {
+        s = records::visit_mate(s, phrase_at(phrases, i), i, o);
+        i += 1;
+    }
+    s
+}
+
 // The first record after a position that disagrees with the one there.
 fn mate_of(phrases: &[records::Phrase], after: usize) -> records::Mate
     requires { ⌜ after < length (now phrases) ⌝ }
     ensures { λ r. ⌜ r ≡ mateOf (now (phrases .entry)) after ⌝ }
 {
     let o = phrase_at(phrases, after);
-    let mut s = records::start_mate(o);
-    let mut i = after + 1;
+    let mut i = records::fours_from(after, phrases.len());
+    let mut s = mate_near(phrases, after, i);
     while i < phrases.len() {
-        s = records::visit_mate(s, phrase_at(phrases, i), i, o);
-        i += 1;
+        s = records::visit_four(
+            s,
+            phrase_at(phrases, i),
+            phrase_at(phrases, i + 1),
+            phrase_at(phrases, i + 2),
+            phrase_at(phrases, i + 3),
+            i,
+            o,
+        );
+        i += 4;
     }
     s
 }

@@ -1,10 +1,10 @@
 // One record of an index of phrases (02, R-6): what is asked of it, and what it answers.
 ghost use mathlib.Core.Path.{_≡_};
-ghost use Prim.Native.Nat.{min, max, _<_};
+ghost use Prim.Native.Nat.{_+_, min, max, _<_};
 ghost use Rattle.raster.specs.Moves.{Bounded};
 ghost use Rattle.records.specs.Records.{badRecord, disagrees, pairAnswer};
 ghost use Rattle.records.specs.Ends.{endsBy, askedOf, holdsEnds};
-ghost use Rattle.records.specs.Folds.{startOf, visitOf, labelOf, mateStart, mateVisit, pairStart, pairVisit};
+ghost use Rattle.records.specs.Folds.{startOf, visitOf, labelOf, sameLabel, unequal, mateStart, mateVisit, mateFour, firstFour, foursFrom, pairStart, pairVisit};
 
 // A phrase in a language, by its number: its cells are first to first + length - 1. Any four numbers may be handed over.
 #[repr(C)]
@@ -206,6 +206,71 @@ pub fn visit_mate(s: Mate, p: Phrase, i: usize, o: Phrase) -> Mate
         };
     }
     s
+}
+
+// The same language and number, by one comparison.
+fn same_label(o: Phrase, p: Phrase) -> bool
+    ensures { λ r. ⌜ r ≡ sameLabel o p ⌝ }
+{
+    label(o) == label(p)
+}
+
+// Another first cell or length.
+fn apart(o: Phrase, p: Phrase) -> bool
+    ensures { λ r. ⌜ r ≡ unequal o p ⌝ }
+{
+    (o.first != p.first) | (o.length != p.length)
+}
+
+// The first of four records in a row for which a test holds, where one does.
+fn first_four(a: bool, b: bool, c: bool, i: usize) -> usize
+    requires { ⌜ i + 3 < 18446744073709551616 ⌝ }
+    ensures { λ r. ⌜ r ≡ firstFour a b c i ⌝ }
+{
+    if a {
+        return i;
+    }
+    if b {
+        return i + 1;
+    }
+    if c {
+        return i + 2;
+    }
+    i + 3
+}
+
+// The same for four records in a row, the first at i. A loop that visits one record a turn is so short that its time went
+// by where the linker put it, up to twice as long at some places. Whether labels are the same is asked once of each record.
+pub fn visit_four(s: Mate, a: Phrase, b: Phrase, c: Phrase, d: Phrase, i: usize, o: Phrase) -> Mate
+    requires { ⌜ i + 3 < 18446744073709551616 ⌝ }
+    ensures { λ r. ⌜ r ≡ mateFour s a b c d i o ⌝ }
+{
+    let w = same_label(o, a);
+    let x = same_label(o, b);
+    let y = same_label(o, c);
+    let z = same_label(o, d);
+    if !(w | x | y | z) {
+        return s;
+    }
+    let first = w & apart(o, a);
+    let second = x & apart(o, b);
+    let third = y & apart(o, c);
+    if !s.found & (first | second | third | (z & apart(o, d))) {
+        return Mate {
+            bad: s.bad,
+            found: true,
+            at: first_four(first, second, third, i),
+        };
+    }
+    s
+}
+
+// Where the records after a position go on in fours to the end of n records: up to three come before.
+pub fn fours_from(after: usize, n: usize) -> usize
+    requires { ⌜ after < n ⌝ }
+    ensures { λ r. ⌜ r ≡ foursFrom after n ⌝ }
+{
+    n - (n - after - 1) / 4 * 4
 }
 
 pub fn start_pair() -> PairAnswer
