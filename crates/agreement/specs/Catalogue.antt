@@ -20,6 +20,7 @@ use Rattle.lists.specs.Search.{anyBelow, none-of, any-none, any-some, first-is}
 use Rattle.raster.specs.declared.Buffer.{Buffer}
 use Rattle.raster.specs.Moves.{advanceBy, advanceBy-zero, advanceBy-add}
 use Rattle.refusal.specs.declared.Refusal.the-variants.{Done}
+use Rattle.refusal.specs.Number.{wrongSize}
 use Rattle.board.specs.declared.Page.{Page}
 use Rattle.board.specs.declared.Board.{Board}
 use Rattle.board.specs.Range.{memoryRefused}
@@ -188,7 +189,7 @@ module _ (b : Board) (chars : List ℕ) (m : Movable b chars) (registers : 2 < l
 
   page-ok : pageCheck p ≡ Done
   unfolding ownCheck
-  page-ok = call-page b (memoryRefused (length chars)) false false (m .own)
+  page-ok = call-page b (wrongSize (memoryRefused (length chars))) false false (m .own)
 
   -- the moved page is accepted
   pub as-table-accepted : pageCheck (asTablePage p place) ≡ Done
@@ -236,10 +237,10 @@ module _ (b : Board) (chars : List ℕ) (m : Movable b chars) (registers : 2 < l
   own-as-table : ownCheck (withPage b q) (length chars′) ≡ Done
   unfolding ownCheck asTablePage
   own-as-table =
-      let all = call-passed b (memoryRefused (length chars)) false false (m .own) in
+      let all = call-passed b (wrongSize (memoryRefused (length chars))) false false (m .own) in
       let state = sym (same-state b q same-page) ∙ range-ok b (all .state) in
-      let sized : memoryRefused (length chars′) ≡ false = rw chars-whole (all .sized) in
-      call-ok (withPage b q) (memoryRefused (length chars′)) sized as-table-accepted state
+      let sized : wrongSize (memoryRefused (length chars′)) ≡ Done = rw chars-whole (all .lent-fine) in
+      call-ok (withPage b q) (wrongSize (memoryRefused (length chars′))) sized as-table-accepted state
 
   as-sheet-done : asSheetCheck (withPage b q) chars′ ≡ Done
   unfolding asSheetCheck
@@ -320,7 +321,7 @@ module _ (b : Board) (chars : List ℕ) (m : Returnable b chars) (registers : 2 
 
   sheet-page-ok : pageCheck (b .page) ≡ Done
   unfolding ownCheck
-  sheet-page-ok = call-page b (memoryRefused (length chars)) false false (m .own)
+  sheet-page-ok = call-page b (wrongSize (memoryRefused (length chars))) false false (m .own)
 
   pub as-sheet-accepted : pageCheck (asSheetPage (b .page) chars) ≡ Done
   unfolding asSheetPage

@@ -14,7 +14,7 @@ use lib.Seq.{length-take-le, drop-cons}
 use Rattle.lists.specs.Choice.{pick}
 use Rattle.refusal.specs.declared.Refusal.{Refusal}
 use Rattle.refusal.specs.declared.Refusal.the-variants.{Done, Size}
-use Rattle.refusal.specs.Number.{numberOf, besideOf, doneOf}
+use Rattle.refusal.specs.Number.{numberOf, besideOf, doneOf, wrongSize}
 use Rattle.refusal.specs.Laws.{done-is, passed}
 use Rattle.board.specs.declared.Page.{Page}
 use Rattle.board.specs.declared.Board.{Board}
@@ -27,7 +27,7 @@ use Rattle.timing.specs.Fields.{ir}
 use Rattle.timing.specs.Check.{callCheck}
 use Rattle.timing.specs.Laws.{call-page}
 use Rattle.shape.specs.Font.{Font, fontOf}
-use Rattle.video.specs.At.{lentRefused}
+use Rattle.video.specs.At.{lentCheck}
 use Rattle.step.specs.declared.Stepped.{Stepped}
 use Rattle.step.specs.Step.{stepOf}
 use Rattle.step.specs.After.{step-answers}
@@ -82,10 +82,10 @@ same-numbered s t r g a d = λ i. record {
   dots = d i;
 }
 
--- where what is lent has a wrong size, a step answers 3 whatever the board is
-size-alone : (x y : Board) (chars chars′ attrs : List ℕ) (f : Font) → lentRefused chars attrs f ≡ true → lentRefused chars′ attrs f ≡ true → numbered (stepOf x chars attrs f) ≡ numbered (stepOf y chars′ attrs f)
+-- where what is lent is refused, a step answers that whatever the board is
+lent-alone : (x y : Board) (chars chars′ attrs : List ℕ) (f : Font) → doneOf (lentCheck chars attrs f) ≡ false → lentCheck chars attrs f ≡ lentCheck chars′ attrs f → numbered (stepOf x chars attrs f) ≡ numbered (stepOf y chars′ attrs f)
 unfolding numbered stepOf callCheck
-size-alone x y chars chars′ attrs f e e′ = rw (e, e′)
+lent-alone x y chars chars′ attrs f e same = rw (← same, e, e)
 
 module _ (numbers chars numbers′ chars′ : List ℕ) (ok : numbersCheck numbers ≡ Done) (fine : numbersRefused numbers′ ≡ false)
     (s : ShowsSame (numbersBoard numbers) chars (numbersBoard numbers′) chars′) where
@@ -94,28 +94,28 @@ module _ (numbers chars numbers′ chars′ : List ℕ) (ok : numbersCheck numbe
   ok′ = rw fine (s [] .accepted)
 
   -- with memories and font parts of the right sizes
-  sized-same : (attrs words flags unshifted shifted : List ℕ) → lentRefused chars attrs (fontOf words flags unshifted shifted) ≡ false
+  sized-same : (attrs words flags unshifted shifted : List ℕ) → lentCheck chars attrs (fontOf words flags unshifted shifted) ≡ Done
       → (k : ℕ) → stepC numbers chars attrs words flags unshifted shifted k ≡ stepC numbers′ chars′ attrs words flags unshifted shifted k
   sized-same attrs words flags unshifted shifted sized k =
       let f = fontOf words flags unshifted shifted in
       let fit = fit-from-c numbers chars attrs words flags unshifted shifted ok sized in
       let both = s attrs .stepped f fit in
       let begun = begins-from-c numbers chars attrs words flags unshifted shifted ok sized in
-      let begun′ = begins-from-c numbers′ chars′ attrs words flags unshifted shifted ok′ (sym (s attrs .sized f) ∙ sized) in
+      let begun′ = begins-from-c numbers′ chars′ attrs words flags unshifted shifted ok′ (sym (s attrs .lent f) ∙ sized) in
       let refused = step-answers (numbersBoard numbers) chars attrs f fit k ∙ sym (step-answers (numbersBoard numbers′) chars′ attrs f (both .0) k) in
       let shown = both .1 k in
       rw (steps-from-c numbers chars attrs words flags unshifted shifted (begun .0) (begun .1) k, steps-from-c numbers′ chars′ attrs words flags unshifted shifted (begun′ .0) (begun′ .1) k)
       (same-numbered _ _ refused (shown .signals) (shown .address) (shown .dots))
 
   step-same : (attrs words flags unshifted shifted : List ℕ) (k : ℕ) → stepC numbers chars attrs words flags unshifted shifted k ≡ stepC numbers′ chars′ attrs words flags unshifted shifted k
-  step-same attrs words flags unshifted shifted k = go (lentRefused chars attrs f) refl
+  step-same attrs words flags unshifted shifted k = go (doneOf (lentCheck chars attrs f)) refl
     where
       f : Font
       f = fontOf words flags unshifted shifted
 
-      go : (t : Bool) → lentRefused chars attrs f ≡ t → stepC numbers chars attrs words flags unshifted shifted k ≡ stepC numbers′ chars′ attrs words flags unshifted shifted k
-      go true e = size-alone _ _ chars chars′ attrs f e (sym (s attrs .sized f) ∙ e)
-      go false e = sized-same attrs words flags unshifted shifted e k
+      go : (t : Bool) → doneOf (lentCheck chars attrs f) ≡ t → stepC numbers chars attrs words flags unshifted shifted k ≡ stepC numbers′ chars′ attrs words flags unshifted shifted k
+      go false e = lent-alone _ _ chars chars′ attrs f e (s attrs .lent f)
+      go true e = sized-same attrs words flags unshifted shifted (done-is _ e) k
 
   shows-from-c : ShowsC numbers chars numbers′ chars′
   unfolding pictureDrawCheck pictureDrawn
@@ -223,7 +223,7 @@ module _ (numbers : List ℕ) (fits : Bytes numbers) (fine : numbersRefused numb
 -- what the page's own refusals passed
 own-ok : (numbers chars : List ℕ) → numbersRefused numbers ≡ false → ownCheck (numbersBoard numbers) (length chars) ≡ Done → numbersCheck numbers ≡ Done
 unfolding numbersCheck ownCheck
-own-ok numbers chars fine ok = rw fine (call-page (numbersBoard numbers) (memoryRefused (length chars)) false false ok)
+own-ok numbers chars fine ok = rw fine (call-page (numbersBoard numbers) (wrongSize (memoryRefused (length chars))) false false ok)
 
 -- numbers that feldrime_to_table moves
 module _ (numbers chars : List ℕ) (done : toTableCheck numbers chars ≡ Done) where

@@ -1,7 +1,7 @@
 -- Promise 2: a page file accepted and written again is the same bytes; likewise a font; and a board written and read again is that page at clock 0.
 -- All of it speaks of the public calls that read and write. A file is a list of bytes. Assumes nothing.
 use Prim.Native.Nat.{ℕ, _+_, _*_, _≤_}
-use mathlib.Core.Path.{_≡_, refl, sym, _∙_}
+use mathlib.Core.Path.{_≡_, refl, sym, _∙_, ap}
 use mathlib.Core.Bool.{Bool, false, _||_, not}
 use mathlib.Core.List.{List, _++_}
 use native.Mathlib.Omega.{arith}
@@ -12,6 +12,7 @@ use lib.Seq.{take-all, take-at, drop-at, drop-drop}
 use Rattle.lists.specs.Choice.{neither}
 use Rattle.lists.specs.Tab.{length-tab}
 use Rattle.refusal.specs.declared.Refusal.the-variants.{Done}
+use Rattle.refusal.specs.Number.{wrongSize}
 use Rattle.board.specs.declared.Page.{Page}
 use Rattle.board.specs.declared.Board.{Board}
 use Rattle.board.specs.State.{boardOf}
@@ -42,7 +43,7 @@ zero-ok p = range-ok (boardOf p) (record { line-lt = omega arith; clock-lt = ome
 
 write-ok : (p : Page) (n : ℕ) → pageCheck p ≡ Done → fileSize (p .version) ≤ n → writeCheck (boardOf p) 16384 16384 n ≡ Done
 unfolding writeCheck
-write-ok p n ok l = call-ok (boardOf p) (ltb n (fileSize (p .version))) (le-ltb n (fileSize (p .version)) l) ok (zero-ok p)
+write-ok p n ok l = call-ok (boardOf p) (wrongSize (ltb n (fileSize (p .version)))) (ap wrongSize (le-ltb n (fileSize (p .version)) l)) ok (zero-ok p)
 
 -- ---- a page file, read and written again
 
@@ -109,7 +110,7 @@ module _ (b : Board) (irs-all : length (b .page .irs) ≡ 15) (chars attrs out :
 
   page-ok : pageCheck (b .page) ≡ Done
   unfolding writeCheck
-  page-ok = call-page b (memoriesRefused (length chars) (length attrs) || ltb (length out) (fileSize (b .page .version))) false false ok
+  page-ok = call-page b (wrongSize (memoriesRefused (length chars) (length attrs) || ltb (length out) (fileSize (b .page .version)))) false false ok
 
   file-is : take (fileSize (b .page .version)) (written b chars attrs out) ≡ fileOf (b .page) chars attrs
   unfolding written

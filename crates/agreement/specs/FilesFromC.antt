@@ -6,10 +6,10 @@ use mathlib.Core.Bool.{Bool, false}
 use mathlib.Core.List.{List, _++_}
 use lib.ListN.{length, drop}
 use Rattle.refusal.specs.declared.Refusal.the-variants.{Done}
-use Rattle.refusal.specs.Number.{numberOf}
+use Rattle.refusal.specs.Number.{numberOf, wrongSize}
 use Rattle.board.specs.Layout.{fileSize}
 use Rattle.shape.specs.Font.{Font, fontOf, fontRefused}
-use Rattle.video.specs.At.{lentRefused}
+use Rattle.video.specs.At.{lentCheck}
 use Rattle.step.specs.Step.{stepCheck}
 use Rattle.files.specs.Page.{versionIn}
 use Rattle.files.specs.File.{readCheck, charsRead, attrsRead}
@@ -70,10 +70,10 @@ module _ (file numbers chars attrs : List ℕ)
     font-done : fontCheck fontfile (fontRefused (fontOf words flags unshifted shifted)) ≡ Done
     font-done = zero-done (fontCheck fontfile (fontRefused (fontOf words flags unshifted shifted))) font-taken
 
-    lent-fine : lentRefused charsC attrsC fontC ≡ false
+    lent-fine : lentCheck charsC attrsC fontC ≡ Done
     lent-fine =
         rw (chars-read-all file size read-ok chars, attrs-read-all file size read-ok attrs)
-        (font-fine fontfile (fontOf words flags unshifted shifted) font-done)
+        (ap wrongSize (font-fine fontfile (fontOf words flags unshifted shifted) font-done))
 
     -- the hypothesis of the promises on `step`, `state_at` and `draw_line`
     pub accepted-fits : stepCheck (numbersBoard numbersC) charsC attrsC fontC ≡ Done

@@ -30,7 +30,7 @@ use Rattle.latch.specs.Held.{attributesAt}
 use Rattle.shape.specs.Font.{Font, fontOf}
 use Rattle.line.specs.Line.{rowFor, lineLength, drawCheck, drawnOf}
 use Rattle.picture.specs.Picture.{picturedOf}
-use Rattle.video.specs.At.{lentRefused}
+use Rattle.video.specs.At.{lentCheck}
 use Rattle.step.specs.Step.{steppedOf, stepCheck, stepOf}
 use Rattle.step.specs.After.{after, step-answers}
 use Rattle.board.specs.Parts.{withPlace}
@@ -115,12 +115,12 @@ module _ (numbers chars attrs words flags unshifted shifted : List ℕ) where
   -- ---- both are refused together
 
   -- a page's numbers that pass, and memories and font parts of the right sizes: this is what the promises on `step`, `state_at` and `draw_line` ask
-  pub fit-from-c : numbersCheck numbers ≡ Done → lentRefused chars attrs f ≡ false → stepCheck b chars attrs f ≡ Done
+  pub fit-from-c : numbersCheck numbers ≡ Done → lentCheck chars attrs f ≡ Done → stepCheck b chars attrs f ≡ Done
   unfolding numbersCheck
-  fit-from-c c l = call-ok b (lentRefused chars attrs f) l (passed (numbersRefused numbers) Size _ refl c .1) (zero-ok (pageAt numbers 1))
+  fit-from-c c l = call-ok b (lentCheck chars attrs f) l (passed (numbersRefused numbers) Size _ refl c .1) (zero-ok (pageAt numbers 1))
 
   -- then feldrime_board_of answers 0, and so does the first feldrime_step
-  pub begins-from-c : numbersCheck numbers ≡ Done → lentRefused chars attrs f ≡ false → (boardFor numbers .refusal ≡ 0) × (stepC 0 .refusal ≡ 0)
+  pub begins-from-c : numbersCheck numbers ≡ Done → lentCheck chars attrs f ≡ Done → (boardFor numbers .refusal ≡ 0) × (stepC 0 .refusal ≡ 0)
   unfolding numbered afterC boardFor stepOf steppedOf
   begins-from-c c l = rw (c, fit-from-c c l) (refl, refl)
 
@@ -131,8 +131,8 @@ module _ (numbers chars attrs words flags unshifted shifted : List ℕ) where
       let d = passed (numbersRefused numbers) Size _ refl (zero-done (lineDrawCheck numbers chars attrs f line room) e) in
       let asked = leb (visibleOf (b .page) .0) line in
       let short = ltb room (lineLength b) in
-      let page = call-page b (lentRefused chars attrs f) asked short (d .1) in
-      begins-from-c (rw (d .0) page) (call-passed b (lentRefused chars attrs f) asked short (d .1) .sized)
+      let page = call-page b (lentCheck chars attrs f) asked short (d .1) in
+      begins-from-c (rw (d .0) page) (call-passed b (lentCheck chars attrs f) asked short (d .1) .lent-fine)
 
   -- numbers of which a board is made, and a first step that is not refused
   module _ (board-made : boardFor numbers .refusal ≡ 0) (first-step : stepC 0 .refusal ≡ 0) where

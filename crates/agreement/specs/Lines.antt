@@ -24,7 +24,7 @@ use Rattle.video.specs.Scene.{sceneOf}
 use Rattle.line.specs.Length.{length-dots}
 use Rattle.line.specs.Line.{rowFor, codeFor, scanFor, columnDots, lineDots, lineLength, drawCheck, drawnOf}
 use Rattle.video.specs.Cell.{columnOf}
-use Rattle.video.specs.At.{scanDots, dotsAt, lentRefused}
+use Rattle.video.specs.At.{scanDots, dotsAt, lentCheck}
 use Rattle.place.specs.Place.{activeAt, loadedIn, placeAt}
 use Rattle.place.specs.Walk.{beam-at}
 use Rattle.step.specs.Signals.{padded, clockDots}
@@ -109,7 +109,7 @@ module _ (b : Board) (chars attrs : List ℕ) (f : Font) (ok : stepCheck b chars
 
   -- a visible line and a buffer with room: nothing is refused, and the line's dots stand at the front of the buffer
   pub draw-answers : (l : ℕ) → l < visibleOf (b .page) .0 → (room : ℕ) → lineLength b ≤ room
-      → drawCheck b (lentRefused chars attrs f) l room ≡ Done
+      → drawCheck b (lentCheck chars attrs f) l room ≡ Done
   unfolding drawCheck
   draw-answers l hl room h = rw (lt-leb (visibleOf (b .page) .0) l hl, le-ltb room (lineLength b) h) ok
 

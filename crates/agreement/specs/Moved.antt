@@ -15,7 +15,7 @@ use lib.ListN.{length}
 use Rattle.lists.specs.Choice.{pick, firstOf}
 use Rattle.lists.specs.Search.{first-not, first-none}
 use Rattle.refusal.specs.declared.Refusal.the-variants.{Done, Size, Range, Room, Address, Reserved, BackPorch, LineShort, FrontPorch, Width, Kind, Stretch, Apart, Coded}
-use Rattle.refusal.specs.Number.{numberOf, doneOf}
+use Rattle.refusal.specs.Number.{numberOf, doneOf, wrongSize}
 use Rattle.refusal.specs.Laws.{done-is}
 use Rattle.units.specs.declared.Clocks.{Clocks}
 use Rattle.board.specs.declared.Page.{Page}
@@ -46,7 +46,7 @@ module _ (b : Board) where
   unfolding ownCheck callCheck
   own-below n = go (memoryRefused n) (not (doneOf (pageCheck (b .page)))) (stateRefused b || false)
     where
-      go : (s p t : Bool) → numberOf (firstOf ((s, Size) ∷ (p, pageCheck (b .page)) ∷ (t, Range) ∷ (false, Room) ∷ []) Done) < 16
+      go : (s p t : Bool) → numberOf (firstOf ((not (doneOf (wrongSize s)), wrongSize s) ∷ (p, pageCheck (b .page)) ∷ (t, Range) ∷ (false, Room) ∷ []) Done) < 16
       go true p t = omega arith
       go false true t = page-below (b .page)
       go false false true = omega arith

@@ -11,7 +11,7 @@ use Rattle.units.specs.declared.Clocks.{Clocks}
 use Rattle.units.specs.declared.Lines.{Lines}
 use Rattle.units.specs.Units.{clocks, lines, during, clocksOf, wholeLines, dotsOf}
 use Rattle.refusal.specs.declared.Refusal.{Refusal}
-use Rattle.refusal.specs.Number.{numberOf, besideOf, doneOf}
+use Rattle.refusal.specs.Number.{numberOf, besideOf, doneOf, wrongSize}
 use Rattle.raster.specs.declared.Buffer.{Buffer}
 use Rattle.raster.specs.declared.Cell.{Cell}
 use Rattle.raster.specs.declared.Code.{Code}
@@ -131,6 +131,9 @@ beside-one x = only _
 
 pub is-done-one : (x : Refusal) → OneAnswer (λ r. r ≡ doneOf x)
 is-done-one x = only _
+
+pub wrong-size-one : (wrong : Bool) → OneAnswer (λ r. r ≡ wrongSize wrong)
+wrong-size-one wrong = only _
 
 -- ---- `raster`
 
@@ -252,7 +255,7 @@ visible-of-one p = only _
 pub state-refused-one : (b : Board) → OneAnswer (λ r. r ≡ stateRefused b)
 state-refused-one b = only _
 
-pub call-check-one : (b : Board) (size asked room : Bool) → OneAnswer (λ r. r ≡ callCheck b size asked room)
+pub call-check-one : (b : Board) (lent : Refusal) (asked room : Bool) → OneAnswer (λ r. r ≡ callCheck b lent asked room)
 call-check-one b size asked room = only _
 
 -- ---- `registers`

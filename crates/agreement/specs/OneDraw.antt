@@ -50,7 +50,7 @@ use Rattle.line.specs.Line.{scanFor, DrawsLine}
 use Rattle.line.specs.Walk.{shapedOver}
 use Rattle.picture.specs.Picture.{DrawsPicture}
 use Rattle.dots.specs.Half.{halved}
-use Rattle.video.specs.At.{lentRefused, scanOf, scanAt, readingOf, countedByte, shownCode}
+use Rattle.video.specs.At.{lentCheck, scanOf, scanAt, readingOf, countedByte, shownCode}
 use Rattle.step.specs.Step.{stepOf}
 use Rattle.place.specs.declared.Carried.{Carried}
 use Rattle.place.specs.Place.{activeAt, loadedIn, movedIn, turnedIn}
@@ -207,8 +207,8 @@ shown-code-one hidden code byte = only _
 pub look-of-one : (s : Scene) (attributes : ℕ) (cursor : Bool) → OneAnswer (λ r. r ≡ lookOf s attributes cursor)
 look-of-one s attributes cursor = only _
 
-pub lent-refused-one : (chars attrs : List ℕ) (f : Font) → OneAnswer (λ r. r ≡ lentRefused chars attrs f)
-lent-refused-one chars attrs f = only _
+pub lent-check-one : (chars attrs : List ℕ) (f : Font) → OneAnswer (λ r. r ≡ lentCheck chars attrs f)
+lent-check-one chars attrs f = only _
 
 -- ---- `dots`: a number, or the buffer
 

@@ -15,7 +15,7 @@ use Rattle.fetch.specs.RowCells.{cellsPut}
 use Rattle.fetch.specs.Rows.{cellAt}
 use Rattle.latch.specs.Held.{attributesAt}
 use Rattle.shape.specs.Font.{Font}
-use Rattle.video.specs.At.{lentRefused}
+use Rattle.video.specs.At.{lentCheck}
 use Rattle.line.specs.Line.{columnDots, lineDots, lineLength, drawnOf}
 use Rattle.line.specs.Length.{length-line}
 use Rattle.picture.specs.Picture.{pictureDots, pictureLength, pictureCheck, picturedOf}
@@ -27,7 +27,7 @@ use Rattle.agreement.specs.Rows.{lineOf, nthCell, at-column}
 module _ (b : Board) (chars attrs : List ℕ) (f : Font) (ok : stepCheck b chars attrs f ≡ Done) where
   -- [more picture]
   -- a buffer with room: nothing is refused, and the picture stands at its front
-  pub picture-answers : (room : ℕ) → pictureLength (b .page) ≤ room → pictureCheck b (lentRefused chars attrs f) room ≡ Done
+  pub picture-answers : (room : ℕ) → pictureLength (b .page) ≤ room → pictureCheck b (lentCheck chars attrs f) room ≡ Done
   unfolding pictureCheck
   picture-answers room h = rw (le-ltb room (pictureLength (b .page)) h) ok
 

@@ -14,6 +14,7 @@ use Rattle.lists.specs.Choice.{pick}
 use Rattle.lists.specs.Join.{joined, same-joined}
 use Rattle.lists.specs.Tab.{tab, same-tab}
 use Rattle.refusal.specs.declared.Refusal.the-variants.{Done}
+use Rattle.refusal.specs.Number.{wrongSize}
 use Rattle.raster.specs.Moves.{advanceBy}
 use Rattle.raster.specs.Wide.{codeOf, isWide}
 use Rattle.board.specs.declared.Board.{Board}
@@ -121,7 +122,7 @@ module _ (b : Board) (chars attrs : List ℕ) (f : Font) (ok : stepCheck b chars
   unfolding runCheck
   run-answers =
       rw (lt-leb (rowsOf (b .page)) r hr)
-      (call-ok b (memoryRefused (length chars)) (rw (eq-eqb _ _ (fits b chars attrs f ok .chars-all))) (page-ok b chars attrs f ok)
+      (call-ok b (wrongSize (memoryRefused (length chars))) (rw (eq-eqb _ _ (fits b chars attrs f ok .chars-all))) (page-ok b chars attrs f ok)
       (range-ok b (fits b chars attrs f ok .state)))
 
   -- what the row fetches after i others, on the column that fetches it

@@ -6,6 +6,7 @@ use mathlib.Core.List.{List}
 use borrow.Author.Tests.{eq-eqb}
 use lib.ListN.{length}
 use Rattle.refusal.specs.declared.Refusal.the-variants.{Done}
+use Rattle.refusal.specs.Number.{wrongSize}
 use Rattle.board.specs.declared.Board.{Board}
 use Rattle.board.specs.Range.{memoriesRefused}
 use Rattle.timing.specs.Laws.{range-ok, call-ok}
@@ -15,14 +16,14 @@ use Rattle.step.specs.Step.{stepCheck}
 use Rattle.step.specs.After.{after, fits, page-ok, atClock, clock-in-range, steps-are}
 
 module _ (b : Board) (chars attrs : List ℕ) (f : Font) (ok : stepCheck b chars attrs f ≡ Done) where
-  memories-ok : memoriesRefused (length chars) (length attrs) ≡ false
+  memories-ok : wrongSize (memoriesRefused (length chars) (length attrs)) ≡ Done
   memories-ok = rw (eq-eqb _ _ (fits b chars attrs f ok .chars-all), eq-eqb _ _ (fits b chars attrs f ok .attrs-all))
 
   state-ok : stateCheck b chars attrs ≡ Done
-  state-ok = call-ok b (memoriesRefused (length chars) (length attrs)) memories-ok (page-ok b chars attrs f ok) (range-ok b (fits b chars attrs f ok .state))
+  state-ok = call-ok b (wrongSize (memoriesRefused (length chars) (length attrs))) memories-ok (page-ok b chars attrs f ok) (range-ok b (fits b chars attrs f ok .state))
 
   state-ok-at : (n : ℕ) → stateCheck (atClock b chars attrs f ok n) chars attrs ≡ Done
-  state-ok-at n = call-ok (atClock b chars attrs f ok n) (memoriesRefused (length chars) (length attrs)) memories-ok (page-ok b chars attrs f ok) (range-ok (atClock b chars attrs f ok n) (clock-in-range b chars attrs f ok n))
+  state-ok-at n = call-ok (atClock b chars attrs f ok n) (wrongSize (memoriesRefused (length chars) (length attrs))) memories-ok (page-ok b chars attrs f ok) (range-ok (atClock b chars attrs f ok n) (clock-in-range b chars attrs f ok n))
 
   -- [demand at-once] the state for clock n is the state after n single steps
   -- the state for clock n answers 0 and is the board after n single steps from clock 0

@@ -10,17 +10,17 @@ use lib.ListN.{length, drop}
 use Rattle.lists.specs.Choice.{pick, firstOf, neither}
 use Rattle.units.specs.declared.Clocks.{Clocks}
 use Rattle.refusal.specs.declared.Refusal.the-variants.{Done, Size, Reserved, BackPorch, LineShort, FrontPorch, Width, Range, Room, Address}
-use Rattle.refusal.specs.Number.{numberOf, besideOf, doneOf}
+use Rattle.refusal.specs.Number.{numberOf, besideOf, doneOf, wrongSize}
 use Rattle.refusal.specs.Laws.{done-is, passed, not-refused}
 use Rattle.board.specs.declared.Page.{Page}
 use Rattle.board.specs.declared.Board.{Board}
-use Rattle.board.specs.Range.{addressRefused}
+use Rattle.board.specs.Range.{memoriesRefused, addressRefused}
 use Rattle.timing.specs.Fields.{visibleOf}
 use Rattle.timing.specs.Check.{reservedRefused, backPorchRefused, lineShort, frontPorchRefused, missing, widthRefused, pageCheck, sizeOf, stateRefused, callCheck}
 use Rattle.timing.specs.Laws.{range-ok, call-ok}
-use Rattle.shape.specs.Font.{Font, fontOf}
+use Rattle.shape.specs.Font.{Font, fontOf, fontRefused}
 use Rattle.line.specs.Line.{lineLength, lineDots, drawCheck, drawnOf}
-use Rattle.video.specs.At.{lentRefused}
+use Rattle.video.specs.At.{lentCheck}
 use Rattle.step.specs.Step.{steppedOf, stepCheck, stepOf}
 use Rattle.files.specs.Page.{pageAt}
 use Rattle.numbers.specs.Numbers.{numbersRefused, numbersBoard, numbersCheck}
@@ -58,7 +58,7 @@ page-not-three p =
     go false false false false false true e = omega arith
     go false false false false false false e = omega arith
 
-call-three : (b : Board) (size : Bool) → numberOf (callCheck b size false false) ≡ 3 → size ≡ true
+call-three : (b : Board) (size : Bool) → numberOf (callCheck b (wrongSize size) false false) ≡ 3 → size ≡ true
 unfolding callCheck
 call-three b true e = refl
 call-three b false e = absurd (go (doneOf (pageCheck (b .page))) (stateRefused b || false) e)
@@ -68,7 +68,7 @@ call-three b false e = absurd (go (doneOf (pageCheck (b .page))) (stateRefused b
     go true true e = omega arith
     go true false e = omega arith
 
-call-size : (b : Board) (size : Bool) → (numberOf (callCheck b size false false) ≡ 3 → ⊥) → size ≡ false
+call-size : (b : Board) (size : Bool) → (numberOf (callCheck b (wrongSize size) false false) ≡ 3 → ⊥) → size ≡ false
 unfolding callCheck
 call-size b true e = absurd (e refl)
 call-size b false e = refl
@@ -114,7 +114,7 @@ module _ (numbers chars attrs words flags unshifted shifted : List ℕ) (line ro
   own-is = ap (λ (x : BoardAnswer). record { refusal = x .refusal; beside = x .beside }) made
 
   abbrev lent : Bool
-  lent = lentRefused chars attrs (fontOf words flags unshifted shifted)
+  lent = memoriesRefused (length chars) (length attrs) || fontRefused (fontOf words flags unshifted shifted)
 
   -- 3 for the numbers, which a page's own answer never is
   pub numbers-three : m .refusal ≡ 3 → aloneOf 3 ≡ answer
@@ -203,7 +203,7 @@ module _ (numbers chars attrs : List ℕ) (f : Font) (line : ℕ) (out : List �
       go false t = rw (t, rw t at refused)
 
   module _ (z : r .refusal ≡ 0) {m : BoardAnswer} (made : m ≡ boardFor numbers) where
-    accepted : (numbersRefused numbers ≡ false) × (drawCheck (numbersBoard numbers) (lentRefused chars attrs f) line (length out) ≡ Done)
+    accepted : (numbersRefused numbers ≡ false) × (drawCheck (numbersBoard numbers) (lentCheck chars attrs f) line (length out) ≡ Done)
     unfolding lineDrawCheck
     accepted = passed (numbersRefused numbers) Size _ refl (done-is _ (eq-eqb _ _ (sym number-is ∙ z)))
 
@@ -216,14 +216,14 @@ module _ (numbers chars attrs : List ℕ) (f : Font) (line : ℕ) (out : List �
     unfolding drawCheck callCheck
     steps =
         let b = numbersBoard numbers in
-        let s = passed (lentRefused chars attrs f) Size _ refl (accepted .1) in
+        let s = not-refused (lentCheck chars attrs f) _ (accepted .1) in
         let p = not-refused (pageCheck (b .page)) _ (s .1) in
         let v = passed (stateRefused b || leb (visibleOf (b .page) .0) line) Range _ refl (p .1) in
         let n = neither (stateRefused b) (leb (visibleOf (b .page) .0) line) (v .0) in
         let o = passed (ltb (length out) (lineLength b)) Room _ refl (v .1) in
         record {
           page-ok = p .0;
-          can-step = record { accepted = call-ok b (lentRefused chars attrs f) (s .0) (p .0) (n .0); visible = leb-false _ _ (n .1); roomy = ltb-false _ _ (o .0) };
+          can-step = record { accepted = call-ok b (lentCheck chars attrs f) (s .0) (p .0) (n .0); visible = leb-false _ _ (n .1); roomy = ltb-false _ _ (o .0) };
         }
 
     board-is : m .board ≡ numbersBoard numbers

@@ -14,7 +14,7 @@ use Rattle.refusal.specs.Number.{numberOf, doneOf}
 use Rattle.refusal.specs.Laws.{done-is}
 use Rattle.board.specs.declared.Board.{Board}
 use Rattle.shape.specs.Font.{Font, fontOf}
-use Rattle.video.specs.At.{lentRefused}
+use Rattle.video.specs.At.{lentCheck}
 use Rattle.picture.specs.Picture.{pictureDots, pictureLength, pictureCheck, picturedOf}
 use Rattle.place.specs.State.{stateOf}
 use Rattle.step.specs.Step.{stepCheck, stepOf}
@@ -45,7 +45,7 @@ module _ (numbers chars attrs words flags unshifted shifted : List ℕ) (field :
 
   refused-kept : (out : List ℕ) → doneOf (pictureDrawCheck numbers chars attrs f (length out)) ≡ false → draw out ≡ out
   unfolding pictureDrawCheck pictureDrawn picturedOf
-  refused-kept out = go (numbersRefused numbers) (pictureCheck (numbersBoard numbers) (lentRefused chars attrs f) (length out))
+  refused-kept out = go (numbersRefused numbers) (pictureCheck (numbersBoard numbers) (lentCheck chars attrs f) (length out))
     where
       go : (t : Bool) (r : Refusal) → doneOf (pick t Size r) ≡ false
           → pick t out (pick (doneOf r) (pictureDots (numbersBoard numbers) chars attrs f field ++ drop (pictureLength (numbersBoard numbers .page)) out) out) ≡ out

@@ -17,7 +17,7 @@ use Rattle.timing.specs.Fields.{visibleOf}
 use Rattle.timing.specs.Check.{pageCheck, sizeOf}
 use Rattle.timing.specs.Laws.{Accepted, call-passed, visible-bound, dots-bound, call-page}
 use Rattle.shape.specs.Font.{Font, fontOf}
-use Rattle.video.specs.At.{lentRefused}
+use Rattle.video.specs.At.{lentCheck}
 use Rattle.line.specs.Line.{lineDots, lineLength}
 use Rattle.line.specs.Length.{length-line}
 use Rattle.picture.specs.Picture.{pictureDots, pictureLength, pictureCheck, picturedOf}
@@ -56,19 +56,19 @@ module _ (numbers chars attrs words flags unshifted shifted : List ℕ) (field :
   abbrev f : Font
   f = fontOf words flags unshifted shifted
 
-  taken : (numbersRefused numbers ≡ false) × (pictureCheck b (lentRefused chars attrs f) (length out₀) ≡ Done)
+  taken : (numbersRefused numbers ≡ false) × (pictureCheck b (lentCheck chars attrs f) (length out₀) ≡ Done)
   unfolding pictureDrawCheck
   taken = passed (numbersRefused numbers) Size _ refl (zero-done _ done)
 
   page-ok : pageCheck (b .page) ≡ Done
   unfolding pictureCheck
-  page-ok = call-page b (lentRefused chars attrs f) false (ltb (length out₀) (pictureLength (b .page))) (taken .1)
+  page-ok = call-page b (lentCheck chars attrs f) false (ltb (length out₀) (pictureLength (b .page))) (taken .1)
 
   step-ok : stepCheck b chars attrs f ≡ Done
   unfolding numbersCheck pictureCheck
   step-ok =
       fit-from-c numbers chars attrs words flags unshifted shifted (rw (taken .0) page-ok)
-      (call-passed b (lentRefused chars attrs f) false (ltb (length out₀) (pictureLength (b .page))) (taken .1) .sized)
+      (call-passed b (lentCheck chars attrs f) false (ltb (length out₀) (pictureLength (b .page))) (taken .1) .lent-fine)
 
   page : Accepted (b .page)
   page = fits b chars attrs f step-ok .page

@@ -23,8 +23,8 @@ use Rattle.raster.specs.declared.Cell.{Cell}
 use Rattle.raster.specs.Moves.{cell, advance, advanceBy, Bounded, advanceBy-lt, advanceBy-suc, advanceBy-add}
 use Rattle.refusal.specs.declared.Refusal.{Refusal}
 use Rattle.refusal.specs.declared.Refusal.the-variants.{Done, Kind, Coded, Stretch, Apart}
-use Rattle.refusal.specs.Number.{doneOf}
-use Rattle.refusal.specs.Laws.{done-is, passed}
+use Rattle.refusal.specs.Number.{doneOf, wrongSize}
+use Rattle.refusal.specs.Laws.{done-is, passed, size-right}
 use Rattle.board.specs.declared.Page.{Page}
 use Rattle.board.specs.declared.Board.{Board}
 use Rattle.board.specs.Range.{memoryRefused}
@@ -262,7 +262,7 @@ sheetCheck b n = pick (doneOf (ownCheck b n)) (asTableOrder (b .page) (sheetPlac
 
 pub own-passed : (b : Board) (n : ℕ) → ownCheck b n ≡ Done → Accepted (b .page) × (n ≡ 16384)
 unfolding ownCheck
-own-passed b n e = let k = call-passed b (memoryRefused n) false false e in (k .page, memory-all n (k .sized))
+own-passed b n e = let k = call-passed b (wrongSize (memoryRefused n)) false false e in (k .page, memory-all n (size-right _ (k .lent-fine)))
 
 pub same-check : (b : Board) (chars : List ℕ) → sheetCheck b (length chars) ≡ asTableCheck b chars
 unfolding sheetCheck asTableCheck

@@ -10,7 +10,7 @@ use Rattle.lists.specs.Tab.{tab}
 use Rattle.lists.specs.Search.{anyBelow, firstBelow}
 use Rattle.refusal.specs.declared.Refusal.{Refusal}
 use Rattle.refusal.specs.declared.Refusal.the-variants.{Done, Kind, Coded, Stretch}
-use Rattle.refusal.specs.Number.{doneOf}
+use Rattle.refusal.specs.Number.{doneOf, wrongSize}
 use Rattle.board.specs.declared.Page.{Page}
 use Rattle.board.specs.declared.Board.{Board}
 use Rattle.board.specs.Parts.{withIrs, withStarts, withPage}
@@ -63,7 +63,7 @@ asTableChars p chars a = take a chars ++ (tab (tableSize p) (tableByte p chars) 
 -- [R-5 refusals]
 -- the page's own: 3 for character memory, 12, 4, 13, 14, 15, 6, 7
 unfoldable pub ownCheck : Board → (n : ℕ) → Refusal
-ownCheck b n = callCheck b (memoryRefused n) false false
+ownCheck b n = callCheck b (wrongSize (memoryRefused n)) false false
 
 -- [R-5 refusals] after the page's own 16, 19, 17 or 18, each exactly when its fact holds and none before it does
 -- then 16, 19, 17

@@ -96,7 +96,7 @@ fn put_table(out: &mut [u8], buffer: raster::Buffer, start: raster::Cell, column
 fn own_check(b: board::Board, n: usize) -> refusal::Refusal
     ensures { λ r. ⌜ r ≡ ownCheck b n ⌝ }
 {
-    timing::call_check(b, n != 16384, false, false)
+    timing::call_check(b, refusal::wrong_size(n != 16384), false, false)
 }
 
 // 16, 19, 17 for an accepted page.

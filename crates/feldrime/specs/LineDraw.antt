@@ -9,14 +9,14 @@ use Rattle.lists.specs.Choice.{pick}
 use Rattle.refusal.specs.declared.Refusal.{Refusal}
 use Rattle.refusal.specs.declared.Refusal.the-variants.{Size}
 use Rattle.shape.specs.Font.{Font}
-use Rattle.video.specs.At.{lentRefused}
+use Rattle.video.specs.At.{lentCheck}
 use Rattle.line.specs.Line.{drawCheck, drawnOf}
 use Rattle.numbers.specs.Numbers.{numbersRefused, numbersBoard}
 
 -- 3 for the numbers, then the line's own refusals
 unfoldable pub lineDrawCheck : (numbers chars attrs : List ℕ) → Font → (line room : ℕ) → Refusal
 lineDrawCheck numbers chars attrs f line room =
-    pick (numbersRefused numbers) Size (drawCheck (numbersBoard numbers) (lentRefused chars attrs f) line room)
+    pick (numbersRefused numbers) Size (drawCheck (numbersBoard numbers) (lentCheck chars attrs f) line room)
 
 -- the buffer afterwards, which stays where the numbers are refused
 unfoldable pub lineDrawn : (numbers chars attrs : List ℕ) → Font → (line field : ℕ) → List ℕ → List ℕ

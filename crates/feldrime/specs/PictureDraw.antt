@@ -9,14 +9,14 @@ use Rattle.lists.specs.Choice.{pick}
 use Rattle.refusal.specs.declared.Refusal.{Refusal}
 use Rattle.refusal.specs.declared.Refusal.the-variants.{Size}
 use Rattle.shape.specs.Font.{Font}
-use Rattle.video.specs.At.{lentRefused}
+use Rattle.video.specs.At.{lentCheck}
 use Rattle.picture.specs.Picture.{pictureCheck, picturedOf}
 use Rattle.numbers.specs.Numbers.{numbersRefused, numbersBoard}
 
 -- 3 for the numbers, then the picture's own refusals
 unfoldable pub pictureDrawCheck : (numbers chars attrs : List ℕ) → Font → (room : ℕ) → Refusal
 pictureDrawCheck numbers chars attrs f room =
-    pick (numbersRefused numbers) Size (pictureCheck (numbersBoard numbers) (lentRefused chars attrs f) room)
+    pick (numbersRefused numbers) Size (pictureCheck (numbersBoard numbers) (lentCheck chars attrs f) room)
 
 -- the buffer afterwards, which stays where the numbers are refused
 unfoldable pub pictureDrawn : (numbers chars attrs : List ℕ) → Font → (field : ℕ) → List ℕ → List ℕ

@@ -12,8 +12,8 @@ use lib.Seq.{length-take-le}
 use Rattle.lists.specs.Choice.{pick}
 use Rattle.refusal.specs.declared.Refusal.{Refusal}
 use Rattle.refusal.specs.declared.Refusal.the-variants.{Done}
-use Rattle.refusal.specs.Number.{doneOf}
-use Rattle.refusal.specs.Laws.{done-is}
+use Rattle.refusal.specs.Number.{doneOf, wrongSize}
+use Rattle.refusal.specs.Laws.{done-is, size-right}
 use Rattle.raster.specs.Moves.{advanceBy, advanceBy-lt}
 use Rattle.raster.specs.declared.Code.{Code}
 use Rattle.raster.specs.Wide.{codeOf, isWide}
@@ -135,8 +135,8 @@ pub record Run (b : Board) (n row : ℕ) : Type 0 where
 pub run-passed : (b : Board) (n row : ℕ) → runCheck b n row ≡ Done → Run b n row
 unfolding runCheck
 run-passed b n row e =
-    let k = call-passed b (memoryRefused n) (leb (rowsOf (b .page)) row) false e in
-    record { page = k .page; whole = memory-all n (k .sized); row-lt = leb-false _ _ (k .in-reach) }
+    let k = call-passed b (wrongSize (memoryRefused n)) (leb (rowsOf (b .page)) row) false e in
+    record { page = k .page; whole = memory-all n (size-right _ (k .lent-fine)); row-lt = leb-false _ _ (k .in-reach) }
 
 count-some : (p : Page) (n s : ℕ) → 0 < n → s < 16384 → 0 < runCount p n s
 unfolding runCount

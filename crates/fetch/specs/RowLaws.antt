@@ -18,8 +18,8 @@ use lib.ListN.{length, getD, drop, List·getD-append}
 use Rattle.lists.specs.Choice.{pick, neither, pick-le}
 use Rattle.lists.specs.Tab.{tab, length-tab, getD-tab}
 use Rattle.refusal.specs.declared.Refusal.the-variants.{Done}
-use Rattle.refusal.specs.Number.{doneOf}
-use Rattle.refusal.specs.Laws.{done-is}
+use Rattle.refusal.specs.Number.{doneOf, wrongSize}
+use Rattle.refusal.specs.Laws.{done-is, size-right}
 use Rattle.raster.specs.declared.Buffer.{Buffer}
 use Rattle.raster.specs.Moves.{advanceBy, by-near}
 use Rattle.board.specs.declared.Page.{Page}
@@ -42,9 +42,9 @@ pub cells-passed : (b : Board) (n row room : ℕ) → cellsCheck b n row room �
 unfolding cellsCheck runCheck
 cells-passed b n row room e =
     let asked = leb (rowsOf (b .page)) row in
-    let sized = call-passed b (memoryRefused n || ltb room 256) asked false e .sized in
+    let sized = size-right _ (call-passed b (wrongSize (memoryRefused n || ltb room 256)) asked false e .lent-fine) in
     let s = neither (memoryRefused n) (ltb room 256) sized in
-    (ap (λ (t : Bool). callCheck b t asked false) (s .0 ∙ sym sized) ∙ e, ltb-false _ _ (s .1))
+    (ap (λ (t : Bool). callCheck b (wrongSize t) asked false) (s .0 ∙ sym sized) ∙ e, ltb-false _ _ (s .1))
 
 pub cells-as-run : (b : Board) (n row room : ℕ) → 256 ≤ room → cellsCheck b n row room ≡ runCheck b n row
 unfolding cellsCheck runCheck

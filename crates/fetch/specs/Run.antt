@@ -9,7 +9,7 @@ use lib.Dec.{leb, ltb}
 use lib.ListN.{length, take, drop}
 use Rattle.lists.specs.Choice.{pick, both}
 use Rattle.refusal.specs.declared.Refusal.{Refusal}
-use Rattle.refusal.specs.Number.{doneOf, numberOf}
+use Rattle.refusal.specs.Number.{doneOf, numberOf, wrongSize}
 use Rattle.raster.specs.declared.Buffer.{Buffer}
 use Rattle.raster.specs.Moves.{toLast, advanceBy, by-near}
 use Rattle.board.specs.declared.Page.{Page}
@@ -22,7 +22,7 @@ use Rattle.fetch.specs.Rows.{rowStart, fetchedOf}
 
 -- a call that asks for a row: 3 where a lent part has a wrong size, 12, 4, 13, 14, 15, 6, 7
 abbrev pub rowCheck : Board → (size : Bool) → (row : ℕ) → Refusal
-rowCheck b size row = callCheck b size (leb (rowsOf (b .page)) row) false
+rowCheck b size row = callCheck b (wrongSize size) (leb (rowsOf (b .page)) row) false
 
 -- [refusal kinds]
 -- 3 for a character memory of n cells

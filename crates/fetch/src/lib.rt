@@ -164,7 +164,7 @@ fn row_check(b: board::Board, size: bool, row: u32) -> refusal::Refusal
 {
     let page = b.page;
     let t = timing::timing_of(page);
-    timing::call_check(b, size, t.counts.rows <= row, false)
+    timing::call_check(b, refusal::wrong_size(size), t.counts.rows <= row, false)
 }
 
 fn run_check(b: board::Board, n: usize, row: u32) -> refusal::Refusal

@@ -8,7 +8,7 @@ use lib.Dec.{eqb, ltb}
 use Rattle.lists.specs.Choice.{pick, firstOf, within}
 use Rattle.refusal.specs.declared.Refusal.{Refusal}
 use Rattle.refusal.specs.declared.Refusal.the-variants.{Version, Length, Size}
-use Rattle.refusal.specs.Number.{doneOf}
+use Rattle.refusal.specs.Number.{doneOf, wrongSize}
 use Rattle.board.specs.declared.Page.{Page}
 use Rattle.board.specs.declared.Board.{Board}
 use Rattle.board.specs.State.{powerOf}
@@ -76,7 +76,7 @@ fileOf p chars attrs = headOf p ++ (chars ++ attrs)
 -- [refusal kinds]
 -- 3, the page's own 12, 4, 13, 14, 15, 6, then 7 for the state
 unfoldable pub writeCheck : Board → (chars attrs out : ℕ) → Refusal
-writeCheck b chars attrs out = callCheck b (memoriesRefused chars attrs || ltb out (fileSize (b .page .version))) false false
+writeCheck b chars attrs out = callCheck b (wrongSize (memoriesRefused chars attrs || ltb out (fileSize (b .page .version)))) false false
 
 -- [file beyond] bytes beyond a written file stay
 -- the buffer afterwards: the file, and what stood beyond it; on a refusal as it was

@@ -11,8 +11,8 @@ use lib.Seq.{take-all, length-take-le}
 use Rattle.lists.specs.Choice.{firstOf, both, neither}
 use Rattle.refusal.specs.declared.Refusal.{Refusal}
 use Rattle.refusal.specs.declared.Refusal.the-variants.{Done, Version, Length, Size}
-use Rattle.refusal.specs.Number.{doneOf}
-use Rattle.refusal.specs.Laws.{done-is, passed}
+use Rattle.refusal.specs.Number.{doneOf, wrongSize}
+use Rattle.refusal.specs.Laws.{done-is, passed, size-right}
 use Rattle.board.specs.declared.Page.{Page}
 use Rattle.board.specs.declared.Board.{Board}
 use Rattle.board.specs.State.{powerOf}
@@ -185,8 +185,8 @@ pub write-passed : (b : Board) (chars attrs out : ℕ) → writeCheck b chars at
     → (b .page .video .dots .0 ≤ 12) × (chars ≡ 16384) × (attrs ≡ 16384) × (fileSize (b .page .version) ≤ out)
 unfolding writeCheck
 write-passed b chars attrs out e =
-    let q = call-passed b (memoriesRefused chars attrs || ltb out (fileSize (b .page .version))) false false e in
-    let s = neither (memoriesRefused chars attrs) (ltb out (fileSize (b .page .version))) (q .sized) in
+    let q = call-passed b (wrongSize (memoriesRefused chars attrs || ltb out (fileSize (b .page .version)))) false false e in
+    let s = neither (memoriesRefused chars attrs) (ltb out (fileSize (b .page .version))) (size-right _ (q .lent-fine)) in
     let m = memories-all chars attrs (s .0) in
     (q .page .most, m .0, m .1, ltb-false _ _ (s .1))
 

@@ -272,12 +272,8 @@ fn write_check(b: board::Board, chars: usize, attrs: usize, out: usize) -> refus
     ensures { λ r. ⌜ r ≡ writeCheck b chars attrs out ⌝ }
 {
     let short = out < file_size(b.page.version);
-    timing::call_check(
-        b,
-        board::memories_refused(chars, attrs) | short,
-        false,
-        false,
-    )
+    let size = board::memories_refused(chars, attrs) | short;
+    timing::call_check(b, refusal::wrong_size(size), false, false)
 }
 
 // Writes a board's page and its memories as a page file. A refusal leaves out as it was.

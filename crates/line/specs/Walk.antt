@@ -14,7 +14,7 @@ use Rattle.lists.specs.Choice.{pick, firstOf, neither}
 use Rattle.lists.specs.Join.{joined, same-joined}
 use Rattle.lists.specs.Tab.{tab, same-tab}
 use Rattle.refusal.specs.declared.Refusal.{Refusal}
-use Rattle.refusal.specs.declared.Refusal.the-variants.{Done, Size, Range, Room}
+use Rattle.refusal.specs.declared.Refusal.the-variants.{Done, Range, Room}
 use Rattle.refusal.specs.Number.{doneOf}
 use Rattle.refusal.specs.Laws.{passed, not-refused}
 use Rattle.raster.specs.declared.Buffer.{Buffer}
@@ -41,7 +41,7 @@ use Rattle.video.specs.declared.Reading.{Reading}
 use Rattle.video.specs.Scene.{sceneOf}
 use Rattle.video.specs.Cell.{columnOf}
 use Rattle.video.specs.Lent.{Lent, lent}
-use Rattle.video.specs.At.{Content, lentRefused, scanAt, readingOf, countedByte, contentAt, scanDots, dotsAt, fetchedContent}
+use Rattle.video.specs.At.{Content, lentCheck, scanAt, readingOf, countedByte, contentAt, scanDots, dotsAt, fetchedContent}
 use Rattle.dots.specs.Stores.{wideOf}
 use Rattle.dots.specs.Width.{shades, length-shades}
 use Rattle.dots.specs.Half.{shownOf, fetchedFor, cells-few, same-shown}
@@ -93,22 +93,22 @@ module _ (w : Walk) (row looks words flags : List ℕ) (columns : ℕ) {wide : B
 abbrev pub lastOf : (asked room : Bool) → Refusal
 lastOf asked room = pick asked Range (pick room Room Done)
 
-module _ (b : Board) (size asked room : Bool) where
-  pub check-last : callCheck b size false false ≡ Done → lastOf asked room ≡ callCheck b size asked room
+module _ (b : Board) (lent : Refusal) (asked room : Bool) where
+  pub check-last : callCheck b lent false false ≡ Done → lastOf asked room ≡ callCheck b lent asked room
   unfolding callCheck
   check-last e =
-      let s = passed size Size _ refl e in
+      let s = not-refused lent _ e in
       let p = not-refused (pageCheck (b .page)) _ (s .1) in
       let r = passed (stateRefused b || false) Range _ refl (p .1) in
       let q = neither (stateRefused b) false (r .0) in
       rw (s .0, p .0, q .0)
 
-  pub check-first : doneOf (callCheck b size false false) ≡ false → callCheck b size false false ≡ callCheck b size asked room
+  pub check-first : doneOf (callCheck b lent false false) ≡ false → callCheck b lent false false ≡ callCheck b lent asked room
   unfolding callCheck
-  check-first = go size (pageCheck (b .page)) (stateRefused b)
+  check-first = go (not (doneOf lent)) (pageCheck (b .page)) (stateRefused b)
     where
-      order : (size : Bool) → Refusal → (range room : Bool) → Refusal
-      order size page range room = firstOf ((size, Size) ∷ (not (doneOf page), page) ∷ (range, Range) ∷ (room, Room) ∷ []) Done
+      order : (short : Bool) → Refusal → (range room : Bool) → Refusal
+      order short page range room = firstOf ((short, lent) ∷ (not (doneOf page), page) ∷ (range, Range) ∷ (room, Room) ∷ []) Done
 
       go : (s : Bool) (p : Refusal) (t : Bool) → doneOf (order s p (t || false) false) ≡ false → order s p (t || false) false ≡ order s p (t || asked) room
       go true p t q = refl
@@ -122,13 +122,13 @@ module _ (b : Board) (size asked room : Bool) where
 -- ---- a call that is not refused
 
 -- a line that the check takes is visible, and there is room for it
-pub draw-passed : (b : Board) (chars attrs : List ℕ) (f : Font) (line room : ℕ) → drawCheck b (lentRefused chars attrs f) line room ≡ Done
+pub draw-passed : (b : Board) (chars attrs : List ℕ) (f : Font) (line room : ℕ) → drawCheck b (lentCheck chars attrs f) line room ≡ Done
     → Lent b chars attrs (f .words) (f .flags) × (rowFor b line < rowsOf (b .page)) × (lineLength b ≤ room)
 unfolding drawCheck
 draw-passed b chars attrs f line room e =
     let asked = leb (visibleOf (b .page) .0) line in
     let short = ltb room (lineLength b) in
-    let k = call-passed b (lentRefused chars attrs f) asked short e in
+    let k = call-passed b (lentCheck chars attrs f) asked short e in
     (lent b chars attrs f asked short e, row-shown (b .page) line (leb-false _ _ (k .in-reach)), ltb-false _ _ (k .roomy))
 
 -- what is valid before the cell that the row fetches after i others
@@ -343,11 +343,11 @@ module _ (b : Board) (chars attrs words flags : List ℕ) (font : FontLine) (lin
 -- ---- what the call leaves
 
 module _ (b : Board) (chars attrs : List ℕ) (f : Font) (line field : ℕ) (out₀ : List ℕ) where
-  pub left-drawn : doneOf (drawCheck b (lentRefused chars attrs f) line (length out₀)) ≡ true
+  pub left-drawn : doneOf (drawCheck b (lentCheck chars attrs f) line (length out₀)) ≡ true
       → (out : List ℕ) → out ≡ lineDots b chars attrs f line field ++ drop (lineLength b) out₀ → out ≡ drawnOf b chars attrs f line field out₀
   unfolding drawnOf
   left-drawn t out e = rw t e
 
-  pub left-alone : doneOf (drawCheck b (lentRefused chars attrs f) line (length out₀)) ≡ false → out₀ ≡ drawnOf b chars attrs f line field out₀
+  pub left-alone : doneOf (drawCheck b (lentCheck chars attrs f) line (length out₀)) ≡ false → out₀ ≡ drawnOf b chars attrs f line field out₀
   unfolding drawnOf
   left-alone t = rw t

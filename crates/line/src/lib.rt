@@ -114,10 +114,15 @@ fn line_check(p: board::Page, line: units::Lines, room: usize) -> refusal::Refus
     refusal::Refusal::Done
 }
 
-fn draw_check(b: board::Board, size: bool, line: units::Lines, room: usize) -> refusal::Refusal
-    ensures { λ r. ⌜ r ≡ drawCheck b size (line .0) room ⌝ }
+fn draw_check(
+    b: board::Board,
+    lent: refusal::Refusal,
+    line: units::Lines,
+    room: usize,
+) -> refusal::Refusal
+    ensures { λ r. ⌜ r ≡ drawCheck b lent (line .0) room ⌝ }
 {
-    let refused = timing::call_check(b, size, false, false);
+    let refused = timing::call_check(b, lent, false, false);
     if refusal::is_done(refused) {
         return line_check(b.page, line, room);
     }
@@ -204,8 +209,8 @@ pub fn draw_line(
     ensures { λ r. ⌜ DrawsLine b (now (chars .entry)) (now (attrs .entry)) (lentFont words flags unshifted shifted)
         (line .0) field (now (out .entry)) r (now (out .exit)) ⌝ }
 {
-    let size = video::lent_refused(chars, attrs, words, flags, unshifted, shifted);
-    let refused = draw_check(b, size, line, out.len());
+    let lent = video::lent_check(chars, attrs, words, flags, unshifted, shifted);
+    let refused = draw_check(b, lent, line, out.len());
     if refusal::is_done(refused) {
         let scan = scan_for(b, chars, line);
         let font = shape::font_line(unshifted, shifted, scan);

@@ -20,7 +20,7 @@ use Rattle.timing.specs.Check.{pageCheck, sizeOf, callCheck}
 use Rattle.timing.specs.Laws.{Accepted, accepted, call-passed, asked-last}
 use Rattle.shape.specs.Font.{Font}
 use Rattle.line.specs.Length.{length-line}
-use Rattle.video.specs.At.{lentRefused}
+use Rattle.video.specs.At.{lentCheck}
 use Rattle.line.specs.Line.{lineDots, lineLength, drawCheck, drawnOf}
 use Rattle.listing.specs.declared.Listed.{Listed}
 use Rattle.listing.specs.Listing.{lineFeed, letterOf, listingLine, lineCheck, listedOf, listedIn}
@@ -40,9 +40,9 @@ one-less room n h = go (ltb room (n + 1)) refl
     go true e = lt-ltb (room - 1) n (omega (arith, ltb-true room (n + 1) e))
     go false e = le-ltb (room - 1) n (omega (arith, ltb-false room (n + 1) e))
 
-feed-kept : (b : Board) (size : Bool) (line room : ℕ) → drawCheck b size line (room - 1) ≡ lineCheck b size line room
+feed-kept : (b : Board) (lent : Refusal) (line room : ℕ) → drawCheck b lent line (room - 1) ≡ lineCheck b lent line room
 unfolding drawCheck lineCheck
-feed-kept b size line room = asked-last b size _ _ _ _ (λ e. (refl, one-less room (lineLength b) (line-some b (accepted (b .page) e))))
+feed-kept b lent line room = asked-last b lent _ _ _ _ (λ e. (refl, one-less room (lineLength b) (line-some b (accepted (b .page) e))))
 
 -- ---- its length
 
@@ -58,26 +58,26 @@ pub record Fitting (b : Board) (room : ℕ) : Type 0 where
   pub page : Accepted (b .page)
   pub roomy : lineLength b + 1 ≤ room
 
-line-passed : (b : Board) (size : Bool) (line room : ℕ) → lineCheck b size line room ≡ Done → Fitting b room
+line-passed : (b : Board) (lent : Refusal) (line room : ℕ) → lineCheck b lent line room ≡ Done → Fitting b room
 unfolding lineCheck callCheck sizeOf
-line-passed b size line room e =
-    let k = call-passed b size (leb (visibleOf (b .page) .0) line) (ltb room (lineLength b + 1)) e in
-    let p = not-refused (pageCheck (b .page)) _ (passed size Size _ refl e .1) in
+line-passed b lent line room e =
+    let k = call-passed b lent (leb (visibleOf (b .page) .0) line) (ltb room (lineLength b + 1)) e in
+    let p = not-refused (pageCheck (b .page)) _ (not-refused lent _ e .1) in
     record { long = rw (p .0); page = k .page; roomy = ltb-false room (lineLength b + 1) (k .roomy) }
 
-pub line-within : (b : Board) (chars attrs : List ℕ) (f : Font) (size : Bool) (line field room : ℕ)
-    → listedOf (lineCheck b size line room) (listingLine b chars attrs f line field) .count ≤ room
-line-within b chars attrs f size line field room =
-    listed-within (lineCheck b size line room) (listingLine b chars attrs f line field) room (λ e.
-    let k = line-passed b size line room e in
+pub line-within : (b : Board) (chars attrs : List ℕ) (f : Font) (lent : Refusal) (line field room : ℕ)
+    → listedOf (lineCheck b lent line room) (listingLine b chars attrs f line field) .count ≤ room
+line-within b chars attrs f lent line field room =
+    listed-within (lineCheck b lent line room) (listingLine b chars attrs f line field) room (λ e.
+    let k = line-passed b lent line room e in
     omega (arith, length-listing b chars attrs f line field (k .page), k .roomy))
 
 -- ---- what the call leaves: the drawer, which answered r, was lent the first k bytes, all but one, and left `part` there
 
 module _ (b : Board) (chars attrs : List ℕ) (f : Font) (line field : ℕ) (out : List ℕ) (k : ℕ) (less : k ≡ length out - 1) (r : Refusal) (part : List ℕ)
-    (drew : (r ≡ drawCheck b (lentRefused chars attrs f) line (length (take k out))) × (part ≡ drawnOf b chars attrs f line field (take k out))) where
+    (drew : (r ≡ drawCheck b (lentCheck chars attrs f) line (length (take k out))) × (part ≡ drawnOf b chars attrs f line field (take k out))) where
   abbrev check : Refusal
-  check = lineCheck b (lentRefused chars attrs f) line (length out)
+  check = lineCheck b (lentCheck chars attrs f) line (length out)
 
   abbrev dots : List ℕ
   dots = lineDots b chars attrs f line field
@@ -89,7 +89,7 @@ module _ (b : Board) (chars attrs : List ℕ) (f : Font) (line field : ℕ) (out
   length-lent = simp length-take (omega arith)
 
   same : r ≡ check
-  same = drew .0 ∙ rw length-lent (feed-kept b (lentRefused chars attrs f) line (length out))
+  same = drew .0 ∙ rw length-lent (feed-kept b (lentCheck chars attrs f) line (length out))
 
   pub line-refused : doneOf r ≡ false → (l : Listed) → l ≡ listed r 0 → (l ≡ listedOf check bytes) × (part ++ drop k out ≡ listedIn check bytes out)
   unfolding drawnOf
@@ -103,7 +103,7 @@ module _ (b : Board) (chars attrs : List ℕ) (f : Font) (line field : ℕ) (out
     n = size .dots .0
 
     fitting : Fitting b (length out)
-    fitting = line-passed b (lentRefused chars attrs f) line (length out) (sym same ∙ done-is r t)
+    fitting = line-passed b (lentCheck chars attrs f) line (length out) (sym same ∙ done-is r t)
 
     long : lineLength b ≡ n
     long = rw whole (sym (fitting .long))

@@ -1,5 +1,5 @@
 -- 01's listing: the visible lines, one space, the dots in a line; then the lines, black `.`, gray `o`, white `#`; each ends with a line feed.
-use Rattle.video.specs.At.{lentRefused}
+use Rattle.video.specs.At.{lentCheck}
 use mathlib.Core.Path.{_≡_}
 use Prim.Native.Nat.{ℕ, _+_}
 use mathlib.Core.Bool.{Bool, not}
@@ -42,8 +42,8 @@ unfoldable pub headCheck : Page → (room : ℕ) → Refusal
 headCheck p room = firstOf ((not (doneOf (pageCheck p)), pageCheck p) ∷ (ltb room (length (listingHead p)), Room) ∷ []) Done
 
 -- as a line is drawn: 3, 12, 4, 13, 14, 15, 6, 7; then 8, where the line feed needs room too
-unfoldable pub lineCheck : Board → (size : Bool) → (line room : ℕ) → Refusal
-lineCheck b size line room = callCheck b size (leb (visibleOf (b .page) .0) line) (ltb room (lineLength b + 1))
+unfoldable pub lineCheck : Board → (lent : Refusal) → (line room : ℕ) → Refusal
+lineCheck b lent line room = callCheck b lent (leb (visibleOf (b .page) .0) line) (ltb room (lineLength b + 1))
 
 -- [case listing] the listing, its printed example, and `refused N`
 -- what a call with this check answers, where these are its bytes
@@ -65,4 +65,4 @@ ListsHead p out r left = Lists (headCheck p (length out)) (listingHead p) out r 
 -- [case listing]
 abbrev pub ListsLine : Board → (chars attrs : List ℕ) → Font → (line field : ℕ) → (out : List ℕ) → Listed → (left : List ℕ) → Type 0
 ListsLine b chars attrs f line field out r left =
-    Lists (lineCheck b (lentRefused chars attrs f) line (length out)) (listingLine b chars attrs f line field) out r left
+    Lists (lineCheck b (lentCheck chars attrs f) line (length out)) (listingLine b chars attrs f line field) out r left

@@ -44,7 +44,7 @@ head-answers p e =
 
 -- [case listing]
 -- and for every visible line
-pub line-answers : (file : List ℕ) → pageCheck (pageAt file 5) ≡ Done → (line : ℕ) → line < visibleOf (pageAt file 5) .0 → lineCheck (boardAt file 5) false line 3073 ≡ Done
+pub line-answers : (file : List ℕ) → pageCheck (pageAt file 5) ≡ Done → (line : ℕ) → line < visibleOf (pageAt file 5) .0 → lineCheck (boardAt file 5) Done line 3073 ≡ Done
 unfolding lineCheck callCheck stateRefused
 line-answers file e line h =
     let p = pageAt file 5 in

@@ -26,7 +26,7 @@ use Rattle.shape.specs.declared.FontLines.{FontLines}
 use Rattle.shape.specs.Font.{Font, fontLinesOf, fontLineAt, wordBy}
 use Rattle.shape.specs.Laws.{line-at}
 use Rattle.video.specs.Lent.{Lent, lent}
-use Rattle.video.specs.At.{Content, lentRefused, scanOf, readingOf, scanDots}
+use Rattle.video.specs.At.{Content, lentCheck, scanOf, readingOf, scanDots}
 use Rattle.dots.specs.Half.{same-shown}
 use Rattle.dots.specs.Stores.{inkOf}
 use Rattle.tables.specs.Tables.{markOf, numberFor, cellBy, shownWord, wordsAt, levelsAt}
@@ -41,20 +41,20 @@ use Rattle.picture.specs.Picture.{pictureDots, pictureLength, pictureChe
 
 -- ---- a call that is not refused
 
-pub picture-passed : (b : Board) (chars attrs : List ℕ) (f : Font) (room : ℕ) → pictureCheck b (lentRefused chars attrs f) room ≡ Done
+pub picture-passed : (b : Board) (chars attrs : List ℕ) (f : Font) (room : ℕ) → pictureCheck b (lentCheck chars attrs f) room ≡ Done
     → Lent b chars attrs (f .words) (f .flags) × (pictureLength (b .page) ≤ room)
 unfolding pictureCheck
 picture-passed b chars attrs f room e =
     let short = ltb room (pictureLength (b .page)) in
-    (lent b chars attrs f false short e, ltb-false _ _ (call-passed b (lentRefused chars attrs f) false short e .roomy))
+    (lent b chars attrs f false short e, ltb-false _ _ (call-passed b (lentCheck chars attrs f) false short e .roomy))
 
 module _ (b : Board) (chars attrs : List ℕ) (f : Font) (field : ℕ) (out₀ : List ℕ) where
-  pub left-pictured : doneOf (pictureCheck b (lentRefused chars attrs f) (length out₀)) ≡ true
+  pub left-pictured : doneOf (pictureCheck b (lentCheck chars attrs f) (length out₀)) ≡ true
       → (out : List ℕ) → out ≡ pictureDots b chars attrs f field ++ drop (pictureLength (b .page)) out₀ → out ≡ picturedOf b chars attrs f field out₀
   unfolding picturedOf
   left-pictured t out e = rw t e
 
-  pub left-alone : doneOf (pictureCheck b (lentRefused chars attrs f) (length out₀)) ≡ false → out₀ ≡ picturedOf b chars attrs f field out₀
+  pub left-alone : doneOf (pictureCheck b (lentCheck chars attrs f) (length out₀)) ≡ false → out₀ ≡ picturedOf b chars attrs f field out₀
   unfolding picturedOf
   left-alone t = rw t
 

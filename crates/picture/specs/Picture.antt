@@ -14,7 +14,7 @@ use Rattle.board.specs.declared.Board.{Board}
 use Rattle.timing.specs.Fields.{hactOf, visibleOf}
 use Rattle.timing.specs.Check.{callCheck}
 use Rattle.shape.specs.Font.{Font}
-use Rattle.video.specs.At.{lentRefused}
+use Rattle.video.specs.At.{lentCheck}
 use Rattle.line.specs.Line.{lineDots}
 
 -- [more picture] the picture is all visible lines, end to end, at the front of the buffer; bytes beyond stay
@@ -27,8 +27,8 @@ pictureLength p = visibleOf p .0 * (hactOf p * p .video .dots .0)
 
 -- [more picture]
 -- 3, 12, 4, 13, 14, 15, 6, 7, 8 for a buffer of room bytes that is too short
-unfoldable pub pictureCheck : Board → (size : Bool) → (room : ℕ) → Refusal
-pictureCheck b size room = callCheck b size false (ltb room (pictureLength (b .page)))
+unfoldable pub pictureCheck : Board → (lent : Refusal) → (room : ℕ) → Refusal
+pictureCheck b lent room = callCheck b lent false (ltb room (pictureLength (b .page)))
 
 -- the picture at the front of a buffer; bytes beyond it stay
 abbrev pub pictureOver : Board → (chars attrs : List ℕ) → Font → (field : ℕ) → (out : List ℕ) → List ℕ
@@ -38,7 +38,7 @@ pictureOver b chars attrs f field out = pictureDots b chars attrs f field ++ dro
 -- the buffer afterwards, which stays on a refusal
 unfoldable pub picturedOf : Board → (chars attrs : List ℕ) → Font → (field : ℕ) → List ℕ → List ℕ
 picturedOf b chars attrs f field out =
-    pick (doneOf (pictureCheck b (lentRefused chars attrs f) (length out)))
+    pick (doneOf (pictureCheck b (lentCheck chars attrs f) (length out)))
     (pictureOver b chars attrs f field out)
     out
 
@@ -46,4 +46,4 @@ picturedOf b chars attrs f field out =
 -- the call: the refusal, and the buffer afterwards
 abbrev pub DrawsPicture : Board → (chars attrs : List ℕ) → Font → (field : ℕ) → (out : List ℕ) → Refusal → (left : List ℕ) → Type 0
 DrawsPicture b chars attrs f field out r left =
-    (r ≡ pictureCheck b (lentRefused chars attrs f) (length out)) × (left ≡ picturedOf b chars attrs f field out)
+    (r ≡ pictureCheck b (lentCheck chars attrs f) (length out)) × (left ≡ picturedOf b chars attrs f field out)

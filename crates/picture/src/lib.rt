@@ -264,10 +264,10 @@ fn room_check(p: board::Page, room: usize) -> refusal::Refusal
     refusal::Refusal::Done
 }
 
-fn picture_check(b: board::Board, size: bool, room: usize) -> refusal::Refusal
-    ensures { λ r. ⌜ r ≡ pictureCheck b size room ⌝ }
+fn picture_check(b: board::Board, lent: refusal::Refusal, room: usize) -> refusal::Refusal
+    ensures { λ r. ⌜ r ≡ pictureCheck b lent room ⌝ }
 {
-    let refused = timing::call_check(b, size, false, false);
+    let refused = timing::call_check(b, lent, false, false);
     if refusal::is_done(refused) {
         return room_check(b.page, room);
     }
@@ -382,8 +382,8 @@ pub fn draw_picture(
     ensures { λ r. ⌜ DrawsPicture b (now (chars .entry)) (now (attrs .entry)) (lentFont words flags unshifted shifted)
         field (now (out .entry)) r (now (out .exit)) ⌝ }
 {
-    let size = video::lent_refused(chars, attrs, words, flags, unshifted, shifted);
-    let refused = picture_check(b, size, out.len());
+    let lent = video::lent_check(chars, attrs, words, flags, unshifted, shifted);
+    let refused = picture_check(b, lent, out.len());
     if refusal::is_done(refused) {
         let lines = shape::font_lines(unshifted, shifted);
         whole_picture(out, b, chars, attrs, words, flags, lines, field);

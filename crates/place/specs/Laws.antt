@@ -15,6 +15,8 @@ use Rattle.units.specs.declared.Clocks.{Clocks}
 use Rattle.units.specs.declared.Lines.{Lines}
 use Rattle.units.specs.Units.{clocks, lines}
 use Rattle.refusal.specs.declared.Refusal.the-variants.{Done}
+use Rattle.refusal.specs.Number.{wrongSize}
+use Rattle.refusal.specs.Laws.{size-right}
 use Rattle.raster.specs.declared.Row.{Row}
 use Rattle.raster.specs.declared.Cell.{Cell}
 use Rattle.raster.specs.Moves.{cell}
@@ -228,5 +230,5 @@ module _ (p : Page) (chars attrs : List ℕ) where
 
 pub state-whole : (b : Board) (chars attrs : List ℕ) → stateCheck b chars attrs ≡ Done → (length chars ≡ 16384) × (length attrs ≡ 16384)
 state-whole b chars attrs e =
-    let k = call-passed b (memoriesRefused (length chars) (length attrs)) false false e in
-    memories-all (length chars) (length attrs) (k .sized)
+    let k = call-passed b (wrongSize (memoriesRefused (length chars) (length attrs))) false false e in
+    memories-all (length chars) (length attrs) (size-right _ (k .lent-fine))

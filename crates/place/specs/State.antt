@@ -5,7 +5,7 @@ use mathlib.Core.List.{List}
 use lib.ListN.{length}
 use Rattle.lists.specs.Choice.{pick}
 use Rattle.refusal.specs.declared.Refusal.{Refusal}
-use Rattle.refusal.specs.Number.{doneOf}
+use Rattle.refusal.specs.Number.{doneOf, wrongSize}
 use Rattle.board.specs.declared.Board.{Board}
 use Rattle.board.specs.Parts.{withPlace}
 use Rattle.board.specs.Range.{memoriesRefused}
@@ -15,7 +15,7 @@ use Rattle.place.specs.Place.{placeAt}
 
 -- 3 for the memories, 12, 4, 13, 14, 15, 6, 7
 abbrev pub stateCheck : Board → (chars attrs : List ℕ) → Refusal
-stateCheck b chars attrs = callCheck b (memoriesRefused (length chars) (length attrs)) false false
+stateCheck b chars attrs = callCheck b (wrongSize (memoriesRefused (length chars) (length attrs))) false false
 
 abbrev pub stated : Refusal → Board → StateAt
 stated r b = record { refusal = r; board = b }

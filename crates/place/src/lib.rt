@@ -392,7 +392,7 @@ pub fn state_at(b: board::Board, chars: &[u8], attrs: &[u8], n: units::Clocks) -
     ensures { λ r. ⌜ r ≡ stateOf b (now (chars .entry)) (now (attrs .entry)) (n .0) ⌝ }
 {
     let size = board::memories_refused(chars.len(), attrs.len());
-    let refused = timing::call_check(b, size, false, false);
+    let refused = timing::call_check(b, refusal::wrong_size(size), false, false);
     if refusal::is_done(refused) {
         let page = b.page;
         let place = place_at(page, chars, attrs, n);

@@ -4,7 +4,7 @@ use mathlib.Core.Bool.{Bool, true, false, not, true≢false}
 use Rattle.lists.specs.Choice.{pick}
 use Rattle.refusal.specs.declared.Refusal.{Refusal}
 use Rattle.refusal.specs.declared.Refusal.the-variants.{Done, Version, Length, Size, Reserved, BackPorch, LineShort, FrontPorch, Width, Range, Room, Register, Command, Address, Kind, Stretch, Apart, Coded}
-use Rattle.refusal.specs.Number.{doneOf}
+use Rattle.refusal.specs.Number.{doneOf, wrongSize}
 
 pub done-is : (r : Refusal) → doneOf r ≡ true → r ≡ Done
 done-is Done e = refl
@@ -30,6 +30,9 @@ done-is Coded e = absurd (true≢false (sym e))
 pub passed : (t : Bool) (x r : Refusal) → doneOf x ≡ false → pick t x r ≡ Done → (t ≡ false) × (r ≡ Done)
 passed true x r q e = absurd (true≢false (sym (ap doneOf e) ∙ q))
 passed false x r q e = (refl, e)
+
+pub size-right : (wrong : Bool) → wrongSize wrong ≡ Done → wrong ≡ false
+size-right wrong e = passed wrong Size Done refl e .0
 
 -- the same for another check's answer x, which is given where it refuses
 pub not-refused : (x r : Refusal) → pick (not (doneOf x)) x r ≡ Done → (x ≡ Done) × (r ≡ Done)

@@ -2,6 +2,7 @@
 use Prim.Native.Nat.{ℕ}
 use lib.Dec.{eqb}
 use mathlib.Core.Bool.{Bool}
+use Rattle.lists.specs.Choice.{pick}
 use Rattle.refusal.specs.declared.Refusal.{Refusal}
 use Rattle.refusal.specs.declared.Refusal.the-variants.{Done, Version, Length, Size, Reserved, BackPorch, LineShort, FrontPorch, Width, Range, Room, Register, Command, Address, Kind, Stretch, Apart, Coded}
 
@@ -51,3 +52,7 @@ besideOf Coded = 0
 -- nothing is refused
 abbrev pub doneOf : Refusal → Bool
 doneOf r = eqb (numberOf r) 0
+
+-- 3 for a lent part of wrong size
+abbrev pub wrongSize : (wrong : Bool) → Refusal
+wrongSize wrong = pick wrong Size Done

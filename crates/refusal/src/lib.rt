@@ -1,6 +1,6 @@
 // The answer numbers of documents 01 and 02, by name.
 ghost use mathlib.Core.Path.{_≡_};
-ghost use Rattle.refusal.specs.Number.{numberOf, besideOf, doneOf};
+ghost use Rattle.refusal.specs.Number.{numberOf, besideOf, doneOf, wrongSize};
 
 // A line that is too short, and a front porch that is, tell by how many clocks the front porch misses 2.
 pub enum Refusal {
@@ -73,6 +73,16 @@ pub fn beside(r: Refusal) -> u32
         Refusal::Apart => 0,
         Refusal::Coded => 0,
     }
+}
+
+// 3, for a lent part of wrong size.
+pub fn wrong_size(wrong: bool) -> Refusal
+    ensures { λ r. ⌜ r ≡ wrongSize wrong ⌝ }
+{
+    if wrong {
+        return Refusal::Size;
+    }
+    Refusal::Done
 }
 
 // Nothing is refused.

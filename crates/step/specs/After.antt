@@ -16,7 +16,7 @@ use Rattle.timing.specs.Fields.{htOf, vtOf}
 use Rattle.timing.specs.Check.{pageCheck}
 use Rattle.timing.specs.Laws.{InRange, call-passed, range-ok, call-ok, call-page}
 use Rattle.shape.specs.Font.{Font}
-use Rattle.video.specs.At.{lentRefused}
+use Rattle.video.specs.At.{lentCheck}
 use Rattle.video.specs.Lent.{Lent, lent}
 use Rattle.place.specs.Place.{clockIn, lineIn, frameIn, carriedBefore, placeAt}
 use Rattle.place.specs.Walk.{carried-small, next-place}
@@ -31,10 +31,10 @@ module _ (b : Board) (chars attrs : List ℕ) (f : Font) (ok : stepCheck b chars
   fits = lent b chars attrs f false false ok
 
   pub page-ok : pageCheck (b .page) ≡ Done
-  page-ok = call-page b (lentRefused chars attrs f) false false ok
+  page-ok = call-page b (lentCheck chars attrs f) false false ok
 
-  lent-ok : lentRefused chars attrs f ≡ false
-  lent-ok = call-passed b (lentRefused chars attrs f) false false ok .sized
+  lent-ok : lentCheck chars attrs f ≡ Done
+  lent-ok = call-passed b (lentCheck chars attrs f) false false ok .lent-fine
 
   -- the board at clock n, at once
   abbrev pub atClock : ℕ → Board
@@ -56,7 +56,7 @@ module _ (b : Board) (chars attrs : List ℕ) (f : Font) (ok : stepCheck b chars
       }
 
   pub accepts : (n : ℕ) → stepCheck (atClock n) chars attrs f ≡ Done
-  accepts n = call-ok (atClock n) (lentRefused chars attrs f) lent-ok page-ok (range-ok (atClock n) (clock-in-range n))
+  accepts n = call-ok (atClock n) (lentCheck chars attrs f) lent-ok page-ok (range-ok (atClock n) (clock-in-range n))
 
   -- a step that nothing refuses
   pub step-is : (n : ℕ) → stepOf (atClock n) chars attrs f ≡ steppedOf (atClock n) chars attrs f

@@ -10,7 +10,7 @@ use lib.ListN.{length, replicate, drop, length-map}
 use Rattle.lists.specs.Choice.{pick}
 use Rattle.lists.specs.Tab.{tab}
 use Rattle.refusal.specs.declared.Refusal.{Refusal}
-use Rattle.refusal.specs.declared.Refusal.the-variants.{Done, Size, Range}
+use Rattle.refusal.specs.declared.Refusal.the-variants.{Done, Range}
 use Rattle.refusal.specs.Number.{doneOf}
 use Rattle.raster.specs.Wide.{codeOf, isWide}
 use Rattle.board.specs.declared.Place.{Place}
@@ -138,22 +138,22 @@ dots-shown b chars attrs f code held a most = ap (λ (l : List ℕ). padded l d)
 -- ---- the check
 
 -- nothing refuses a clock
-pub clear-check : (b : Board) (size : Bool) → ((not size && doneOf (pageCheck (b .page))) && not (stateRefused b)) ≡ doneOf (callCheck b size false false)
+pub clear-check : (b : Board) (lent : Refusal) → ((doneOf lent && doneOf (pageCheck (b .page))) && not (stateRefused b)) ≡ doneOf (callCheck b lent false false)
 unfolding callCheck
-clear-check b size = go size (doneOf (pageCheck (b .page))) (stateRefused b) refl
+clear-check b lent = go (doneOf lent) refl (doneOf (pageCheck (b .page))) refl (stateRefused b)
   where
-    go : (s d r : Bool) → doneOf (pageCheck (b .page)) ≡ d
-        → ((not s && d) && not r) ≡ doneOf (pick s Size (pick (not d) (pageCheck (b .page)) (pick (r || false) Range Done)))
-    go true d r e = refl
-    go false true true e = refl
-    go false true false e = refl
-    go false false r e = sym e
+    go : (s : Bool) → doneOf lent ≡ s → (d : Bool) → doneOf (pageCheck (b .page)) ≡ d → (r : Bool)
+        → ((s && d) && not r) ≡ doneOf (pick (not s) lent (pick (not d) (pageCheck (b .page)) (pick (r || false) Range Done)))
+    go false e d q r = sym e
+    go true e true q true = refl
+    go true e true q false = refl
+    go true e false q r = sym q
 
 -- where neither the sizes nor the page refuse it, the state does
-pub range-left : (b : Board) (size : Bool) → doneOf (callCheck b size false false) ≡ false → size ≡ false → doneOf (pageCheck (b .page)) ≡ true
-    → Range ≡ callCheck b size false false
+pub range-left : (b : Board) (lent : Refusal) → doneOf (callCheck b lent false false) ≡ false → doneOf lent ≡ true → doneOf (pageCheck (b .page)) ≡ true
+    → Range ≡ callCheck b lent false false
 unfolding callCheck
-range-left b size n s d = rw (s, d) (go (stateRefused b) (rw (s, d) at n))
+range-left b lent n s d = rw (s, d) (go (stateRefused b) (rw (s, d) at n))
   where
     go : (r : Bool) → doneOf (pick (r || false) Range Done) ≡ false → Range ≡ pick (r || false) Range Done
     go true e = refl

@@ -10,7 +10,7 @@ use Rattle.refusal.specs.Number.{doneOf}
 use Rattle.board.specs.declared.Board.{Board}
 use Rattle.timing.specs.Check.{callCheck}
 use Rattle.shape.specs.Font.{Font}
-use Rattle.video.specs.At.{lentRefused}
+use Rattle.video.specs.At.{lentCheck}
 use Rattle.step.specs.declared.Signals.{Signals}
 use Rattle.step.specs.declared.Stepped.{Stepped}
 use Rattle.step.specs.declared.Clock.{Clock}
@@ -44,7 +44,7 @@ steppedOf b chars attrs f = record {
 -- [refusal kinds]
 -- 3, 12, 4, 13, 14, 15, 6, 7
 abbrev pub stepCheck : Board → (chars attrs : List ℕ) → Font → Refusal
-stepCheck b chars attrs f = callCheck b (lentRefused chars attrs f) false false
+stepCheck b chars attrs f = callCheck b (lentCheck chars attrs f) false false
 
 abbrev pub noSignals : Signals
 noSignals = record { hsync = false; vsync = false; blank = false; cursor = false; blink = false }

@@ -251,20 +251,20 @@ fn one_clock(
 }
 
 // Whether nothing refuses a clock, without the number. timing::call_check has it all, but is too large to be inlined.
-fn clear(b: board::Board, size: bool) -> bool
-    ensures { λ r. ⌜ r ≡ doneOf (callCheck b size false false) ⌝ }
+fn clear(b: board::Board, lent: refusal::Refusal) -> bool
+    ensures { λ r. ⌜ r ≡ doneOf (callCheck b lent false false) ⌝ }
 {
     let page = b.page;
-    !size & refusal::is_done(timing::page_check(page)) & !timing::state_refused(b)
+    refusal::is_done(lent) & refusal::is_done(timing::page_check(page)) & !timing::state_refused(b)
 }
 
 // What refuses a clock that something refuses.
-fn refused_by(b: board::Board, size: bool) -> refusal::Refusal
-    requires { ⌜ doneOf (callCheck b size false false) ≡ false ⌝ }
-    ensures { λ r. ⌜ r ≡ callCheck b size false false ⌝ }
+fn refused_by(b: board::Board, lent: refusal::Refusal) -> refusal::Refusal
+    requires { ⌜ doneOf (callCheck b lent false false) ≡ false ⌝ }
+    ensures { λ r. ⌜ r ≡ callCheck b lent false false ⌝ }
 {
-    if size {
-        return refusal::Refusal::Size;
+    if !refusal::is_done(lent) {
+        return lent;
     }
     let page = b.page;
     let refused = timing::page_check(page);
@@ -286,8 +286,8 @@ fn clock_of(
 ) -> Clock
     ensures { λ r. ⌜ r ≡ clockIn (stepOf b (now (chars .entry)) (now (attrs .entry)) (lentFont words flags unshifted shifted)) ⌝ }
 {
-    let size = video::lent_refused(chars, attrs, words, flags, unshifted, shifted);
-    if clear(b, size) {
+    let lent = video::lent_check(chars, attrs, words, flags, unshifted, shifted);
+    if clear(b, lent) {
         let page = b.page;
         let at = b.place;
         let c = place::loaded_at(page, chars, at);
@@ -297,7 +297,7 @@ fn clock_of(
     }
     let place = b.place;
     Clock {
-        refusal: refused_by(b, size),
+        refusal: refused_by(b, lent),
         signals: Signals {
             hsync: false,
             vsync: false,

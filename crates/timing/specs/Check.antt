@@ -82,11 +82,11 @@ stateRefused b =
     || pointerRefused (b .page) (b .pointer)
 
 -- [refusal order]
--- drawing, stepping, states and runs give 3, then the page's own 12, 4, 13, 14, 15, 6, then 7 for the state and for what is asked, then 8
-unfoldable pub callCheck : Board → (size asked room : Bool) → Refusal
-callCheck b size asked room =
+-- drawing, stepping, states and runs give what refuses a lent part, 3, then the page's own 12, 4, 13, 14, 15, 6, then 7 for the state and for what is asked, then 8
+unfoldable pub callCheck : Board → (lent : Refusal) → (asked room : Bool) → Refusal
+callCheck b lent asked room =
     firstOf
-    ((size, Size)
+    ((not (doneOf lent), lent)
     ∷ (not (doneOf (pageCheck (b .page))), pageCheck (b .page))
     ∷ (stateRefused b || asked, Range)
     ∷ (room, Room)

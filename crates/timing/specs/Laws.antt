@@ -11,7 +11,8 @@ use Rattle.lists.specs.Choice.{pick, neither, pick-le}
 use Rattle.units.specs.declared.Lines.{Lines}
 use Rattle.units.specs.declared.Dots.{Dots}
 use Rattle.units.specs.Units.{clocksOf}
-use Rattle.refusal.specs.declared.Refusal.the-variants.{Done, Size, Reserved, BackPorch, LineShort, FrontPorch, Width, Range, Room, Address}
+use Rattle.refusal.specs.declared.Refusal.{Refusal}
+use Rattle.refusal.specs.declared.Refusal.the-variants.{Done, Reserved, BackPorch, LineShort, FrontPorch, Width, Range, Room, Address}
 use Rattle.refusal.specs.Number.{doneOf}
 use Rattle.refusal.specs.Laws.{done-is, passed, not-refused}
 use Rattle.raster.specs.Moves.{Bounded}
@@ -192,32 +193,32 @@ in-range b e =
       pointer-le = ltb-false _ _ (d .1);
     }
 
-pub record Passed (b : Board) (size asked room : Bool) : Type 0 where
-  pub sized : size ≡ false
+pub record Passed (b : Board) (lent : Refusal) (asked room : Bool) : Type 0 where
+  pub lent-fine : lent ≡ Done
   pub page : Accepted (b .page)
   pub state : InRange b
   pub in-reach : asked ≡ false
   pub roomy : room ≡ false
 
-pub call-passed : (b : Board) (size asked room : Bool) → callCheck b size asked room ≡ Done → Passed b size asked room
+pub call-passed : (b : Board) (lent : Refusal) (asked room : Bool) → callCheck b lent asked room ≡ Done → Passed b lent asked room
 unfolding callCheck
-call-passed b size asked room e =
-    let s = passed size Size _ refl e in
+call-passed b lent asked room e =
+    let s = not-refused lent _ e in
     let p = not-refused (pageCheck (b .page)) _ (s .1) in
     let r = passed (stateRefused b || asked) Range _ refl (p .1) in
     let o = passed room Room _ refl (r .1) in
     let q = neither (stateRefused b) asked (r .0) in
     record {
-      sized = s .0;
+      lent-fine = s .0;
       page = accepted (b .page) (p .0);
       state = in-range b (q .0);
       in-reach = q .1;
       roomy = o .0;
     }
 
-pub call-page : (b : Board) (size asked room : Bool) → callCheck b size asked room ≡ Done → pageCheck (b .page) ≡ Done
+pub call-page : (b : Board) (lent : Refusal) (asked room : Bool) → callCheck b lent asked room ≡ Done → pageCheck (b .page) ≡ Done
 unfolding callCheck
-call-page b size asked room e = not-refused (pageCheck (b .page)) _ (passed size Size _ refl e .1) .0
+call-page b lent asked room e = not-refused (pageCheck (b .page)) _ (not-refused lent _ e .1) .0
 
 -- ---- what is in range and accepted is not refused
 
@@ -230,9 +231,9 @@ range-ok b i =
     let row = le-ltb 16383 (b .place .row .address) (i .row-le) in
     rw (line, clock, beam, row, le-ltb (lastIr (b .page .version)) (b .pointer) (i .pointer-le))
 
-pub call-ok : (b : Board) (size : Bool) → size ≡ false → pageCheck (b .page) ≡ Done → stateRefused b ≡ false → callCheck b size false false ≡ Done
+pub call-ok : (b : Board) (lent : Refusal) → lent ≡ Done → pageCheck (b .page) ≡ Done → stateRefused b ≡ false → callCheck b lent false false ≡ Done
 unfolding callCheck
-call-ok b size s p r = rw (s, p, r)
+call-ok b lent s p r = rw (s, p, r)
 
 -- the refusal that comes with the size is the page's own
 pub size-refusal : (p : Page) → sizeOf p .refusal ≡ pageCheck p
@@ -244,11 +245,11 @@ size-refusal p = go (doneOf (pageCheck p)) _ _ _ _
     go false l k d e = refl
 
 -- what is asked for and the room count only where the page is accepted
-pub asked-last : (b : Board) (size a r a′ r′ : Bool) → (pageCheck (b .page) ≡ Done → (a ≡ a′) × (r ≡ r′))
-    → callCheck b size a r ≡ callCheck b size a′ r′
+pub asked-last : (b : Board) (lent : Refusal) (a r a′ r′ : Bool) → (pageCheck (b .page) ≡ Done → (a ≡ a′) × (r ≡ r′))
+    → callCheck b lent a r ≡ callCheck b lent a′ r′
 unfolding callCheck
-asked-last b size a r a′ r′ h = go (doneOf (pageCheck (b .page))) refl
+asked-last b lent a r a′ r′ h = go (doneOf (pageCheck (b .page))) refl
   where
-    go : (d : Bool) → doneOf (pageCheck (b .page)) ≡ d → callCheck b size a r ≡ callCheck b size a′ r′
+    go : (d : Bool) → doneOf (pageCheck (b .page)) ≡ d → callCheck b lent a r ≡ callCheck b lent a′ r′
     go true e = rw (h (done-is _ e) .0, h (done-is _ e) .1)
     go false e = rw e

@@ -336,16 +336,17 @@ pub fn state_refused(b: board::Board) -> bool
 }
 
 fn call_order(
-    size: bool,
+    short: bool,
+    lent: refusal::Refusal,
     refused: bool,
     page: refusal::Refusal,
     range: bool,
     room: bool,
 ) -> refusal::Refusal
-    ensures { λ r. ⌜ r ≡ firstOf ((size, Refusal.Size) ∷ (refused, page) ∷ (range, Refusal.Range) ∷ (room, Refusal.Room) ∷ []) Refusal.Done ⌝ }
+    ensures { λ r. ⌜ r ≡ firstOf ((short, lent) ∷ (refused, page) ∷ (range, Refusal.Range) ∷ (room, Refusal.Room) ∷ []) Refusal.Done ⌝ }
 {
-    if size {
-        refusal::Refusal::Size
+    if short {
+        lent
     } else if refused {
         page
     } else if range {
@@ -357,12 +358,23 @@ fn call_order(
     }
 }
 
-// What drawing, stepping, states and runs ask: whether a lent part has a wrong size, what was asked for is out of range, the room is short.
-pub fn call_check(b: board::Board, size: bool, asked: bool, room: bool) -> refusal::Refusal
-    ensures { λ r. ⌜ r ≡ callCheck b size asked room ⌝ }
+// What drawing, stepping, states and runs ask: what refuses a lent part, whether what was asked for is out of range, and whether the room is short.
+pub fn call_check(
+    b: board::Board,
+    lent: refusal::Refusal,
+    asked: bool,
+    room: bool,
+) -> refusal::Refusal
+    ensures { λ r. ⌜ r ≡ callCheck b lent asked room ⌝ }
 {
     let p = b.page;
     let page = page_check(p);
-    let refused = !refusal::is_done(page);
-    call_order(size, refused, page, state_refused(b) | asked, room)
+    call_order(
+        !refusal::is_done(lent),
+        lent,
+        !refusal::is_done(page),
+        page,
+        state_refused(b) | asked,
+        room,
+    )
 }

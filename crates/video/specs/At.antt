@@ -5,6 +5,8 @@ use mathlib.Core.List.{List}
 use lib.ListN.{length, getD}
 use lib.Dec.{eqb, leb}
 use Rattle.lists.specs.Choice.{pick}
+use Rattle.refusal.specs.declared.Refusal.{Refusal}
+use Rattle.refusal.specs.Number.{wrongSize}
 use Rattle.raster.specs.declared.Code.{Code}
 use Rattle.raster.specs.Wide.{isTop, isBottom}
 use Rattle.raster.specs.Latch.{latched}
@@ -21,8 +23,8 @@ use Rattle.video.specs.Cell.{cellDots}
 
 -- [board memory]
 -- 3: a lent memory or font part of wrong size
-abbrev pub lentRefused : (chars attrs : List ℕ) → Font → Bool
-lentRefused chars attrs f = memoriesRefused (length chars) (length attrs) || fontRefused f
+abbrev pub lentCheck : (chars attrs : List ℕ) → Font → Refusal
+lentCheck chars attrs f = wrongSize (memoriesRefused (length chars) (length attrs) || fontRefused f)
 
 -- [R-4 halves] top halves use scan line floor(l/2), bottom halves floor((L+l)/2), for font, cursor, underline and strike
 -- the scan line that line l of a row of L lines shows: a top half has each of the upper scan lines twice, a bottom half each of the lower ones (02, R-4)

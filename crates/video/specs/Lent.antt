@@ -6,6 +6,7 @@ use mathlib.Core.List.{List}
 use lib.ListN.{length}
 use Rattle.lists.specs.Choice.{neither}
 use Rattle.refusal.specs.declared.Refusal.the-variants.{Done}
+use Rattle.refusal.specs.Laws.{size-right}
 use Rattle.board.specs.declared.Board.{Board}
 use Rattle.board.specs.Range.{memoriesRefused}
 use Rattle.board.specs.Laws.{memories-all}
@@ -13,7 +14,7 @@ use Rattle.timing.specs.Check.{callCheck}
 use Rattle.timing.specs.Laws.{Accepted, InRange, call-passed}
 use Rattle.shape.specs.Font.{Font, fontRefused}
 use Rattle.shape.specs.Laws.{font-whole}
-use Rattle.video.specs.At.{lentRefused}
+use Rattle.video.specs.At.{lentCheck}
 
 -- the board accepted and in range, and whole memories, words and flags
 pub record Lent (b : Board) (chars attrs words flags : List ℕ) : Type 0 where
@@ -24,11 +25,11 @@ pub record Lent (b : Board) (chars attrs words flags : List ℕ) : Type 0 where
   pub words-all : length words ≡ 1152
   pub flags-all : length flags ≡ 128
 
-pub lent : (b : Board) (chars attrs : List ℕ) (f : Font) (asked room : Bool) → callCheck b (lentRefused chars attrs f) asked room ≡ Done
+pub lent : (b : Board) (chars attrs : List ℕ) (f : Font) (asked room : Bool) → callCheck b (lentCheck chars attrs f) asked room ≡ Done
     → Lent b chars attrs (f .words) (f .flags)
 lent b chars attrs f asked room e =
-    let k = call-passed b (lentRefused chars attrs f) asked room e in
-    let s = neither (memoriesRefused (length chars) (length attrs)) (fontRefused f) (k .sized) in
+    let k = call-passed b (lentCheck chars attrs f) asked room e in
+    let s = neither (memoriesRefused (length chars) (length attrs)) (fontRefused f) (size-right _ (k .lent-fine)) in
     let m = memories-all (length chars) (length attrs) (s .0) in
     let w = font-whole f (s .1) in
     record {

@@ -9,7 +9,7 @@ ghost use Rattle.video.specs.Table.{line, ofTwo, ofEight, decided};
 ghost use Rattle.video.specs.Scene.{blinkAt, cursorGate, sceneOf, cursorAt};
 ghost use Rattle.video.specs.Look.{lookOf};
 ghost use Rattle.shape.specs.Font.{lentFont};
-ghost use Rattle.video.specs.At.{lentRefused, readingOf, scanOf, scanAt, countedByte, shownCode};
+ghost use Rattle.video.specs.At.{lentCheck, readingOf, scanOf, scanAt, countedByte, shownCode};
 
 // What is the same for all cells of a scan line: whether the picture is shown, the blank level, BKGND, BLINK, whether this is the
 // underline line and the strike line, whether the cursor gate opens on this line, and at which address.
@@ -310,16 +310,17 @@ pub fn look_of(s: Scene, attributes: u8, cursor: bool) -> Look
 }
 
 // 3, for the memories and the font.
-pub fn lent_refused(
+pub fn lent_check(
     chars: &[u8],
     attrs: &[u8],
     words: &[u16],
     flags: &[u8],
     unshifted: &[u8],
     shifted: &[u8],
-) -> bool
-    ensures { λ r. ⌜ r ≡ lentRefused (now (chars .entry)) (now (attrs .entry)) (lentFont words flags unshifted shifted) ⌝ }
+) -> refusal::Refusal
+    ensures { λ r. ⌜ r ≡ lentCheck (now (chars .entry)) (now (attrs .entry)) (lentFont words flags unshifted shifted) ⌝ }
 {
-    board::memories_refused(chars.len(), attrs.len())
-        | shape::font_refused(words, flags, unshifted, shifted)
+    let size = board::memories_refused(chars.len(), attrs.len())
+        | shape::font_refused(words, flags, unshifted, shifted);
+    refusal::wrong_size(size)
 }

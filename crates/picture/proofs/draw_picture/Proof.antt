@@ -1,11 +1,11 @@
 -- Rests on picture-passed, from which what whole_picture asks follows, and on as-picture: it draws the picture.
 use mathlib.Core.Path.{_≡_, ap, _∙_}
-use mathlib.Core.Bool.{Bool}
 use borrow.Author.Needs.{needs}
 use lib.ListN.{length}
+use Rattle.refusal.specs.declared.Refusal.{Refusal}
 use Rattle.refusal.specs.Laws.{done-is, checked}
 use Rattle.shape.specs.Font.{Font, fontOf}
-use Rattle.video.specs.At.{lentRefused}
+use Rattle.video.specs.At.{lentCheck}
 use Rattle.picture.specs.Picture.{pictureCheck}
 use Rattle.picture.specs.Agree.{picture-passed, as-picture, left-pictured, left-alone}
 use Rattle.picture.proofs.draw_picture.Statement.{statement}
@@ -19,10 +19,10 @@ abbrev font : tie.After-picture-check → Font
 font c = fontOf (begin c .args .words .now) (begin c .args .flags .now) (begin c .args .unshifted .now) (begin c .args .shifted .now)
 
 check : (c : tie.After-picture-check)
-    → c .picture-check .result ≡ pictureCheck (begin c .args .b) (lentRefused (begin c .args .chars .now) (begin c .args .attrs .now) (font c)) (length (begin c .args .out .now))
+    → c .picture-check .result ≡ pictureCheck (begin c .args .b) (lentCheck (begin c .args .chars .now) (begin c .args .attrs .now) (font c)) (length (begin c .args .out .now))
 check c =
     c .picture-check .ensures
-    ∙ ap (λ (size : Bool). pictureCheck (begin c .args .b) size (length (begin c .args .out .now))) (c .before .lent-refused .ensures)
+    ∙ ap (λ (lent : Refusal). pictureCheck (begin c .args .b) lent (length (begin c .args .out .now))) (c .before .lent-check .ensures)
 
 whole-picture-requires : tie.Need-whole-picture-requires
 whole-picture-requires c κs =

@@ -1,6 +1,8 @@
 -- Rests on state-whole: what place_at asks follows from the check.
 use mathlib.Core.Path.{_≡_, ap, _∙_}
-use mathlib.Core.Bool.{Bool, false}
+use mathlib.Core.Bool.{false}
+use Rattle.refusal.specs.declared.Refusal.{Refusal}
+use Rattle.refusal.specs.Number.{wrongSize}
 use Rattle.refusal.specs.Laws.{done-is, checked}
 use Rattle.timing.specs.Check.{callCheck}
 use Rattle.place.specs.State.{stateCheck, stateOf}
@@ -11,10 +13,10 @@ use Rattle.place.proofs.state_at.Tie as tie
 
 -- where the function begins, from the place where the check is known, and the check as the contract has it
 abbrev begin : tie.After-call-check → tie.Start
-begin c = c .before .before .before .before
+begin c = c .before .before .before .before .before
 
 check : (c : tie.After-call-check) → c .call-check .result ≡ stateCheck (begin c .args .b) (begin c .args .chars .now) (begin c .args .attrs .now)
-check c = c .call-check .ensures ∙ ap (λ (size : Bool). callCheck (begin c .args .b) size false false) (c .before .memories-refused .ensures)
+check c = c .call-check .ensures ∙ ap (λ (lent : Refusal). callCheck (begin c .args .b) lent false false) (c .before .wrong-size .ensures ∙ ap wrongSize (c .before .before .memories-refused .ensures))
 
 place-at-requires : tie.Need-place-at-requires
 place-at-requires c κs =
@@ -38,6 +40,7 @@ pub state-at-spec : {M : Type 1} → statement M
 state-at-spec =
     tie.close
     (tie.spec
+    (λ c κs. search needs)
     (λ c κs. search needs)
     (λ c κs. search needs)
     (λ c κs. search needs)

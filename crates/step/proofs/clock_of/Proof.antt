@@ -1,6 +1,6 @@
 -- Rests on clock-done and clock-refused, by whether something refuses.
 use mathlib.Core.Path.{_≡_, sym, ap, _∙_}
-use mathlib.Core.Bool.{Bool, true, false}
+use mathlib.Core.Bool.{true, false}
 use Rattle.refusal.specs.declared.Refusal.{Refusal}
 use Rattle.refusal.specs.Laws.{done-is}
 use Rattle.refusal.specs.Number.{doneOf}
@@ -23,8 +23,8 @@ font c = fontOf (begin c .args .words .now) (begin c .args .flags .now) (begin c
 abbrev asked : tie.After-clear → Refusal
 asked c = stepCheck (begin c .args .b) (begin c .args .chars .now) (begin c .args .attrs .now) (font c)
 
-check : (c : tie.After-clear) → callCheck (begin c .args .b) (c .before .lent-refused .result) false false ≡ asked c
-check c = ap (λ (size : Bool). callCheck (begin c .args .b) size false false) (c .before .lent-refused .ensures)
+check : (c : tie.After-clear) → callCheck (begin c .args .b) (c .before .lent-check .result) false false ≡ asked c
+check c = ap (λ (lent : Refusal). callCheck (begin c .args .b) lent false false) (c .before .lent-check .ensures)
 
 done : (c : tie.After-clear) → doneOf (asked c) ≡ c .clear .result
 done c = ap doneOf (sym (check c)) ∙ sym (c .clear .ensures)

@@ -1,6 +1,8 @@
-use borrow.Author.Needs.{needs}
 use Rattle.timing.proofs.call_order.Statement.{statement}
 use Rattle.timing.proofs.call_order.Tie as tie
+
+returns : tie.Need-returns
+returns c = simp (c .if1 .taken)
 
 returns-2 : tie.Need-returns-2
 returns-2 c = simp (c .before .if1 .left, c .if2 .taken)
@@ -15,4 +17,4 @@ returns-5 : tie.Need-returns-5
 returns-5 c = simp (c .before .before .before .if1 .left, c .before .before .if2 .left, c .before .if3 .left, c .if4 .left)
 
 pub call-order-spec : {M : Type 1} → statement M
-call-order-spec = tie.close (tie.spec (λ c. search needs) returns-2 returns-3 returns-4 returns-5)
+call-order-spec = tie.close (tie.spec returns returns-2 returns-3 returns-4 returns-5)
