@@ -336,16 +336,16 @@ pub fn state_refused(b: board::Board) -> bool
 }
 
 fn call_order(
-    short: bool,
+    unfit: bool,
     lent: refusal::Refusal,
     refused: bool,
     page: refusal::Refusal,
     range: bool,
     room: bool,
 ) -> refusal::Refusal
-    ensures { λ r. ⌜ r ≡ firstOf ((short, lent) ∷ (refused, page) ∷ (range, Refusal.Range) ∷ (room, Refusal.Room) ∷ []) Refusal.Done ⌝ }
+    ensures { λ r. ⌜ r ≡ firstOf ((unfit, lent) ∷ (refused, page) ∷ (range, Refusal.Range) ∷ (room, Refusal.Room) ∷ []) Refusal.Done ⌝ }
 {
-    if short {
+    if unfit {
         lent
     } else if refused {
         page
