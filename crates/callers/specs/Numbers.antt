@@ -58,9 +58,17 @@ numbers-of xs chars attrs fits fine = rw (layout-kept own) (ap (λ (l : List ℕ
 
 -- ---- the write, and the read of what was written
 
--- as many zeros as the longest file has bytes
+-- the longest page file
+abbrev longest : ℕ
+longest = 32797
+
+longest-is : fileSize newestVersion ≡ longest
+unfolding layoutOf
+longest-is = refl
+
+-- as many zeros as it has bytes
 abbrev zeros : List ℕ
-zeros = replicate 32797 0
+zeros = replicate longest 0
 
 module _ (numbers : List ℕ) (fits : Bytes numbers) (chars attrs out : List ℕ) {m : BoardAnswer} (made : m ≡ boardFor numbers) where
   abbrev Again : Answer → List ℕ → Type 0
@@ -73,7 +81,7 @@ module _ (numbers : List ℕ) (fits : Bytes numbers) (chars attrs out : List ℕ
       (rw (r .1) (r .0), rw (r .1, r .1))
 
   module _ (z : m .refusal ≡ 0) {w : Refusal} {file : List ℕ}
-      (wrote : (w ≡ writeCheck (m .board) (length chars) (length attrs) 32797) × (file ≡ written (m .board) chars attrs zeros)) where
+      (wrote : (w ≡ writeCheck (m .board) (length chars) (length attrs) longest) × (file ≡ written (m .board) chars attrs zeros)) where
     done : numbersCheck numbers ≡ Done
     done = made-done numbers made z .0
 
@@ -84,11 +92,11 @@ module _ (numbers : List ℕ) (fits : Bytes numbers) (chars attrs out : List ℕ
     at-zero : stateRefused (numbersBoard numbers) ≡ false
     at-zero = range-ok (numbersBoard numbers) (record { line-lt = omega arith; clock-lt = omega arith; beam-le = omega arith; row-le = omega arith; pointer-le = omega arith })
 
-    write-is : writeCheck (numbersBoard numbers) (length chars) (length attrs) 32797 ≡ pick (memoriesRefused (length chars) (length attrs)) Size Done
+    write-is : writeCheck (numbersBoard numbers) (length chars) (length attrs) longest ≡ pick (memoriesRefused (length chars) (length attrs)) Size Done
     unfolding writeCheck callCheck layoutOf
     write-is = go (memoriesRefused (length chars) (length attrs)) refl
       where
-        go : (t : Bool) → memoriesRefused (length chars) (length attrs) ≡ t → writeCheck (numbersBoard numbers) (length chars) (length attrs) 32797 ≡ pick t Size Done
+        go : (t : Bool) → memoriesRefused (length chars) (length attrs) ≡ t → writeCheck (numbersBoard numbers) (length chars) (length attrs) longest ≡ pick t Size Done
         go true t = rw t
         go false t = rw (t, page-ok, at-zero)
 
@@ -110,7 +118,7 @@ module _ (numbers : List ℕ) (fits : Bytes numbers) (chars attrs out : List ℕ
       irs-all : length (numbersBoard numbers .page .irs) ≡ 15
       irs-all = page-irs numbers 1 (numbers-room numbers (numbers-passed numbers done))
 
-      ok : writeCheck (numbersBoard numbers) (length chars) (length attrs) 32797 ≡ Done
+      ok : writeCheck (numbersBoard numbers) (length chars) (length attrs) longest ≡ Done
       ok = write-is ∙ rw fine
 
       abbrev laid : List ℕ

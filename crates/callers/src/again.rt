@@ -66,7 +66,7 @@ pub fn numbers_again(numbers: &[u8], chars: &[u8], attrs: &[u8], out: &mut [u8])
         };
     }
     let board = made.board;
-    let mut file = [0u8; 32797];
+    let mut file = [0u8; files::LONGEST_PAGE];
     let refused = refusal::number(files::write_page(board, chars, attrs, &mut file));
     if refused != 0 {
         return Answer {

@@ -260,6 +260,9 @@ fn put_file(p: board::Page, chars: &[u8], attrs: &[u8], out: &mut [u8])
     copies::put(attrs, start + 16384, out);
 }
 
+// How long the longest page file is: an array's length is a constant.
+pub const LONGEST_PAGE: usize = 32797;
+
 // How long a page file is.
 fn file_size(version: u8) -> usize
     ensures { λ r. ⌜ r ≡ fileSize version ⌝ }
@@ -322,7 +325,7 @@ fn write_words(src: &[u16], dst: &mut [u8])
 // The bytes that follow a font file's length, and the file's size.
 const FONT_LENGTH: u32 = 2450;
 
-const FONT_SIZE: usize = 2455;
+pub const FONT_SIZE: usize = 2455;
 
 // Reads a font file into the four parts. A refusal leaves them as they were.
 pub fn read_font(

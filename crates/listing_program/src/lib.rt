@@ -114,7 +114,7 @@ fn ending(written: bool) -> u32 {
 
 // The page was accepted; now the font. One byte more than a font file has is asked for, so that a longer one shows.
 fn list_page(b: board::Board, chars: &[u8], attrs: &[u8]) -> u32 {
-    let mut file = [0u8; 2456];
+    let mut file = [0u8; files::FONT_SIZE + 1];
     let input = read_input(&mut file);
     if input.failed {
         return UNREAD;
@@ -141,7 +141,7 @@ fn list_page(b: board::Board, chars: &[u8], attrs: &[u8]) -> u32 {
 // out of range, given that each `read` and `write` of C returns.
 #[no_mangle]
 pub extern "C" fn feldrime_listing() -> u32 {
-    let mut file = [0u8; 32797];
+    let mut file = [0u8; files::LONGEST_PAGE];
     let input = read_input(&mut file);
     if input.failed {
         return UNREAD;

@@ -82,7 +82,7 @@ fn pointed(b: board::Board, at: u8) -> board::Board
 
 // The pointer moves on and stays at the last IR.
 fn next_pointer(last: u8, at: u8) -> u8
-    requires { ⌜ at ≤ 14 ⌝ }
+    requires { ⌜ at ≤ 254 ⌝ }
     ensures { λ r. ⌜ r ≡ nextPointer last at ⌝ }
 {
     choose(at < last, at + 1, last)
