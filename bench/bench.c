@@ -24,6 +24,8 @@ static struct set latched[4]; /* of version 2: field mode with ACD off and on an
 static struct set running[3], standing[3]; /* the same pages in field mode and in character mode */
 static struct set wide[WIDTHS], headline;  /* the sheets with rows of double width, and with headlines of double height */
 static struct set mixed[2];                /* rows of every code and an odd number of columns, in both modes */
+static struct set letters[WIDTHS], graphics[WIDTHS]; /* the sheets on chip B, with letters and with graphics in every cell */
+static struct set mingles[4];                /* letters and graphics in one page: in character mode, in field mode with ACD off and on, in rows of every code */
 
 /* ---- what is timed ---- */
 
@@ -209,6 +211,14 @@ static void print_wide(const struct set *doubled, const struct set *plain)
     printf("line %s: wide/plain %.2f\n", doubled->name, ratio(run_library_lines, doubled, run_library_lines, plain));
 }
 
+/* Graphics beside letters, on the same pages. */
+static void print_graphics(const struct set *drawn, const struct set *written)
+{
+    printf("picture %s: graphics/letters %.2f\n", drawn->name, ratio(run_library_picture, drawn, run_library_picture, written));
+    printf("line %s: graphics/letters %.2f\n", drawn->name, ratio(run_library_lines, drawn, run_library_lines, written));
+    printf("step %s: graphics/letters %.2f\n", drawn->name, ratio(run_library_step, drawn, run_library_step, written));
+}
+
 /* The whole list compared each with each takes long, so it is timed once, and a part of it beside C. */
 static void print_phrases(const struct set *set)
 {
@@ -227,9 +237,12 @@ static void print_all(const struct set *eight)
     print_drawing(&latched[0]);
     print_drawing(&wide[8 - LEAST]);
     print_drawing(&headline);
+    print_drawing(&graphics[8 - LEAST]);
     print_drawing(&samples);
     for (size_t w = 0; w < WIDTHS; w++)
         print_wide(&wide[w], &sheets[w]);
+    for (size_t w = 0; w < WIDTHS; w++)
+        print_graphics(&graphics[w], &letters[w]);
     for (size_t w = 0; w < WIDTHS; w++)
         print_few("one row", &rows[w]);
     print_few("one cell", &cell);
@@ -237,6 +250,7 @@ static void print_all(const struct set *eight)
     printf("step: library/plain %.2f\n", ratio(run_library_step, eight, run_plain_step, eight));
     printf("step, field mode: library/plain %.2f\n", ratio(run_library_step, &latched[0], run_plain_step, &latched[0]));
     printf("step, wide rows: library/plain %.2f\n", ratio(run_library_step, &wide[8 - LEAST], run_plain_step, &wide[8 - LEAST]));
+    printf("step, graphics: library/plain %.2f\n", ratio(run_library_step, &graphics[8 - LEAST], run_plain_step, &graphics[8 - LEAST]));
     printf("state: n = 2^32 - 1 / n = 0 %.2f\n", ratio(run_far_state, eight, run_zero_state, eight));
     for (size_t i = 0; i < COUNT(running); i++)
         print_modes(&running[i], &standing[i]);
@@ -278,6 +292,23 @@ static void make_coded(void)
         coded(&mixed[i], &mixed[i], mixed[i].name, every, COUNT(every));
 }
 
+static void make_graphics(void)
+{
+    static const char *const names[] = {
+        "6 dots, graphics", "7 dots, graphics", "8 dots, graphics", "9 dots, graphics", "10 dots, graphics", "11 dots, graphics",
+        "12 dots, graphics",
+    };
+
+    for (unsigned w = 0; w < WIDTHS; w++) {
+        lettered(&letters[w], &sheets[w], "letters on chip B");
+        drawn(&graphics[w], &sheets[w], names[w]);
+    }
+    mingled(&mingles[0], &sheets[12 - LEAST], "letters and graphics");
+    mingled(&mingles[1], &latched[0], "letters and graphics in field mode");
+    mingled(&mingles[2], &latched[1], "letters and graphics in field mode with ACD on");
+    mingled(&mingles[3], &mixed[1], "letters and graphics in rows of every code");
+}
+
 static void make_all(void)
 {
     static const char *const names[] = { "6 dots", "7 dots", "8 dots", "9 dots", "10 dots", "11 dots", "12 dots" };
@@ -296,6 +327,7 @@ static void make_all(void)
     make_sheets(&latched[3], "version 2 in character mode", ROWS, COLUMNS, 8, ON | ACD);
     make_running();
     make_coded();
+    make_graphics();
     make_phrases();
 }
 
@@ -312,6 +344,12 @@ static int all_same(const struct set *eight)
             return 0;
     for (size_t i = 0; i < COUNT(mixed); i++)
         if (!same_pictures(&mixed[i]) || !same_steps(&mixed[i]))
+            return 0;
+    for (size_t w = 0; w < WIDTHS; w++)
+        if (!same_pictures(&letters[w]) || !same_pictures(&graphics[w]) || !same_steps(&graphics[w]))
+            return 0;
+    for (size_t i = 0; i < COUNT(mingles); i++)
+        if (!same_pictures(&mingles[i]) || !same_steps(&mingles[i]))
             return 0;
     return same_pictures(&cell) && same_pictures(&off) && same_pictures(&headline) && same_pictures(&samples)
         && same_steps(eight) && same_steps(&wide[8 - LEAST]) && states_answer(eight) && same_phrases(eight) && same_phrases(&mixed[0]);

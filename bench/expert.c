@@ -7,6 +7,7 @@
  * - No branch goes by what a cell holds. Lines that can be lit, and the cursor, are drawn over.
  * - Field mode goes over a row's cells once more before they are drawn, and character mode skips that.
  * - A row of double width doubles its shapes' bytes as it draws them, and has loops of its own.
+ * - Graphics are 256 glyphs more, which a page of chip B has.
  *
  * Bytes of a number stand in memory lowest first, as on x86-64 and on Arm. */
 #include <string.h>
@@ -17,6 +18,9 @@
 #define MOST_LINES 16u
 #define MOST_CELLS 256u
 #define NO_CHARACTER CHARACTERS /* the glyph of a code that shows none */
+#define FIRST_GRAPHIC (CHARACTERS + 1)
+#define GRAPHIC_CODES 256u
+#define GLYPHS (FIRST_GRAPHIC + GRAPHIC_CODES)
 #define LOOKS 32u               /* reverse, blank, blink, underline and highlight are the low five bits */
 #define MOST_LIT 4u             /* lines of a row that an attribute can light: two, or in a half two twice */
 #define EVERY_BYTE 0x0101010101010101u
@@ -40,13 +44,14 @@ struct plan {
     unsigned hact, lines, rows, dots, width; /* width is of a line, in dots */
     unsigned first, last, start1, start2, table;
     unsigned field_mode, bare; /* bare: a cell with AFLG shows no character */
+    unsigned graphics;         /* the attribute of a cell that shows graphics, 0 on chip A */
     unsigned cursor, cursor_from, cursor_to; /* the cursor's address; its scan lines are from .. to - 1, or none */
     uint8_t lights[MOST_LINES];              /* the attributes that light a scan line */
     struct scans scans[CODES];               /* by the row's code */
     struct look looks[LOOKS];
     union {
-        uint64_t narrow[(CHARACTERS + 1) * MOST_LINES];
-        pair wide[(CHARACTERS + 1) * MOST_LINES];
+        uint64_t narrow[GLYPHS * MOST_LINES];
+        pair wide[GLYPHS * MOST_LINES];
     } shapes; /* a glyph's lines after one another, FF hex for a dot of the symbol */
 };
 
@@ -96,7 +101,7 @@ static void make_lights(struct plan *p, unsigned underline, unsigned strike)
 {
     memset(p->lights, 0, sizeof p->lights);
     p->lights[underline] |= UNDERLINE;
-    p->lights[strike] |= STRIKE;
+    p->lights[strike] |= p->graphics ? 0 : STRIKE;
     for (unsigned code = 0; code < CODES; code++) {
         struct scans *s = &p->scans[code];
 
@@ -109,10 +114,27 @@ static void make_lights(struct plan *p, unsigned underline, unsigned strike)
     }
 }
 
+static inline void put_shape(struct plan *p, unsigned glyph, unsigned line, unsigned word)
+{
+    unsigned bits = word << (p->dots > 10);
+
+    if (p->dots > 8)
+        p->shapes.wide[glyph * p->lines + line] = (pair){ spread(bits), spread(bits >> 8) };
+    else
+        p->shapes.narrow[glyph * p->lines + line] = spread(bits);
+}
+
+static void make_graphics(struct plan *p, const uint8_t *groups, size_t count)
+{
+    for (unsigned code = 0; code < GRAPHIC_CODES; code++)
+        for (unsigned line = 0; line < p->lines; line++)
+            put_shape(p, FIRST_GRAPHIC + code, line, graphics_word(code, count == 0 ? 0 : groups[line]));
+}
+
 static void make_shapes(
     struct plan *p, const uint16_t *words, const uint8_t *flags, const uint8_t *unshifted, const uint8_t *shifted)
 {
-    unsigned lines = p->lines, dots = p->dots, filler = dots > 10;
+    unsigned lines = p->lines;
     uint8_t places[2][MOST_LINES];
     uint16_t glyph[LIST + 1] = { 0 }; /* its words, and zero at the place of none */
 
@@ -127,14 +149,8 @@ static void make_shapes(
             memcpy(glyph, words + g * LIST, LIST * sizeof *words);
         else
             memset(glyph, 0, sizeof glyph);
-        for (unsigned line = 0; line < lines; line++) {
-            unsigned bits = (glyph[place[line]] & 1023u) << filler;
-
-            if (dots > 8)
-                p->shapes.wide[g * lines + line] = (pair){ spread(bits), spread(bits >> 8) };
-            else
-                p->shapes.narrow[g * lines + line] = spread(bits);
-        }
+        for (unsigned line = 0; line < lines; line++)
+            put_shape(p, g, line, glyph[place[line]] & 1023u);
     }
 }
 
@@ -178,11 +194,12 @@ static unsigned run_on(const struct plan *p, struct row *row, unsigned latch)
     return latch;
 }
 
-static inline unsigned glyph_of(unsigned code)
+/* The glyph of a cell with this mark, where an attribute may make graphics of it. */
+static inline unsigned glyph_of(unsigned code, unsigned mark, unsigned graphics)
 {
-    unsigned character = code ^ 128;
+    unsigned character = code ^ 128, letter = character < NO_CHARACTER ? character : NO_CHARACTER;
 
-    return character < NO_CHARACTER ? character : NO_CHARACTER;
+    return mark & graphics ? FIRST_GRAPHIC + code : letter;
 }
 
 /* The attribute byte, 0 without AFLG. */
@@ -240,13 +257,13 @@ static inline __attribute__((always_inline)) unsigned narrow_cells(
     const struct plan *p, const struct row *row, uint8_t *out, unsigned dots)
 {
     const struct scans *plain = &p->scans[PLAIN_ROW];
-    unsigned lines = p->lines, width = p->width, column = 0;
+    unsigned lines = p->lines, width = p->width, graphics = p->graphics, column = 0;
 
     for (; column + 2 < p->hact; column += 2) {
         unsigned mark_a = mark_of(row->attrs[column]), mark_b = mark_of(row->attrs[column + 1]);
         struct look a = p->looks[mark_a % LOOKS], b = p->looks[mark_b % LOOKS];
-        const uint64_t *shape_a = p->shapes.narrow + glyph_of(row->codes[column]) * lines;
-        const uint64_t *shape_b = p->shapes.narrow + glyph_of(row->codes[column + 1]) * lines;
+        const uint64_t *shape_a = p->shapes.narrow + glyph_of(row->codes[column], mark_a, graphics) * lines;
+        const uint64_t *shape_b = p->shapes.narrow + glyph_of(row->codes[column + 1], mark_b, graphics) * lines;
         pair surround = { a.surround, b.surround }, change = { a.change, b.change };
         uint8_t *at = out + column * dots;
 
@@ -270,12 +287,12 @@ static inline __attribute__((always_inline)) unsigned narrow_cells(
 static unsigned wide_cells(const struct plan *p, const struct row *row, uint8_t *out)
 {
     const struct scans *plain = &p->scans[PLAIN_ROW];
-    unsigned lines = p->lines, width = p->width, dots = p->dots, column = 0;
+    unsigned lines = p->lines, width = p->width, dots = p->dots, graphics = p->graphics, column = 0;
 
     for (; column + 1 < p->hact; column++) {
         unsigned mark = mark_of(row->attrs[column]);
         struct look look = p->looks[mark % LOOKS];
-        const pair *shape = p->shapes.wide + glyph_of(row->codes[column]) * lines;
+        const pair *shape = p->shapes.wide + glyph_of(row->codes[column], mark, graphics) * lines;
         pair surround = { look.surround, look.surround }, change = { look.change, look.change };
         uint8_t *at = out + column * dots;
 
@@ -333,12 +350,12 @@ static void draw_doubled(
 /* A row of double width but its last two cells, of which one may have no more than a column. Gives how many it drew. */
 static unsigned doubled_narrow(const struct plan *p, const struct scans *s, const struct row *row, uint8_t *out)
 {
-    unsigned lines = p->lines, width = p->width, cell = 0;
+    unsigned lines = p->lines, width = p->width, graphics = p->graphics, cell = 0;
 
     for (; cell + 2 < row->cells; cell++) {
         unsigned mark = mark_of(row->attrs[cell]);
         struct look look = p->looks[mark % LOOKS];
-        const uint64_t *shape = p->shapes.narrow + glyph_of(row->codes[cell]) * lines;
+        const uint64_t *shape = p->shapes.narrow + glyph_of(row->codes[cell], mark, graphics) * lines;
         pair surround = { look.surround, look.surround }, change = { look.change, look.change };
         uint8_t *left = out + 2 * cell * p->dots, *at = left;
 
@@ -361,12 +378,12 @@ static unsigned doubled_narrow(const struct plan *p, const struct scans *s, cons
 
 static unsigned doubled_wide(const struct plan *p, const struct scans *s, const struct row *row, uint8_t *out)
 {
-    unsigned lines = p->lines, width = p->width, cell = 0;
+    unsigned lines = p->lines, width = p->width, graphics = p->graphics, cell = 0;
 
     for (; cell + 2 < row->cells; cell++) {
         unsigned mark = mark_of(row->attrs[cell]);
         struct look look = p->looks[mark % LOOKS];
-        const pair *shape = p->shapes.wide + glyph_of(row->codes[cell]) * lines;
+        const pair *shape = p->shapes.wide + glyph_of(row->codes[cell], mark, graphics) * lines;
         pair surround = { look.surround, look.surround }, change = { look.change, look.change };
         uint8_t *left = out + 2 * cell * p->dots, *at = left;
 
@@ -389,6 +406,12 @@ static unsigned doubled_wide(const struct plan *p, const struct scans *s, const 
     return cell;
 }
 
+/* The glyph of one of a row's cells. */
+static inline unsigned cell_glyph(const struct plan *p, const struct row *row, unsigned cell)
+{
+    return glyph_of(row->codes[cell], mark_of(row->attrs[cell]), p->graphics);
+}
+
 static void draw_doubled_row(const struct plan *p, const struct row *row, uint8_t *out)
 {
     const struct scans *s = &p->scans[row->code];
@@ -396,12 +419,12 @@ static void draw_doubled_row(const struct plan *p, const struct row *row, uint8_
     unsigned cell = p->dots > 8 ? doubled_wide(p, s, row, out) : doubled_narrow(p, s, row, out);
 
     for (; cell < row->cells; cell++)
-        draw_doubled(p, s, out + 2 * cell * p->dots, cell < last ? 2 * p->dots : p->dots, glyph_of(row->codes[cell]),
+        draw_doubled(p, s, out + 2 * cell * p->dots, cell < last ? 2 * p->dots : p->dots, cell_glyph(p, row, cell),
             mark_of(row->attrs[cell]), 0, p->lines);
     for (unsigned i = 0; i < row->cursors; i++) {
         unsigned c = row->at[i];
 
-        draw_doubled(p, s, out + 2 * c * p->dots, c < last ? 2 * p->dots : p->dots, glyph_of(row->codes[c]),
+        draw_doubled(p, s, out + 2 * c * p->dots, c < last ? 2 * p->dots : p->dots, cell_glyph(p, row, c),
             mark_of(row->attrs[c]) ^ REVERSE, p->cursor_from, p->cursor_to);
     }
 }
@@ -414,11 +437,11 @@ static void draw_row(const struct plan *p, const struct row *row, uint8_t *out)
         : wide_cells(p, row, out);
 
     for (; column < p->hact; column++)
-        draw_cell(p, out + column * p->dots, glyph_of(row->codes[column]), mark_of(row->attrs[column]), 0, p->lines);
+        draw_cell(p, out + column * p->dots, cell_glyph(p, row, column), mark_of(row->attrs[column]), 0, p->lines);
     for (unsigned i = 0; i < row->cursors; i++) {
         unsigned c = row->at[i];
 
-        draw_cell(p, out + c * p->dots, glyph_of(row->codes[c]), mark_of(row->attrs[c]) ^ REVERSE,
+        draw_cell(p, out + c * p->dots, cell_glyph(p, row, c), mark_of(row->attrs[c]) ^ REVERSE,
             p->cursor_from, p->cursor_to);
     }
 }
@@ -471,6 +494,7 @@ static void plan_page(struct plan *p, const uint8_t *numbers, uint8_t field)
     p->table = ir[2] & 128;
     p->field_mode = numbers[22] & FIELD_MODE;
     p->bare = setting_is_bare(numbers[22]);
+    p->graphics = graphics_of(numbers[0], numbers[25]);
     p->cursor_from = ir[6] >> 4;
     p->cursor_to = !gate ? 0 : last_line < p->lines ? last_line + 1 : p->lines;
 }
@@ -479,7 +503,7 @@ static int sizes_refused(const uint8_t *numbers, const size_t counts[7])
 {
     static const size_t right[] = { 32, MEMORY, MEMORY, CHARACTERS * LIST, CHARACTERS, LIST, LIST };
 
-    return memcmp(counts, right, sizeof right) != 0 || (numbers[0] != 1 && numbers[0] != 2);
+    return memcmp(counts, right, sizeof right) != 0 || version_refused(numbers[0]);
 }
 
 feldrime_answer expert_picture_draw(
@@ -490,15 +514,19 @@ feldrime_answer expert_picture_draw(
     const uint8_t *flags, size_t flags_count,
     const uint8_t *unshifted, size_t unshifted_count,
     const uint8_t *shifted, size_t shifted_count,
+    const uint8_t *groups, size_t groups_count,
     uint8_t field,
     uint8_t *out, size_t out_count)
 {
     struct plan p; /* not cleared: its tables are large */
 
     if (sizes_refused(numbers, (const size_t[]){
-            numbers_count, chars_count, attrs_count, words_count, flags_count, unshifted_count, shifted_count }))
+            numbers_count, chars_count, attrs_count, words_count, flags_count, unshifted_count, shifted_count })
+        || group_count_refused(groups_count))
         return (feldrime_answer){ 3, 0 };
     feldrime_answer refused = page_refused(numbers);
+    if (groups_refused(groups, groups_count))
+        return (feldrime_answer){ 12, 0 };
     if (refused.refusal != 0)
         return refused;
     p.chars = chars;
@@ -512,6 +540,8 @@ feldrime_answer expert_picture_draw(
         make_looks(&p, (switches & BKGND) != 0, field % period >= period / 4 * 3);
         make_lights(&p, numbers[8] & 15, numbers[24]);
         make_shapes(&p, words, flags, unshifted, shifted);
+        if (p.graphics)
+            make_graphics(&p, groups, groups_count);
         draw_rows(&p, out);
     } else {
         memset(out, switches & BKGND && !(switches & RBLANK) ? GRAY : BLACK, size);

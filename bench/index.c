@@ -51,7 +51,7 @@ feldrime_phrase_answer plain_phrase_of_row(
     const feldrime_phrase *list, size_t count,
     uint32_t row)
 {
-    if (numbers_count != 32 || (numbers[0] != 1 && numbers[0] != 2) || chars_count != MEMORY)
+    if (numbers_count != 32 || version_refused(numbers[0]) || chars_count != MEMORY)
         return (feldrime_phrase_answer){ 3, 0, 0, 0 };
 
     feldrime_answer refused = page_refused(numbers);

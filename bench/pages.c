@@ -35,6 +35,20 @@ static const struct font *random_font(void)
     return &font;
 }
 
+/* The same with groups: a scan line has none, or one of the four. */
+static const struct font *grouped_font(void)
+{
+    static struct font font;
+
+    if (font.group_count != 0)
+        return &font;
+    font = *random_font();
+    font.group_count = COUNT(font.groups);
+    for (uint8_t i = 0; i < COUNT(font.groups); i++)
+        font.groups[i] = i % 5;
+    return &font;
+}
+
 /* Random characters, one cell in eight with none, and random attributes that hold for some cells on end, as those of a text do. */
 static void random_text(struct page *page)
 {
@@ -92,6 +106,40 @@ void switched(struct set *to, const struct set *from, uint8_t switches)
     *to = *from;
     for (size_t p = 0; p < to->count; p++)
         to->pages[p].numbers[22] = switches;
+}
+
+void mingled(struct set *to, const struct set *from, const char *name)
+{
+    *to = *from;
+    to->name = name;
+    for (size_t p = 0; p < to->count; p++) {
+        to->pages[p].numbers[0] = 3;
+        to->pages[p].numbers[25] = 1;
+        to->pages[p].font = grouped_font();
+    }
+}
+
+/* AFLG in every cell, and bit 5 in all or none. */
+static void all_attributes(struct set *set, uint8_t bit_5)
+{
+    for (size_t p = 0; p < set->count; p++)
+        for (size_t i = 0; i < FELDRIME_MEMORY; i++) {
+            uint8_t *attr = &set->pages[p].attrs[i];
+
+            *attr = (*attr & ~GRAPHICS) | bit_5 | AFLG;
+        }
+}
+
+void lettered(struct set *to, const struct set *from, const char *name)
+{
+    mingled(to, from, name);
+    all_attributes(to, 0);
+}
+
+void drawn(struct set *to, const struct set *from, const char *name)
+{
+    mingled(to, from, name);
+    all_attributes(to, GRAPHICS);
 }
 
 static void code_rows(struct page *page, const uint8_t *codes, size_t count)
@@ -160,9 +208,12 @@ int read_samples(struct set *set, char *const names[], size_t count)
     set->name = "samples";
     set->times = 1;
     set->count = 0;
-    if (feldrime_font_read(file, size, font.words, FELDRIME_WORDS, font.flags, FELDRIME_FLAGS,
-                           font.unshifted, FELDRIME_LIST, font.shifted, FELDRIME_LIST).refusal != 0)
+    feldrime_font_answer read = feldrime_font_read(file, size, font.words, FELDRIME_WORDS, font.flags, FELDRIME_FLAGS,
+                                                   font.unshifted, FELDRIME_LIST, font.shifted, FELDRIME_LIST,
+                                                   font.groups, FELDRIME_GROUPS);
+    if (read.refusal != 0)
         return 0;
+    font.group_count = read.groups;
     for (size_t i = 1; i < count && set->count < COUNT(set->pages); i++) {
         struct page *page = &set->pages[set->count++];
 

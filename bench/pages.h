@@ -9,7 +9,8 @@
 
 struct font {
     uint16_t words[FELDRIME_WORDS];
-    uint8_t flags[FELDRIME_FLAGS], unshifted[FELDRIME_LIST], shifted[FELDRIME_LIST];
+    uint8_t flags[FELDRIME_FLAGS], unshifted[FELDRIME_LIST], shifted[FELDRIME_LIST], groups[FELDRIME_GROUPS];
+    size_t group_count;
 };
 
 struct page {
@@ -29,7 +30,8 @@ struct set {
 #define MEMORIES(page) (page)->chars, FELDRIME_MEMORY, (page)->attrs, FELDRIME_MEMORY
 #define FONT(page) \
     (page)->font->words, FELDRIME_WORDS, (page)->font->flags, FELDRIME_FLAGS, \
-    (page)->font->unshifted, FELDRIME_LIST, (page)->font->shifted, FELDRIME_LIST
+    (page)->font->unshifted, FELDRIME_LIST, (page)->font->shifted, FELDRIME_LIST, \
+    (page)->font->groups, (page)->font->group_count
 
 /* Two sheets of random text, row table off and on, of version 2 where a switch asks for it. */
 void make_sheets(struct set *set, const char *name, uint8_t rows, uint8_t columns, uint8_t dots, uint8_t switches);
@@ -39,6 +41,13 @@ void switched(struct set *to, const struct set *from, uint8_t switches);
 
 /* The same pages with the row table on and these row codes, over and over. A bottom half has the cells of the row before it. */
 void coded(struct set *to, const struct set *from, const char *name, const uint8_t *codes, size_t count);
+
+/* The same pages in version 3, of chip B, with a font that has groups. Every cell keeps its look, and has letters or graphics. */
+void lettered(struct set *to, const struct set *from, const char *name);
+void drawn(struct set *to, const struct set *from, const char *name);
+
+/* The same, with graphics in those cells that bit 5 makes graphics. */
+void mingled(struct set *to, const struct set *from, const char *name);
 
 /* Takes AFLG from all cells, or from all but the first of each row: there a search for it from the row below goes over the whole row. */
 void without_aflg(struct set *set);

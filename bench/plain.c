@@ -44,12 +44,13 @@ feldrime_answer plain_line_draw(
     const uint8_t *flags, size_t flags_count,
     const uint8_t *unshifted, size_t unshifted_count,
     const uint8_t *shifted, size_t shifted_count,
+    const uint8_t *groups, size_t groups_count,
     uint32_t line, uint8_t field,
     uint8_t *out, size_t out_count)
 {
-    if (numbers_count != 32 || (numbers[0] != 1 && numbers[0] != 2) || chars_count != MEMORY || attrs_count != MEMORY
+    if (numbers_count != 32 || version_refused(numbers[0]) || chars_count != MEMORY || attrs_count != MEMORY
         || words_count != CHARACTERS * LIST || flags_count != CHARACTERS
-        || unshifted_count != LIST || shifted_count != LIST)
+        || unshifted_count != LIST || shifted_count != LIST || group_count_refused(groups_count))
         return answer(3);
 
     const uint8_t *ir = numbers + 1;
@@ -61,7 +62,7 @@ feldrime_answer plain_line_draw(
     unsigned strike = numbers[24];
 
     if (start1 >= MEMORY || cursor >= MEMORY || start2 >= MEMORY || switches > most_switches(numbers[0])
-        || strike > 15)
+        || strike > 15 || chip_refused(numbers[0], numbers[25]) || groups_refused(groups, groups_count))
         return answer(12);
 
     if (reserved_set(ir))
@@ -103,6 +104,8 @@ feldrime_answer plain_line_draw(
 
     unsigned unshifted_word = position(unshifted, scan);
     unsigned shifted_word = position(shifted, scan);
+    unsigned graphics = graphics_of(numbers[0], numbers[25]);
+    unsigned group = groups_count == 0 ? 0 : groups[scan];
 
     unsigned blink_period = ir[4] & 128 ? 128 : 64;
     unsigned cursor_period = ir[7] & 16 ? 64 : 32;
@@ -111,7 +114,8 @@ feldrime_answer plain_line_draw(
         && (!(ir[7] & 32) || field % cursor_period < cursor_period / 2);
 
     /* The attributes that on this line light all of a cell, and those that hide its symbol. */
-    unsigned lights = ((ir[7] & 15u) == scan ? UNDERLINE : 0) | (strike == scan ? STRIKE : 0);
+    unsigned struck = strike_of(numbers[0], numbers[25]);
+    unsigned lights = ((ir[7] & 15u) == scan ? UNDERLINE : 0) | (strike == scan ? struck : 0);
     unsigned hides = BLANK | (blink ? BLINK : 0);
 
     for (unsigned c = 0; c < hact; c += 1 + wide) {
@@ -125,6 +129,8 @@ feldrime_answer plain_line_draw(
         unsigned character = code & 127;
         unsigned place = flags[character] ? shifted_word : unshifted_word;
         unsigned bits = code & 128 && place < LIST ? words[character * LIST + place] & 1023 : 0;
+        if (attr & graphics)
+            bits = graphics_word(code, group);
         if (dots > 10)
             bits <<= 1; /* the zero before D0 */
         if (attr & lights)

@@ -1,5 +1,5 @@
-/* What the C around the library shares: sizes, the bits of switches and attributes, the levels, porches, what a page is refused for, addresses,
-   rows and their codes, a list's search. */
+/* What the C around the library shares: sizes, the bits of switches and attributes, the levels, porches, what a page and a font are refused for,
+   addresses, rows and their codes, a list's search, a word of graphics. */
 #ifndef RULES_H
 #define RULES_H
 
@@ -8,15 +8,62 @@
 #define MEMORY 16384u    /* bytes in each memory */
 #define CHARACTERS 128u  /* characters in the font */
 #define LIST 9u          /* words a character, line numbers in a list */
+#define GROUPS 16u       /* groups of a font that has some */
 
 enum { DISPLAY = 1, CURSOR = 2, BKGND = 4, RBLANK = 8, FIELD_MODE = 16, ACD = 32 };                  /* switches */
 enum { REVERSE = 1, BLANK = 2, BLINK = 4, UNDERLINE = 8, HIGHLIGHT = 16, STRIKE = 32, AFLG = 128 };  /* attributes */
+enum { GRAPHICS = STRIKE };                                                                          /* on chip B */
 enum { BLACK, GRAY, WHITE };
+
+static inline int version_refused(unsigned version)
+{
+    return version < 1 || version > 3;
+}
 
 /* All switches that a page of a version may have set. */
 static inline unsigned most_switches(unsigned version)
 {
-    return version == 2 ? 63 : 15;
+    return version == 2 || version == 3 ? 63 : 15;
+}
+
+/* Versions 1 and 2 mean chip A, whatever stands in the chip's place. */
+static inline int chip_refused(unsigned version, unsigned chip)
+{
+    return version == 3 && chip > 1;
+}
+
+/* The attribute that makes graphics of a cell, and the one that strikes it: each chip has one of them. */
+static inline unsigned graphics_of(unsigned version, unsigned chip)
+{
+    return version == 3 && chip == 1 ? GRAPHICS : 0;
+}
+
+static inline unsigned strike_of(unsigned version, unsigned chip)
+{
+    return version == 3 && chip == 1 ? 0 : STRIKE;
+}
+
+/* A font has 0 groups or 16, each of 0 to 4. */
+static inline int group_count_refused(size_t count)
+{
+    return count != 0 && count != GROUPS;
+}
+
+static inline int groups_refused(const uint8_t *groups, size_t count)
+{
+    int above = 0;
+
+    for (size_t i = 0; i < count; i++)
+        above |= groups[i] > 4;
+    return above;
+}
+
+/* Two bits of a code by a group, five dots each. */
+static inline unsigned graphics_word(unsigned code, unsigned group)
+{
+    unsigned two = group == 0 ? 0 : code >> 2 * (group - 1) & 3;
+
+    return (two & 1) * 0x01F + (two >> 1) * 0x3E0;
 }
 
 /* Whether a cell with AFLG is bare of its character. */
@@ -74,7 +121,7 @@ static inline feldrime_answer page_refused(const uint8_t *numbers)
     struct porches porches = porches_of(ir);
 
     if (big_endian(numbers + 16) >= MEMORY || big_endian(numbers + 18) >= MEMORY || big_endian(numbers + 20) >= MEMORY
-        || numbers[22] > most_switches(numbers[0]) || numbers[24] > 15)
+        || numbers[22] > most_switches(numbers[0]) || numbers[24] > 15 || chip_refused(numbers[0], numbers[25]))
         return (feldrime_answer){ 12, 0 };
     if (reserved_set(ir))
         return (feldrime_answer){ 4, 0 };

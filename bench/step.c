@@ -15,14 +15,15 @@ feldrime_step_answer plain_step(
     const uint16_t *words, size_t words_count,
     const uint8_t *flags, size_t flags_count,
     const uint8_t *unshifted, size_t unshifted_count,
-    const uint8_t *shifted, size_t shifted_count)
+    const uint8_t *shifted, size_t shifted_count,
+    const uint8_t *groups, size_t groups_count)
 {
     static const uint8_t vsyncs[] = { 3, 1, 5, 7 };
 
     feldrime_step_answer a = { 0 };
 
     if (chars_count != MEMORY || attrs_count != MEMORY || words_count != CHARACTERS * LIST || flags_count != CHARACTERS
-        || unshifted_count != LIST || shifted_count != LIST) {
+        || unshifted_count != LIST || shifted_count != LIST || group_count_refused(groups_count)) {
         a.refusal = 3;
         return a;
     }
@@ -33,9 +34,11 @@ feldrime_step_answer plain_step(
     unsigned switches = board->page.switches;
     unsigned dots = board->page.video.dots;
     unsigned strike = board->page.video.strike;
+    unsigned version = board->page.version;
+    unsigned chip = board->page.video.chip;
 
-    if (start1 >= MEMORY || cursor >= MEMORY || start2 >= MEMORY || switches > most_switches(board->page.version)
-        || strike > 15) {
+    if (start1 >= MEMORY || cursor >= MEMORY || start2 >= MEMORY || switches > most_switches(version)
+        || strike > 15 || chip_refused(version, chip) || groups_refused(groups, groups_count)) {
         a.refusal = 12;
         return a;
     }
@@ -141,7 +144,9 @@ feldrime_step_answer plain_step(
         if (shown) {
             unsigned shape = sets && setting_is_bare(switches) ? 0 : chars[at];
 
-            if (shape & 128) {
+            if (attr & graphics_of(version, chip)) {
+                bits = graphics_word(shape, groups_count == 0 ? 0 : groups[scan]);
+            } else if (shape & 128) {
                 unsigned character = shape & 127;
                 unsigned place = position(flags[character] ? shifted : unshifted, scan);
                 if (place < LIST)
@@ -149,7 +154,7 @@ feldrime_step_answer plain_step(
             }
             if (dots > 10)
                 bits <<= 1; /* the zero before D0 */
-            if ((attr & UNDERLINE && (ir[7] & 15u) == scan) || (attr & STRIKE && strike == scan))
+            if ((attr & UNDERLINE && (ir[7] & 15u) == scan) || (attr & strike_of(version, chip) && strike == scan))
                 bits = 4095;
             if (wide)
                 bits = doubled(bits) >> (again ? dots : 0);

@@ -12,7 +12,7 @@ static feldrime_page page;
 static feldrime_font font;
 static uint8_t picture[FELDRIME_PICTURE];
 
-/* One byte more than the longer kind of file has: a file that is too long reaches the library as one. */
+/* One byte more than the longest file has: a file that is too long reaches the library as one. */
 static uint8_t file[FELDRIME_PAGE_FILE + 1];
 
 static void fail(const char *name)
@@ -62,6 +62,34 @@ static size_t read_file(const char *name)
     return count;
 }
 
+/* Whether the file in the buffer has the size that its version byte gives a page, or a font. */
+static int is_page_size(size_t bytes)
+{
+    return bytes > 0 && bytes == feldrime_page_bytes(file[0]);
+}
+
+static int is_font_size(size_t bytes)
+{
+    return bytes > 0 && bytes == feldrime_font_bytes(file[0]);
+}
+
+static void load_page(const char *name)
+{
+    size_t bytes = read_file(name);
+
+    judge(name, feldrime_load_page(&page, file, bytes),
+          is_font_size(bytes) ? "; it has a font's size: PAGE comes before FONT" : "");
+}
+
+static void load_font(const char *name)
+{
+    size_t bytes = read_file(name);
+    feldrime_font_answer read = feldrime_load_font(&font, file, bytes);
+    feldrime_answer answer = { read.refusal, read.beside };
+
+    judge(name, answer, is_page_size(bytes) ? "; it has a page's size: FONT comes after PAGE" : "");
+}
+
 /* A PGM picture: a header, then a byte for each dot. */
 static void write_picture(void)
 {
@@ -87,12 +115,8 @@ int main(int count, char *arguments[])
         return 1;
     }
     uint8_t field = field_of(arguments[3]);
-    size_t bytes = read_file(arguments[1]);
-    judge(arguments[1], feldrime_load_page(&page, file, bytes),
-          bytes == FELDRIME_FONT_FILE ? "; it has a font's size: PAGE comes before FONT" : "");
-    bytes = read_file(arguments[2]);
-    judge(arguments[2], feldrime_load_font(&font, file, bytes),
-          bytes == FELDRIME_PAGE_FILE ? "; it has a page's size: FONT comes after PAGE" : "");
+    load_page(arguments[1]);
+    load_font(arguments[2]);
     judge(arguments[1], feldrime_draw(&page, &font, field, picture, sizeof picture), "");
     write_picture();
     return 0;

@@ -9,7 +9,9 @@
 
    bytes is the whole file. Read it into a buffer with room for one byte more than FELDRIME_PAGE_FILE or
    FELDRIME_FONT_FILE, and pass everything that was read. A program that asks for no more than the right size cuts a
-   file that is too long, and the cut file is accepted.
+   file that is too long, and the cut file is accepted. If a page and then a font come in one stream, the page has
+   feldrime_page_bytes(its first byte) bytes, and the font is all the rest; if these are 0, or the stream ends sooner,
+   the page is all that was read, and is refused.
 
    feldrime_size_of(&page) gives the number of lines in the picture and of dots in a line. Blinking depends on the field
    count, which is the frame's number modulo 256; a still picture is field 0. examples/draw.c does just this.
@@ -51,7 +53,7 @@ extern "C" {
 /* The version of this header and of the library that it belongs to. As long as it stays the same, everything said here
    holds, though calls may be added. Another version may have other calls, structs, sizes and refusal numbers, and may
    accept and draw other things: read your program through and compile it again. Files have versions of their own. */
-#define FELDRIME_VERSION 7
+#define FELDRIME_VERSION 8
 
 /* The version of the library. A program that may meet another library than the one it was compiled for, a shared one
    for example, compares it with FELDRIME_VERSION and calls nothing else if they differ. */
@@ -64,15 +66,32 @@ enum {
     FELDRIME_WORDS = 1152,      /* a font's words: 9 for each of 128 characters, the top one first */
     FELDRIME_FLAGS = 128,       /* its shift flags */
     FELDRIME_LIST = 9,          /* its unshifted and its shifted list of line numbers */
+    FELDRIME_GROUPS = 16,       /* its groups, one for each scan line; a font without them has 0 */
     FELDRIME_LINE = 3072,       /* room for the longest line: 256 cells of 12 dots */
     FELDRIME_PICTURE = 6291456, /* room for the largest picture: 2048 such lines */
     FELDRIME_CELLS = 256,       /* room for the cells of the longest row */
-    FELDRIME_PAGE_FILE = 32797, /* the exact size of a page file; a buffer for reading one has one byte more */
-    FELDRIME_FONT_FILE = 2455   /* the same for a font file */
+    FELDRIME_PAGE_FILE = 32798, /* the largest size of a page file; a buffer for reading one has one byte more */
+    FELDRIME_FONT_FILE = 2471   /* the same for a font file */
 };
 
+/* The exact size of a page file by its version byte, its first; 0 for a version that is not known. */
+static inline size_t feldrime_page_bytes(uint8_t version)
+{
+    if (version == 3)
+        return FELDRIME_PAGE_FILE;
+    return version == 1 || version == 2 ? FELDRIME_PAGE_FILE - 1 : 0;
+}
+
+/* The same for a font file. */
+static inline size_t feldrime_font_bytes(uint8_t version)
+{
+    if (version == 2)
+        return FELDRIME_FONT_FILE;
+    return version == 1 ? FELDRIME_FONT_FILE - FELDRIME_GROUPS : 0;
+}
+
 /* Bytes of stack, including a call's arguments and what the dynamic linker uses at the first call. */
-enum { FELDRIME_STACK = 24576, FELDRIME_STACK_SMALL = 8192 };
+enum { FELDRIME_STACK = 32768, FELDRIME_STACK_SMALL = 8192 };
 
 /* The level of a dot. */
 enum { FELDRIME_BLACK = 0, FELDRIME_GRAY = 1, FELDRIME_WHITE = 2 };
@@ -106,12 +125,12 @@ static inline const char *feldrime_meaning(uint32_t refusal)
     case FELDRIME_DONE:
         return "done";
     case FELDRIME_REFUSED_VERSION:
-        return "the file is empty, or its version byte is not 1, nor 2 in a page file";
+        return "the file is empty, or its version byte is not 1 or 2, nor 3 in a page file";
     case FELDRIME_REFUSED_LENGTH:
         return "the length field is wrong, or the file has too few or too many bytes";
     case FELDRIME_REFUSED_SIZE:
-        return "a buffer has the wrong size or no room for the file, "
-               "or the page's numbers do not begin with version 1 or 2";
+        return "a buffer has the wrong size or no room for the file or the font's groups, "
+               "or the page's numbers do not begin with version 1, 2 or 3";
     case FELDRIME_REFUSED_RESERVED:
         return "interlace (IR1[7]) is set, or row codes (IR0[7]) without the row table (IR2[7])";
     case FELDRIME_REFUSED_WIDTH:
@@ -126,7 +145,8 @@ static inline const char *feldrime_meaning(uint32_t refusal)
         return "the command is not carried, or it loads 15 into the IR pointer";
     case FELDRIME_REFUSED_ADDRESS:
         return "screen start 1, screen start 2 or the cursor address is above 16383, "
-               "one of the switches 4 to 7 is set (in version 2, switch 6 or 7), or the strike line is above 15";
+               "one of the switches 4 to 7 is set (in versions 2 and 3, switch 6 or 7), the strike line is above 15, "
+               "in version 3 the chip is above 1, or a group of the font is above 4";
     case FELDRIME_REFUSED_BACK_PORCH:
         return "the back porch code (IR2[2:0]) is 0";
     case FELDRIME_REFUSED_LINE_SHORT:
@@ -152,15 +172,17 @@ static inline const char *feldrime_meaning(uint32_t refusal)
 
 /* A page's numbers, 32 bytes:
 
-     0        version, 1 or 2
+     0        version, 1, 2 or 3
      1 - 15   IR0 to IR14
      16, 17   screen start 1, high byte first
      18, 19   cursor address, likewise
      20, 21   screen start 2, likewise: where the row table is
-     22       switches: bit 0 display, 1 cursor, 2 BKGND, 3 RBLANK, and in version 2 bit 4 field mode, 5 ACD; others 0
+     22       switches: bit 0 display, 1 cursor, 2 BKGND, 3 RBLANK, and from version 2 on bit 4 field mode, 5 ACD;
+              others 0
      23       dots in a cell
      24       strike line
-     25 - 31  written as 0, ignored when read
+     25       in version 3 the chip, 0 for A, 1 for B; in versions 1 and 2, which mean A, like the bytes after it
+     26 - 31  written as 0, ignored when read
 
    The fields of the IRs, n being a field's code:
 
@@ -192,11 +214,11 @@ static inline const char *feldrime_meaning(uint32_t refusal)
    height.
 
    A character byte is 80 hex + the character; below 80 hex the cell has no character. An attribute byte: bit 0 reverse,
-   1 blank, 2 blink, 3 underline, 4 highlight (white for gray), 5 strike, and 7, AFLG, without which the others do not
-   count. Such a cell has no attributes; but in field mode it has those of the last cell before it with AFLG, in the
-   order of fetching from row 0, column 0 on, if there is one. In field mode with ACD off a cell with AFLG shows no
-   character, but has its attributes, and its underline and strike; with ACD on it shows its character. Without field
-   mode ACD has no effect.
+   1 blank, 2 blink, 3 underline, 4 highlight (white for gray), 5 strike on chip A and graphics on chip B, which has no
+   strike, and 7, AFLG, without which the others do not count. A cell without AFLG has no attributes; but in field mode
+   it has those of the last cell before it with AFLG, in the order of fetching from row 0, column 0 on, if there is one.
+   In field mode with ACD off a cell with AFLG shows neither character nor graphics, but has its attributes, and its
+   underline and strike; with ACD on it shows its character or graphics. Without field mode ACD has no effect.
 
    A cell's symbol is gray, or white if highlighted, on black. BKGND, reverse and the cursor each exchange the two; two
    of them cancel. On the underline line underline makes all dots of the cell symbol, on the strike line strike does.
@@ -210,11 +232,21 @@ static inline const char *feldrime_meaning(uint32_t refusal)
    a page.
 
    A font word has the leftmost dot in bit 0, and ten bits count. Word i of a character appears on the scan line that
-   position i of a list names: of the shifted list if the character's flag is not 0, else of the unshifted one. */
+   position i of a list names: of the shifted list if the character's flag is not 0, else of the unshifted one.
+
+   A graphics cell shows the bits of its character byte, of all 256, in the place of a character. Each scan line has a
+   group, 0 to 4: 1 shows bits 0 and 1, 2 bits 2 and 3, 3 bits 4 and 5, 4 bits 6 and 7, and 0 none. They stand where a
+   font word does: the lower bit in its dots 0 to 4, its neighbour in dots 5 to 9. A font without groups shows nothing
+   there. All else is as for a character. */
 
 typedef struct {
     uint32_t refusal, beside;
 } feldrime_answer;
+
+typedef struct {
+    uint32_t refusal, beside;
+    uint32_t groups; /* how many the file has, 0 or 16 */
+} feldrime_font_answer;
 
 typedef struct {
     uint32_t refusal, beside;
@@ -258,32 +290,39 @@ feldrime_answer feldrime_page_check(
 feldrime_size feldrime_page_size(
     const uint8_t *numbers, size_t numbers_count);
 
-/* Takes a page file apart: version byte, 1 or 2; 32792 in four bytes, high byte first; bytes 1 to 24 of the numbers;
-   character memory; attribute memory. Writes all of numbers, chars and attrs. Refuses 1, 2, 3, 12, 4, 13, 14, 15, 6. */
+/* Takes a page file apart: version byte, 1, 2 or 3; how many bytes follow this field, 32792, or in version 3 32793, in
+   four bytes, high byte first; bytes 1 to 24 of the numbers, in version 3 to 25; character memory; attribute memory.
+   Writes all of numbers, chars and attrs. Refuses 1, 2, 3, 12, 4, 13, 14, 15, 6. */
 feldrime_answer feldrime_page_read(
     const uint8_t *file, size_t file_count,
     uint8_t *numbers, size_t numbers_count,
     uint8_t *chars, size_t chars_count,
     uint8_t *attrs, size_t attrs_count);
 
-/* Writes a page file to the first FELDRIME_PAGE_FILE bytes of out. Refuses 3, 12, 4, 13, 14, 15, 6. */
+/* Writes a page file of the numbers' version to the first feldrime_page_bytes(version) bytes of out. Refuses 3, 12, 4,
+   13, 14, 15, 6. */
 feldrime_answer feldrime_page_write(
     const uint8_t *numbers, size_t numbers_count,
     const uint8_t *chars, size_t chars_count,
     const uint8_t *attrs, size_t attrs_count,
     uint8_t *out, size_t out_count);
 
-/* Takes a font file apart: version byte 1; 2450 in four bytes, high byte first; the words, high byte first; the flags;
-   the unshifted list; the shifted list. Writes all four parts. Refuses 1, 2, 3. */
-feldrime_answer feldrime_font_read(
+/* Takes a font file apart: version byte, 1 or 2; how many bytes follow this field, 2450, or in version 2 2466, in four
+   bytes, high byte first; the words, high byte first; the flags; the unshifted list; the shifted list; in version 2 the
+   groups, from scan line 0 on. Writes all of these; a file of version 1 leaves groups as they were. Here, and wherever
+   a font is passed, groups are 0 or 16. Refuses 1, 2, 3, 12; a file of version 2 with 0 groups is 3. 12 is for a group
+   above 4 in the file. */
+feldrime_font_answer feldrime_font_read(
     const uint8_t *file, size_t file_count,
     uint16_t *words, size_t words_count,
     uint8_t *flags, size_t flags_count,
     uint8_t *unshifted, size_t unshifted_count,
-    uint8_t *shifted, size_t shifted_count);
+    uint8_t *shifted, size_t shifted_count,
+    uint8_t *groups, size_t groups_count);
 
 /* Draws all visible lines as they look in a field, end to end, to the first lines x dots bytes of out. lines and dots
-   are as feldrime_page_size gives them. Refuses 3, 12, 4, 13, 14, 15, 6, 8. */
+   are as feldrime_page_size gives them. Refuses 3, 12, 4, 13, 14, 15, 6, 8. 12 is for the font's groups too, on both
+   chips and for every page, here and in the calls below that take a font. */
 feldrime_answer feldrime_picture_draw(
     const uint8_t *numbers, size_t numbers_count,
     const uint8_t *chars, size_t chars_count,
@@ -292,6 +331,7 @@ feldrime_answer feldrime_picture_draw(
     const uint8_t *flags, size_t flags_count,
     const uint8_t *unshifted, size_t unshifted_count,
     const uint8_t *shifted, size_t shifted_count,
+    const uint8_t *groups, size_t groups_count,
     uint8_t field,
     uint8_t *out, size_t out_count);
 
@@ -304,6 +344,7 @@ feldrime_answer feldrime_line_draw(
     const uint8_t *flags, size_t flags_count,
     const uint8_t *unshifted, size_t unshifted_count,
     const uint8_t *shifted, size_t shifted_count,
+    const uint8_t *groups, size_t groups_count,
     uint32_t line, uint8_t field,
     uint8_t *out, size_t out_count);
 
@@ -377,6 +418,8 @@ typedef struct {
     uint8_t flags[FELDRIME_FLAGS];
     uint8_t unshifted[FELDRIME_LIST];
     uint8_t shifted[FELDRIME_LIST];
+    uint8_t groups[FELDRIME_GROUPS];
+    size_t group_count; /* 0 or 16 */
 } feldrime_font;
 
 /* feldrime_page_read */
@@ -397,13 +440,17 @@ static inline feldrime_answer feldrime_save_page(
                                page->attrs, FELDRIME_MEMORY, out, out_count);
 }
 
-/* feldrime_font_read */
-static inline feldrime_answer feldrime_load_font(
+/* feldrime_font_read, which sets group_count too */
+static inline feldrime_font_answer feldrime_load_font(
     feldrime_font *font,
     const uint8_t *file, size_t file_count)
 {
-    return feldrime_font_read(file, file_count, font->words, FELDRIME_WORDS, font->flags, FELDRIME_FLAGS,
-                              font->unshifted, FELDRIME_LIST, font->shifted, FELDRIME_LIST);
+    feldrime_font_answer answer = feldrime_font_read(
+        file, file_count, font->words, FELDRIME_WORDS, font->flags, FELDRIME_FLAGS,
+        font->unshifted, FELDRIME_LIST, font->shifted, FELDRIME_LIST, font->groups, FELDRIME_GROUPS);
+    if (answer.refusal == FELDRIME_DONE)
+        font->group_count = answer.groups;
+    return answer;
 }
 
 /* feldrime_page_size */
@@ -422,7 +469,8 @@ static inline feldrime_answer feldrime_draw(
     return feldrime_picture_draw(page->numbers, FELDRIME_NUMBERS, page->chars, FELDRIME_MEMORY,
                                  page->attrs, FELDRIME_MEMORY, font->words, FELDRIME_WORDS,
                                  font->flags, FELDRIME_FLAGS, font->unshifted, FELDRIME_LIST,
-                                 font->shifted, FELDRIME_LIST, field, out, out_count);
+                                 font->shifted, FELDRIME_LIST, font->groups, font->group_count,
+                                 field, out, out_count);
 }
 
 /* feldrime_line_draw */
@@ -434,7 +482,8 @@ static inline feldrime_answer feldrime_draw_one_line(
     return feldrime_line_draw(page->numbers, FELDRIME_NUMBERS, page->chars, FELDRIME_MEMORY,
                               page->attrs, FELDRIME_MEMORY, font->words, FELDRIME_WORDS,
                               font->flags, FELDRIME_FLAGS, font->unshifted, FELDRIME_LIST,
-                              font->shifted, FELDRIME_LIST, line, field, out, out_count);
+                              font->shifted, FELDRIME_LIST, font->groups, font->group_count,
+                              line, field, out, out_count);
 }
 
 /* feldrime_row_cells */
@@ -495,7 +544,7 @@ static inline feldrime_answer feldrime_make_sheet(
    is latched then. Two bits of code count, and none without IR0[7]; a step leaves what counts. */
 typedef struct {
     struct {
-        uint8_t version; /* 1 or 2; any other counts as 1, and is written as 1 */
+        uint8_t version; /* 1, 2 or 3; any other counts as 1, and is written as 1 */
         uint8_t irs[15];
         struct {
             uint16_t start1, cursor, start2;
@@ -504,6 +553,7 @@ typedef struct {
         struct {
             uint32_t dots;
             uint8_t strike;
+            uint8_t chip; /* 0 for A, 1 for B, above 1 is 12; in any version but 3 it is ignored and kept */
         } video;
     } page;
     struct {
@@ -556,14 +606,16 @@ feldrime_answer feldrime_numbers_of(
     uint8_t *numbers, size_t numbers_count);
 
 /* The board with these dots in a cell, strike line, BKGND and RBLANK; for the last two any number but 0 is on. Refuses
-   12, 6 and then gives the old board. 12 is for the board's three addresses and switches and for the strike line
-   passed, 6 for the dots passed; nothing else is judged, neither place nor pointer. Switches 4 and 5 are kept. */
+   12, 6 and then gives the old board. 12 is for the board's three addresses, switches and chip and for the strike line
+   passed, 6 for the dots passed; nothing else is judged, neither place nor pointer. Switches 4 and 5 and the chip are
+   kept. */
 feldrime_board_answer feldrime_set_video(
     feldrime_board board,
     uint8_t dots, uint8_t strike, uint8_t bkgnd, uint8_t rblank);
 
 /* Writes a byte to a register. Refuses 12, 7, 9, 10 and then gives the old board. 12 is for the board's three
-   addresses, switches and strike line, 7 for its pointer alone: the place, the IRs and the dots are not judged here.
+   addresses, switches, strike line and chip, 7 for its pointer alone: the place, the IRs and the dots are not judged
+   here.
 
      0       the IR that the pointer names; the pointer then moves on, and stays at IR14
      1       a command, in hex: 00 master reset; 10 to 1E load IR pointer; 28, 29 display off, on; 30, 31 cursor off,
@@ -573,7 +625,7 @@ feldrime_board_answer feldrime_set_video(
      6, 7    screen start 2, likewise
 
    A master reset sets the place to clock 0, its field too, the pointer to IR0, and display and cursor off. All else is
-   kept: version, IRs, addresses, the other switches, dots and strike line. An active board stays active.
+   kept: version, IRs, addresses, the other switches, dots, strike line and chip. An active board stays active.
 
    An inactive board takes master resets only. Any other write is answered by 0 and only ends a run of resets. The board
    can still be read, set by feldrime_set_video and stepped; its display is off whatever the switch says.
@@ -610,7 +662,8 @@ feldrime_step_answer feldrime_step(
     const uint16_t *words, size_t words_count,
     const uint8_t *flags, size_t flags_count,
     const uint8_t *unshifted, size_t unshifted_count,
-    const uint8_t *shifted, size_t shifted_count);
+    const uint8_t *shifted, size_t shifted_count,
+    const uint8_t *groups, size_t groups_count);
 
 /* feldrime_step, with the memories of a page; the page's numbers have no effect, since the board has its own */
 static inline feldrime_step_answer feldrime_tick(
@@ -619,7 +672,8 @@ static inline feldrime_step_answer feldrime_tick(
 {
     return feldrime_step(board, page->chars, FELDRIME_MEMORY, page->attrs, FELDRIME_MEMORY,
                          font->words, FELDRIME_WORDS, font->flags, FELDRIME_FLAGS,
-                         font->unshifted, FELDRIME_LIST, font->shifted, FELDRIME_LIST);
+                         font->unshifted, FELDRIME_LIST, font->shifted, FELDRIME_LIST,
+                         font->groups, font->group_count);
 }
 
 #ifdef __cplusplus

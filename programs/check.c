@@ -12,15 +12,14 @@ const char check_help[] =
     "\n"
     "Prints a line for each good file to standard output. For each bad one it prints the reason to standard error.\n";
 
-enum { FIELD_MODE = 1 << 4 }; /* of the switches, and only version 2 is accepted with it */
-
 static struct page page;
 static feldrime_font font;
 
 static void print_page(const char *name)
 {
-    printf("%s: a page of %u rows and %u columns, %u x %u dots%s\n", name, (unsigned)page.rows, (unsigned)page.columns,
-           (unsigned)page.dots, (unsigned)page.lines, board_of(&page).page.switches & FIELD_MODE ? ", field mode" : "");
+    printf("%s: a page of %u rows and %u columns, %u x %u dots%s%s\n", name, (unsigned)page.rows,
+           (unsigned)page.columns, (unsigned)page.dots, (unsigned)page.lines,
+           in_field_mode(&page) ? ", field mode" : "", has_graphics(&page) ? ", chip B" : "");
 }
 
 int check_word(int count, char **operands)
@@ -35,7 +34,7 @@ int check_word(int count, char **operands)
         status = COULD_NOT;
     }
     if (count == 2 && read_font(operands[1], &font, why)) {
-        printf("%s: a font\n", input_name(operands[1]));
+        printf("%s: a font%s\n", input_name(operands[1]), font.group_count > 0 ? " with graphics" : "");
     } else if (count == 2) {
         say(input_name(operands[1]), "%s", why);
         status = COULD_NOT;

@@ -49,8 +49,22 @@ static void put_text(FILE *out, const char *text)
         put_letter(out, *text);
 }
 
+/* Cells of graphics on end are the word in brackets, and then blanks up to the next cell if there is room for them. */
+static void put_cell(FILE *out, const struct reading *reading, uint32_t line, uint32_t c, const char *word)
+{
+    const bool *graphics = reading->graphics[line];
+    uint32_t first = c;
+
+    while (graphics[c] && first > 0 && graphics[first - 1])
+        first--;
+    if (graphics[c] && first == c)
+        fprintf(out, "[%s]", word);
+    else if (!graphics[c] || c - first >= strlen(word) + 2)
+        put_letter(out, reading->letter[line][c]);
+}
+
 /* The lines that are read. What is struck stands between open and close. */
-static void put_lines(FILE *out, const struct reading *reading, const char *open, const char *close)
+static void put_lines(FILE *out, const struct reading *reading, const char *open, const char *close, const char *word)
 {
     for (uint32_t line = 0; line < reading->lines; line++) {
         bool struck = false;
@@ -58,7 +72,7 @@ static void put_lines(FILE *out, const struct reading *reading, const char *open
             if (reading->struck[line][c] != struck)
                 fputs(struck ? close : open, out);
             struck = reading->struck[line][c];
-            put_letter(out, reading->letter[line][c]);
+            put_cell(out, reading, line, c, word);
         }
         fputs(struck ? close : "", out);
         fputc('\n', out);
@@ -117,7 +131,7 @@ static void put_board(FILE *out, const struct entry *entry, const struct page *p
     if (is_empty(reading))
         put_text(out, language->empty);
     else
-        put_lines(out, reading, open, "]");
+        put_lines(out, reading, open, "]", language->graphics);
     fputs("\">\n", out);
     for (int i = 1; i < fields->count; i++)
         fprintf(out, "<img src=\"%s.%d.png\" width=\"%u\" height=\"%u\" alt=\"\" class=\"field%d\">\n",
@@ -138,7 +152,7 @@ void html_page(FILE *out, const struct entry *entry, const struct page *page, co
     fputs("</h1>\n", out);
     put_board(out, entry, page, fields, reading, language);
     fprintf(out, "<details>\n<summary>%s</summary>\n<pre%s>\n", language->text, unknown);
-    put_lines(out, reading, "<s>", "</s>");
+    put_lines(out, reading, "<s>", "</s>", language->graphics);
     fprintf(out, "</pre>\n</details>\n<p><small>%s%s%s</small></p>\n", language->aspect, fields->count > 1 ? " " : "",
             fields->count > 1 ? language->rate : "");
     fprintf(out, "</main>\n<nav><a href=\"index.html\" hreflang=\"en\">%s</a></nav>\n</body>\n</html>\n",

@@ -6,7 +6,7 @@
 
 struct language {
     const char *code, *name;
-    const char *still, *text, *struck, *empty, *pages, *aspect, *rate;
+    const char *still, *text, *struck, *graphics, *empty, *pages, *aspect, *rate;
 };
 
 enum { LANGUAGES = 5 };

@@ -19,9 +19,9 @@ static bool write_page(const char *name)
 {
     static uint8_t file[FELDRIME_PAGE_FILE];
 
-    /* A page that was moved is accepted, and the room is the size of a file: there is nothing left to refuse. */
+    /* A page that was moved is accepted, and there is room for the longest file: there is nothing left to refuse. */
     feldrime_save_page(&page.parts, file, sizeof file);
-    return write_file(name, file, sizeof file);
+    return write_file(name, file, feldrime_page_bytes(file[0]));
 }
 
 int move_page(const struct move *move, const char *from, const char *to)

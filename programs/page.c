@@ -39,14 +39,15 @@ static void measure(struct page *page)
 
 bool read_page(const char *name, struct page *page, char why[WHY])
 {
-    /* One byte more than a file has: a file that is too long reaches the library as one. */
+    /* One byte more than the longest file has: a file that is too long reaches the library as one. */
     static uint8_t file[FELDRIME_PAGE_FILE + 1];
     size_t count;
 
     if (!read_file(name, file, sizeof file, &count, why))
         return false;
     feldrime_answer answer = feldrime_load_page(&page->parts, file, count);
-    if (!judge(answer, count == FELDRIME_FONT_FILE ? " (it is as long as a font)" : "", why))
+    bool as_a_font = count > 0 && count == feldrime_font_bytes(file[0]);
+    if (!judge(answer, as_a_font ? " (it is as long as a font)" : "", why))
         return false;
     measure(page);
     return true;
@@ -60,8 +61,9 @@ bool read_font(const char *name, feldrime_font *font, char why[WHY])
 
     if (!read_file(name, file, sizeof file, &count, why))
         return false;
-    feldrime_answer answer = feldrime_load_font(font, file, count);
-    return judge(answer, count == FELDRIME_PAGE_FILE ? " (it is as long as a page)" : "", why);
+    feldrime_font_answer read = feldrime_load_font(font, file, count);
+    bool as_a_page = count > 0 && count == feldrime_page_bytes(file[0]);
+    return judge((feldrime_answer){ read.refusal, read.beside }, as_a_page ? " (it is as long as a page)" : "", why);
 }
 
 uint32_t cells_of(const struct page *page, uint32_t row, uint16_t cells[FELDRIME_CELLS])
@@ -78,6 +80,18 @@ bool has_table(const struct page *page)
 bool has_codes(const struct page *page)
 {
     return board_of(page).page.irs[0] >> 7;
+}
+
+bool has_graphics(const struct page *page)
+{
+    feldrime_board board = board_of(page);
+
+    return board.page.version == 3 && board.page.video.chip == 1;
+}
+
+bool in_field_mode(const struct page *page)
+{
+    return board_of(page).page.switches >> 4 & 1;
 }
 
 uint32_t entry_cell(const struct page *page, uint32_t row, uint32_t byte)

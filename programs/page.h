@@ -34,6 +34,12 @@ feldrime_board board_of(const struct page *page);
 bool has_table(const struct page *page);
 bool has_codes(const struct page *page);
 
+/* Whether attribute bit 5 makes a cell graphics, as on chip B, and does not strike it, as on chip A. */
+bool has_graphics(const struct page *page);
+
+/* Whether attributes run on. */
+bool in_field_mode(const struct page *page);
+
 /* The cell that holds a row's entry of the row table: its low byte, 0, or its high byte, 1. */
 uint32_t entry_cell(const struct page *page, uint32_t row, uint32_t byte);
 

@@ -21,7 +21,8 @@ const char rows_help[] =
     "  phrase  only with PHRASES: language and number of the first phrase in the list that holds all these cells, or\n"
     "          'no phrase'\n"
     "  text    what these cells hold, even if the picture does not show it. A cell without a character is a blank, and\n"
-    "          a character that is not a letter, digit or sign of ASCII is a dot\n"
+    "          a character that is not a letter, digit or sign of ASCII is a dot. Cells of graphics, which chip B has,\n"
+    "          are '[graphics]'\n"
     "\n"
     "PHRASES is a text file with a line for each phrase: its language (de, en, fr, it or sl), its number, its first cell\n"
     "and its length in cells, as in 'de 11 4032 48'. Text after a # is a comment. The cells of a phrase are consecutive\n"
@@ -107,7 +108,7 @@ static void phrase_of(uint32_t row, char text[32])
 static void print_row(uint32_t row)
 {
     static const char *const sizes[] = { [PLAIN] = "", [WIDE] = "wide", [TOP] = "top", [BOTTOM] = "bottom" };
-    char from[32], shown[FELDRIME_CELLS * 16], phrase[32], text[FELDRIME_CELLS + 1];
+    char from[32], shown[FELDRIME_CELLS * 16], phrase[32], text[TEXT];
 
     cell_count = cells_of(&page, row, cells);
     origin(row, from);

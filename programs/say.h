@@ -6,7 +6,7 @@
 enum { DONE = 0, COULD_NOT = 1, WRONG_USE = 2 };
 
 /* Why something failed, as one line of text. */
-enum { WHY = 256 };
+enum { WHY = 320 };
 
 /* "feldrime: NAME: why", on standard error. */
 void say(const char *name, const char *format, ...) __attribute__((format(printf, 2, 3)));

@@ -35,8 +35,9 @@ const char site_help[] =
     "If a page is refused, or has a row in no phrase, its entry in the index and its web page say why, and each such row\n"
     "is reported with its cells and its text. The other pages are still made. Nothing is made if the list has a bad line,\n"
     "or two phrases of the same language and number that differ.\n"
-    "The text is what the picture shows: hidden text is left out, and struck text is marked as struck. A headline of\n"
-    "double height, which is two rows of the page, is one line of the text.\n"
+    "The text is what the picture shows: hidden text is left out, struck text is marked as struck, and graphics, which\n"
+    "chip B has, are '[graphics]' in the page's language. A headline of double height, which is two rows of the page, is\n"
+    "one line of the text.\n"
     "\n"
     "The name of a page file gives its language: de, en, fr, it or sl as NAME, or as the first or last part of a NAME\n"
     "whose parts are separated by -, _ or dots. A page of any other name has labels in English, and a text without a\n"
@@ -113,7 +114,7 @@ static const char *taken(const struct entry *entries, int i)
 static void report_row(const struct entry *entry, uint32_t row)
 {
     uint16_t cells[FELDRIME_CELLS];
-    char text[FELDRIME_CELLS + 1];
+    char text[TEXT];
     uint32_t count = cells_of(&page, row, cells);
 
     text_of(&page, row, text);

@@ -1,5 +1,5 @@
 #!/usr/bin/env python3
-"""Makes the sample font, the pages and the list of phrases from the texts beside it.
+"""Makes the sample fonts, the pages and the list of phrases from the texts beside it.
 
 With --check it writes nothing, names each file that is not what it would make, and ends with 1 if there is one."""
 import configparser
@@ -9,8 +9,9 @@ import sys
 HERE = pathlib.Path(__file__).resolve().parent
 MEMORY = 16384
 LANGUAGES = "en", "de", "fr", "it", "sl"
-LOOKS = {"r": 1, "x": 2, "b": 4, "u": 8, "h": 16, "s": 32, "n": 0}
+LOOKS = {"r": 1, "x": 2, "b": 4, "u": 8, "h": 16, "s": 32, "g": 32, "n": 0}  # s is for chip A, g for chip B
 AFLG = 128
+CHIPS = {"A": 0, "B": 1}
 CODES = {"|": [0], "=": [1], "^": [2, 3]}  # by the first letter of a typed line: the codes of the rows that show its cells
 SWITCHES = {"display": 1, "cursor": 2, "bkgnd": 4, "rblank": 8, "field": 16, "acd": 32}
 VSYNCS = [3, 1, 5, 7]
@@ -59,12 +60,16 @@ class Memory:
             sys.exit(f"make: cell {at} is taken twice")
         self.chars[at] = byte
 
+    def put_byte(self, at, byte, attributes):
+        """Writes a cell. Gives the address after it."""
+        self.take(at, byte)
+        self.attrs[at] = attributes
+        return self.first if at == self.last else (at + 1) % MEMORY
+
     def put(self, at, letters, attributes):
-        """Writes cells from an address on. Gives the address after them."""
+        """The same of cells from an address on."""
         for letter in letters:
-            self.take(at, 0x80 | ord(letter))
-            self.attrs[at] = attributes
-            at = self.first if at == self.last else (at + 1) % MEMORY
+            at = self.put_byte(at, 0x80 | ord(letter), attributes)
         return at
 
     def table(self, at, entries):
@@ -90,33 +95,50 @@ def numbers(page, rows, cursor):
     ]
     addresses = b"".join(at.to_bytes(2, "big") for at in (n["start 1"], cursor, n["start 2"]))
     switches = sum(SWITCHES[name] for name in page["switches"].split())
-    return bytes(irs).ljust(15, b"\0") + addresses + bytes([switches, n["dots"], n["strike"]])
+    chip = [CHIPS[page["chip"]]] if n["version"] == 3 else []
+    return bytes(irs).ljust(15, b"\0") + addresses + bytes([switches, n["dots"], n["strike"], *chip])
 
 
-def typed(page, memory):
-    """Types a sheet: a line with | is a row, and lines with : below it give its cells attributes, by letter (n is AFLG
-    alone), or the cursor, by c. With row codes a line with = is a row of double width, which has half the cells, and one with
-    ^ two rows, the top and the bottom half of a headline; a row table then names where each row begins. Gives the number of
-    rows and the cursor's address."""
+def sheet_lines(page):
+    """A sheet's lines: for each the codes of its rows, its letters, the lines that mark its cells, and those that draw them."""
     lines = []
     for line in text(page["sheet"]).splitlines():
         if line[0] == ":":
             lines[-1][2].append(padded(line[1:], len(lines[-1][1])))
+        elif line[0] == "%":
+            lines[-1][3].append(padded(line[1:], 2 * len(lines[-1][1])))
         else:
             codes, columns = CODES[line[0]], page.getint("columns")
-            lines.append((codes, padded(line[1:], columns if codes == [0] else (columns + 1) // 2), []))
+            lines.append((codes, padded(line[1:], columns if codes == [0] else (columns + 1) // 2), [], []))
+    return lines
+
+
+def drawn(drawing, cell):
+    """A cell's code of graphics, from lines with two letters a cell: # is a bit that is set, CA0 and CA1 in the first line."""
+    bits = [line[2 * cell + i] == "#" for line in drawing for i in (0, 1)]
+    return sum(bit << i for i, bit in enumerate(bits))
+
+
+def typed(page, memory):
+    """Types a sheet: a line with | is a row, and lines with : below it give its cells attributes, by letter (n is AFLG
+    alone), or the cursor, by c. Four lines with % below it draw the cells that g marks. With row codes a line with = is a row
+    of double width, which has half the cells, and one with ^ two rows, the top and the bottom half of a headline; a row table
+    then names where each row begins. Gives the number of rows and the cursor's address."""
     at = page.getint("start 1")
     cursor = 0
     entries = []
-    for codes, row, marks in lines:
+    for codes, row, marks, drawing in sheet_lines(page):
         entries += [code << 14 | at for code in codes]
-        for letter, *letters in zip(row, *marks):
+        for cell, (letter, *letters) in enumerate(zip(row, *marks)):
             if "c" in letters:
                 cursor = at
-            at = memory.put(at, letter, look(set(letters) - {" ", "c"}))
+            byte, code = 0x80 | ord(letter), drawn(drawing, cell)
+            if code and "g" not in letters:
+                sys.exit(f"make: {page['sheet']} draws a cell that is not marked g")
+            at = memory.put_byte(at, code if "g" in letters else byte, look(set(letters) - {" ", "c"}))
     if "row codes" in page:
         memory.table(page.getint("start 2"), entries)
-    elif any(codes != [0] for codes, _, _ in lines):
+    elif any(codes != [0] for codes, *_ in sheet_lines(page)):
         sys.exit(f"make: {page['sheet']} needs row codes")
     return len(entries), cursor
 
@@ -180,16 +202,22 @@ def catalogue_list(pages, catalogue):
     return lists.pop()
 
 
-def font_file(deck):
-    """The cards are by paper 002: the line numbers of both lists, then a character, N or S, and nine words."""
+def groups(card):
+    """The groups of a graphics card, which is by paper 002: its columns 30 to 45 are scan lines 0 to 15, and a blank is none."""
+    return bytes(int(column) if column.strip() else 0 for column in card[29:45].ljust(16))
+
+
+def font_file(deck, card=None):
+    """The cards are by paper 002: the line numbers of both lists, then a character, N or S, and nine words. With a graphics card it is
+    a font of version 2."""
     lists, *cards = [line.split() for line in deck.splitlines()]
     if [int(card[0], 16) for card in cards] != list(range(128)) or {len(card) for card in cards} != {11}:
         sys.exit("make: the deck is not 128 cards of nine words, in order")
     words = b"".join(int(word, 16).to_bytes(2, "big") for card in cards for word in card[2:])
     flags = bytes(card[1] == "S" for card in cards)
     numbered = bytes(int(number, 16) for part in lists for number in part.split("=")[1].split(","))
-    body = words + flags + numbered
-    return b"\1" + len(body).to_bytes(4, "big") + body
+    body = words + flags + numbered + (groups(card) if card else b"")
+    return bytes([2 if card else 1]) + len(body).to_bytes(4, "big") + body
 
 
 def main(arguments):
@@ -198,6 +226,7 @@ def main(arguments):
     catalogue, pages = ini("catalogue.ini"), ini("pages.ini")
     made = {f"{name}.page": page_file(pages[name], catalogue) for name in pages.sections()}
     made["deck.font"] = font_file(text("deck.txt"))
+    made["graphics.font"] = font_file(text("deck.txt"), text("graphics.txt").rstrip("\n"))
     made["catalogue.phrases"] = catalogue_list(pages, catalogue)
     if not arguments:
         for name, content in made.items():

@@ -1,8 +1,9 @@
-/* The header's short forms beside the calls that they stand for: helpers FONT PAGE..
-   Each is asked with the same bytes and counts, good and bad, and both have to answer the same and to leave the same behind. The pages
-   have to be of both attribute modes, and sheets and others. Then sentences of the header: in which fields a picture can change, what
-   a move leaves as it was, which record is a row's phrase and which two disagree, that every refusal has words of its own, and that header
-   and library have one version. C99 and C++11. */
+/* The header's short forms beside the calls that they stand for: helpers FONT GROUPED_FONT PAGE..
+   Each is asked with the same bytes and counts, good and bad, and both have to answer the same and to leave the same behind. The fonts
+   are one without groups and one with them, by which the pages are drawn. These have to be of both attribute modes and of both chips, and
+   sheets and others. Then sentences of the header: how long files are, in which fields a picture can change, what a move leaves as it
+   was, which record is a row's phrase and which two disagree, that every refusal has words of its own, and that header and library have
+   one version. C99 and C++11. */
 #include <stdio.h>
 #include <stdlib.h>
 #include <string.h>
@@ -19,7 +20,8 @@ typedef char picture_has_room[FELDRIME_PICTURE == 128 * 16 * 256 * 12 ? 1 : -1];
 /* What the calls are lent, buffer by buffer. */
 static uint8_t numbers[FELDRIME_NUMBERS], chars[FELDRIME_MEMORY], attrs[FELDRIME_MEMORY];
 static uint16_t words[FELDRIME_WORDS];
-static uint8_t flags[FELDRIME_FLAGS], unshifted[FELDRIME_LIST], shifted[FELDRIME_LIST];
+static uint8_t flags[FELDRIME_FLAGS], unshifted[FELDRIME_LIST], shifted[FELDRIME_LIST], groups[FELDRIME_GROUPS];
+static size_t group_count;
 
 /* What the short forms are lent. */
 static feldrime_page page;
@@ -28,7 +30,8 @@ static feldrime_font font;
 static uint8_t file[FELDRIME_PAGE_FILE + 1], out[2][ROOM];
 static uint16_t cells[2][FELDRIME_CELLS + 8];
 static unsigned long compared, refused, failed;
-static unsigned latching; /* pages of version 2 in field mode */
+static unsigned latching; /* pages in field mode */
+static unsigned drawing;  /* pages of chip B */
 static unsigned sheets;   /* pages without a row table */
 
 static void expect(int holds, const char *what)
@@ -73,15 +76,20 @@ static size_t load(const char *name)
 
 static uint32_t read_font(size_t count)
 {
-    feldrime_answer ours = feldrime_load_font(&font, file, count);
-    feldrime_answer theirs = feldrime_font_read(file, count, words, FELDRIME_WORDS, flags, FELDRIME_FLAGS,
-                                                unshifted, FELDRIME_LIST, shifted, FELDRIME_LIST);
+    feldrime_font_answer ours = feldrime_load_font(&font, file, count);
+    feldrime_font_answer theirs = feldrime_font_read(file, count, words, FELDRIME_WORDS, flags, FELDRIME_FLAGS,
+                                                     unshifted, FELDRIME_LIST, shifted, FELDRIME_LIST,
+                                                     groups, FELDRIME_GROUPS);
 
+    if (theirs.refusal == FELDRIME_DONE)
+        group_count = theirs.groups;
     answers(&ours, &theirs, sizeof ours, theirs.refusal, "feldrime_load_font answers otherwise");
     same(font.words, words, sizeof words, "feldrime_load_font: words");
     same(font.flags, flags, sizeof flags, "feldrime_load_font: flags");
     same(font.unshifted, unshifted, sizeof unshifted, "feldrime_load_font: unshifted");
     same(font.shifted, shifted, sizeof shifted, "feldrime_load_font: shifted");
+    same(font.groups, groups, sizeof groups, "feldrime_load_font: groups");
+    expect(font.group_count == group_count, "feldrime_load_font: group_count");
     return theirs.refusal;
 }
 
@@ -122,6 +130,49 @@ static void read_all(uint32_t (*read_one)(size_t), size_t count)
     expect(read_one(count) == FELDRIME_DONE, "a whole file is refused");
 }
 
+/* A font of version 1 or 2, whose file is count bytes: what it has of groups, and what a call without room for them says. */
+static void read_fonts(size_t count)
+{
+    uint32_t wanted = file[0] == 2 ? FELDRIME_GROUPS : 0;
+
+    expect(count == feldrime_font_bytes(file[0]), "a font has not the size that the header says");
+    memset(font.groups, 0xA5, sizeof font.groups);
+    memset(groups, 0xA5, sizeof groups);
+    read_all(read_font, count);
+    expect(group_count == wanted, "the groups of a font are miscounted");
+    expect(read_font(count - 1) == FELDRIME_REFUSED_LENGTH, "a font that is too short is not refused 2");
+    expect((groups[0] == 0xA5) == (wanted == 0), "the groups of a font are not read, or not left");
+    feldrime_font_answer answer = feldrime_font_read(file, count, words, FELDRIME_WORDS, flags, FELDRIME_FLAGS,
+                                                     unshifted, FELDRIME_LIST, shifted, FELDRIME_LIST, NULL, 0);
+    expect(answer.refusal == (wanted == 0 ? FELDRIME_DONE : FELDRIME_REFUSED_SIZE) && answer.groups == 0,
+           "a font is not read without room for groups as the header says");
+}
+
+/* The first and the last group, and the last that there can be. */
+static void spoil_groups(size_t count)
+{
+    for (size_t place = count - FELDRIME_GROUPS; place < count; place += FELDRIME_GROUPS - 1) {
+        uint8_t group = file[place];
+        file[place] = 5;
+        expect(read_font(count) == FELDRIME_REFUSED_ADDRESS, "group 5 is not refused 12");
+        file[place] = 4;
+        expect(read_font(count) == FELDRIME_DONE, "group 4 is refused");
+        file[place] = group;
+    }
+    expect(read_font(count) == FELDRIME_DONE, "a font is refused");
+}
+
+static void sizes_by_version(void)
+{
+    for (unsigned version = 0; version < 256; version++) {
+        size_t page_size = version == 3 ? 32798 : version == 1 || version == 2 ? 32797 : 0;
+        size_t font_size = version == 2 ? 2471 : version == 1 ? 2455 : 0;
+        expect(feldrime_page_bytes((uint8_t)version) == page_size, "feldrime_page_bytes");
+        expect(feldrime_font_bytes((uint8_t)version) == font_size, "feldrime_font_bytes");
+    }
+    expect(FELDRIME_PAGE_FILE == 32798 && FELDRIME_FONT_FILE == 2471, "the largest files");
+}
+
 static void write_page(size_t room)
 {
     fill_outs();
@@ -132,7 +183,7 @@ static void write_page(size_t room)
     answers(&ours, &theirs, sizeof ours, theirs.refusal, "feldrime_save_page answers otherwise");
     same(out[0], out[1], ROOM, "feldrime_save_page: out");
     if (theirs.refusal == FELDRIME_DONE)
-        same(out[0], file, FELDRIME_PAGE_FILE, "feldrime_save_page: not the file that was read");
+        same(out[0], file, feldrime_page_bytes(file[0]), "feldrime_save_page: not the file that was read");
 }
 
 static feldrime_size size_of_page(void)
@@ -149,7 +200,8 @@ static void draw(uint8_t field, size_t room)
     feldrime_answer ours = feldrime_draw(&page, &font, field, out[0], room);
     feldrime_answer theirs = feldrime_picture_draw(numbers, FELDRIME_NUMBERS, chars, FELDRIME_MEMORY,
                                                    attrs, FELDRIME_MEMORY, words, FELDRIME_WORDS, flags, FELDRIME_FLAGS,
-                                                   unshifted, FELDRIME_LIST, shifted, FELDRIME_LIST, field, out[1], room);
+                                                   unshifted, FELDRIME_LIST, shifted, FELDRIME_LIST, groups, group_count,
+                                                   field, out[1], room);
 
     answers(&ours, &theirs, sizeof ours, theirs.refusal, "feldrime_draw answers otherwise");
     same(out[0], out[1], ROOM, "feldrime_draw: out");
@@ -162,8 +214,8 @@ static void draw_line(uint32_t line, uint8_t field, size_t room)
     feldrime_answer ours = feldrime_draw_one_line(&page, &font, line, field, out[0], room);
     feldrime_answer theirs = feldrime_line_draw(numbers, FELDRIME_NUMBERS, chars, FELDRIME_MEMORY,
                                                 attrs, FELDRIME_MEMORY, words, FELDRIME_WORDS, flags, FELDRIME_FLAGS,
-                                                unshifted, FELDRIME_LIST, shifted, FELDRIME_LIST, line, field,
-                                                out[1], room);
+                                                unshifted, FELDRIME_LIST, shifted, FELDRIME_LIST, groups, group_count,
+                                                line, field, out[1], room);
 
     answers(&ours, &theirs, sizeof ours, theirs.refusal, "feldrime_draw_one_line answers otherwise");
     same(out[0], out[1], FELDRIME_LINE, "feldrime_draw_one_line: out");
@@ -252,8 +304,8 @@ static void tick(void)
             ours.pointer = theirs.pointer = 15;
         feldrime_step_answer a = feldrime_tick(&ours, &page, &font);
         feldrime_step_answer b = feldrime_step(&theirs, chars, FELDRIME_MEMORY, attrs, FELDRIME_MEMORY,
-                                               words, FELDRIME_WORDS, flags, FELDRIME_FLAGS,
-                                               unshifted, FELDRIME_LIST, shifted, FELDRIME_LIST);
+                                               words, FELDRIME_WORDS, flags, FELDRIME_FLAGS, unshifted, FELDRIME_LIST,
+                                               shifted, FELDRIME_LIST, groups, group_count);
 
         answers(&a, &b, sizeof a, b.refusal, "feldrime_tick answers otherwise");
         expect(ours.place.line == theirs.place.line && ours.place.clock == theirs.place.clock
@@ -337,8 +389,9 @@ static void there_and_back(size_t dots)
 {
     static feldrime_page first;
 
-    memset(page.numbers + 25, 0xA5, 7);
-    memset(numbers + 25, 0xA5, 7);
+    int unused = numbers[0] == 3 ? 26 : 25;
+    memset(page.numbers + unused, 0xA5, (size_t)(FELDRIME_NUMBERS - unused));
+    memset(numbers + unused, 0xA5, (size_t)(FELDRIME_NUMBERS - unused));
     first = page;
     move(to_sheet, FELDRIME_REFUSED_KIND, "a sheet is not refused 16 on the way back");
     move(to_table, FELDRIME_DONE, "a sheet cannot be moved");
@@ -374,8 +427,8 @@ static void step_moved(void)
         if (i == STEPS / 3 || i == STEPS / 2)
             move_board(&ours);
         feldrime_step_answer a = feldrime_step(&ours, chars, FELDRIME_MEMORY, attrs, FELDRIME_MEMORY,
-                                               words, FELDRIME_WORDS, flags, FELDRIME_FLAGS,
-                                               unshifted, FELDRIME_LIST, shifted, FELDRIME_LIST);
+                                               words, FELDRIME_WORDS, flags, FELDRIME_FLAGS, unshifted, FELDRIME_LIST,
+                                               shifted, FELDRIME_LIST, groups, group_count);
         feldrime_step_answer b = feldrime_tick(&theirs, &page, &font);
 
         same(&a, &b, sizeof a, "a board that was moved shows something else");
@@ -414,10 +467,13 @@ static void refused_moves(void)
 
 static unsigned compare_page(size_t count)
 {
+    expect(count == feldrime_page_bytes(file[0]), "a page has not the size that the header says");
     read_all(read_page, count);
-    latching += numbers[0] == 2 && numbers[22] & FIELD_MODE;
-    write_page(FELDRIME_PAGE_FILE - 1);
-    write_page(FELDRIME_PAGE_FILE + 1);
+    latching += numbers[22] & FIELD_MODE ? 1 : 0;
+    drawing += numbers[25];
+    write_page(count - 1);
+    write_page(count);
+    write_page(count + 1);
 
     feldrime_size size = size_of_page();
     size_t dots = (size_t)size.lines * size.dots;
@@ -467,19 +523,26 @@ int main(int count, char *arguments[])
 {
     unsigned different = 0;
 
-    if (count < 3) {
-        fputs("usage: helpers FONT PAGE..\n", stderr);
+    if (count < 4) {
+        fputs("usage: helpers FONT GROUPED_FONT PAGE..\n", stderr);
         return 2;
     }
-    read_all(read_font, load(arguments[1]));
-    for (int i = 2; i < count; i++)
+    sizes_by_version();
+    read_fonts(load(arguments[1]));
+    expect(group_count == 0, "the first font has groups");
+    size_t bytes = load(arguments[2]);
+    read_fonts(bytes);
+    expect(group_count == FELDRIME_GROUPS, "the second font has no groups");
+    spoil_groups(bytes);
+    for (int i = 3; i < count; i++)
         different += compare_page(load(arguments[i]));
     meanings();
     expect(feldrime_version() == FELDRIME_VERSION, "the header and the library have different versions");
     expect(different > 0, "no page blinks, so that fields were compared in vain");
-    expect(latching > 0 && latching < (unsigned)count - 2, "not both attribute modes were met");
-    expect(sheets > 0 && sheets < (unsigned)count - 2, "not both sheets and pages with a row table were met");
-    printf("helpers: %lu answers compared, %lu of them refused, %lu differ; %u looks of blinking pages; %u in field mode; %u sheets\n",
-           compared, refused, failed, different, latching, sheets);
+    expect(latching > 0 && latching < (unsigned)count - 3, "not both attribute modes were met");
+    expect(drawing > 0 && drawing < (unsigned)count - 3, "not both chips were met");
+    expect(sheets > 0 && sheets < (unsigned)count - 3, "not both sheets and pages with a row table were met");
+    printf("helpers: %lu answers compared, %lu of them refused, %lu differ; %u looks of blinking pages; %u in field mode; %u of chip B; %u sheets\n",
+           compared, refused, failed, different, latching, drawing, sheets);
     return failed == 0 ? 0 : 1;
 }

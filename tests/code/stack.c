@@ -37,7 +37,7 @@ struct lent {
     uint16_t cells[FELDRIME_CELLS];
     feldrime_phrase phrases[PHRASES];
     feldrime_board board;
-    size_t numbers, memory, words, file_count, out_count, cells_count, phrase_count, picture_count;
+    size_t numbers, memory, words, groups, file_count, out_count, cells_count, phrase_count, picture_count;
     uint32_t line, row, clock;
     uint8_t field, address, byte;
 };
@@ -48,6 +48,7 @@ static uint8_t picture[FELDRIME_PICTURE], expected_picture[FELDRIME_PICTURE];
 union answer {
     uint32_t version;
     feldrime_answer answer;
+    feldrime_font_answer font;
     feldrime_size size;
     feldrime_run run;
     feldrime_cells cells;
@@ -67,7 +68,7 @@ static union answer got, expected_answer;
 #define CHARS now.page.chars, now.memory
 #define ATTRS now.page.attrs, now.memory
 #define FONT now.font.words, now.words, now.font.flags, FELDRIME_FLAGS, now.font.unshifted, FELDRIME_LIST, \
-             now.font.shifted, FELDRIME_LIST
+             now.font.shifted, FELDRIME_LIST, now.font.groups, now.groups
 #define FILE_BYTES now.file, now.file_count
 #define OUT now.out, now.out_count
 #define CALL(name, part, ...) \
@@ -81,7 +82,7 @@ CALL(page_check, answer, NUMBERS)
 CALL(page_size, size, NUMBERS)
 CALL(page_read, answer, FILE_BYTES, NUMBERS, CHARS, ATTRS)
 CALL(page_write, answer, NUMBERS, CHARS, ATTRS, OUT)
-CALL(font_read, answer, FILE_BYTES, FONT)
+CALL(font_read, font, FILE_BYTES, FONT)
 CALL(picture_draw, answer, NUMBERS, CHARS, ATTRS, FONT, now.field, picture, now.picture_count)
 CALL(line_draw, answer, NUMBERS, CHARS, ATTRS, FONT, now.line, now.field, OUT)
 CALL(row_run, run, NUMBERS, CHARS, now.row)
@@ -152,6 +153,7 @@ static void clean_board(feldrime_board *board)
     clean.page.switches = board->page.switches;
     clean.page.video.dots = board->page.video.dots;
     clean.page.video.strike = board->page.video.strike;
+    clean.page.video.chip = board->page.video.chip;
     clean.place.field = board->place.field;
     clean.place.line = board->place.line;
     clean.place.clock = board->place.clock;
@@ -209,16 +211,17 @@ static void fill(void *bytes, size_t count)
         ((uint8_t *)bytes)[i] = (uint8_t)(throw() >> 24);
 }
 
-enum { SHEET, TABLE, CODES, KINDS, MODES = 4 };
+enum { SHEET, TABLE, CODES, KINDS, MODES = 5 };
 
-/* The numbers of a page; mode is version 1, version 2 in character mode, field mode with ACD off, and with ACD on. */
+/* The numbers of a page; mode is version 1, version 2 in character mode, field mode with ACD off, and with ACD on, and version 3
+   of chip B in field mode with ACD on. */
 static void make_numbers(int kind, int mode, int dots, int rows, int columns, int lines)
 {
-    static const uint8_t switches[MODES] = { 0x03, 0x0f, 0x17, 0x33 };
+    static const uint8_t versions[MODES] = { 1, 2, 2, 2, 3 }, switches[MODES] = { 0x03, 0x0f, 0x17, 0x33, 0x33 };
     uint8_t *numbers = made.page.numbers;
 
     memset(numbers, 0, FELDRIME_NUMBERS);
-    numbers[0] = mode == 0 ? 1 : 2;
+    numbers[0] = versions[mode];
     numbers[1] = (uint8_t)((kind == CODES ? 0x80 : 0) | (lines - 1) << 3);
     numbers[2] = 127; /* with HSYNC 32 a line of 384 clocks */
     numbers[3] = (uint8_t)((kind == SHEET ? 0 : 0x80) | 15 << 3 | 1);
@@ -237,6 +240,7 @@ static void make_numbers(int kind, int mode, int dots, int rows, int columns, in
     numbers[22] = switches[mode];
     numbers[23] = (uint8_t)dots;
     numbers[24] = 7;
+    numbers[25] = versions[mode] == 3;
 }
 
 static void make_movable(int which)
@@ -256,7 +260,7 @@ static void make_movable(int which)
 static const struct {
     uint8_t place, byte, refusal;
 } spoiled[] = {
-    { 0, 0, 3 }, { 16, 0x40, 12 }, { 24, 16, 12 }, { 2, 0xff, 4 }, { 3, 0xf8, 13 },
+    { 0, 0, 3 }, { 16, 0x40, 12 }, { 24, 16, 12 }, { 25, 2, 12 }, { 2, 0xff, 4 }, { 3, 0xf8, 13 },
     { 2, 60, 14 }, { 2, 81, 15 }, { 23, 5, 6 }, { 23, 13, 6 },
 };
 
@@ -265,7 +269,7 @@ enum {
     SMALL = LARGE + KINDS * MODES, /* those up to here are of one cell */
     MOVABLE = SMALL + 4,
     SPOILED = MOVABLE + sizeof spoiled / sizeof *spoiled,
-    INPUTS = SPOILED + 9 /* with a wrong count, record or place */
+    INPUTS = SPOILED + 11 /* with a wrong count, group, record or place */
 };
 
 static void make_page(int input)
@@ -279,7 +283,7 @@ static void make_page(int input)
     else if (input < MOVABLE)
         make_movable(input - SMALL);
     else
-        make_numbers(CODES, 3, 12, 128, 256, 16);
+        make_numbers(CODES, 4, 12, 128, 256, 16);
 }
 
 static void spoil_page(int which)
@@ -289,6 +293,7 @@ static void spoil_page(int which)
     made.board.page.starts.start1 = (uint16_t)(made.page.numbers[16] << 8);
     made.board.page.video.dots = made.page.numbers[23];
     made.board.page.video.strike = made.page.numbers[24];
+    made.board.page.video.chip = made.page.numbers[25];
     if (feldrime_page_check(made.page.numbers, FELDRIME_NUMBERS).refusal != spoiled[which].refusal)
         stop("a spoiled page is not refused as it should be");
 }
@@ -304,6 +309,8 @@ static void spoil_other(int which)
     case 5: made.cells_count--; break;
     case 6: made.picture_count = 11; break;
     case 7: made.phrases[PHRASES / 2].length = 0; break;
+    case 8: made.groups--; break;
+    case 9: made.font.groups[15] = made.file[FELDRIME_FONT_FILE - 1] = 5; break;
     default:
         made.file_count = 0;
         made.phrase_count = 0;
@@ -327,28 +334,42 @@ static void make_base(void)
     fill(&base.page, sizeof base.page);
     fill(&base.font, sizeof base.font);
     fill(base.file, sizeof base.file);
+    for (int i = 0; i < FELDRIME_GROUPS; i++)
+        base.font.groups[i] = (uint8_t)(i % 5);
     fill(base.out, sizeof base.out);
     make_list();
     base.numbers = FELDRIME_NUMBERS;
     base.memory = FELDRIME_MEMORY;
     base.words = FELDRIME_WORDS;
+    base.groups = FELDRIME_GROUPS;
     base.out_count = sizeof base.out;
     base.cells_count = FELDRIME_CELLS;
     base.phrase_count = PHRASES;
     base.picture_count = sizeof picture;
 }
 
-/* A page file or a font file. */
-static void make_file(bool font)
+/* A file of so many bytes begins with its version and how many bytes follow. */
+static void make_head(uint8_t version, size_t count)
 {
-    static const uint8_t heads[2][5] = { { 1, 0, 0, 0x80, 0x18 }, { 1, 0, 0, 0x09, 0x92 } };
+    made.file_count = count;
+    made.file[0] = version;
+    made.file[1] = made.file[2] = 0;
+    made.file[3] = (uint8_t)((count - 5) >> 8);
+    made.file[4] = (uint8_t)(count - 5);
+}
 
-    memcpy(made.file, heads[font], sizeof heads[font]);
-    made.file_count = font ? FELDRIME_FONT_FILE : FELDRIME_PAGE_FILE;
-    if (!font) {
-        made.file[0] = made.page.numbers[0];
-        memcpy(made.file + 5, made.page.numbers + 1, 24);
-    }
+static void make_page_file(void)
+{
+    uint8_t version = made.page.numbers[0];
+
+    make_head(version, feldrime_page_bytes(version == 0 ? 1 : version));
+    memcpy(made.file + 5, made.page.numbers + 1, version == 3 ? 25 : 24);
+}
+
+static void make_font_file(uint8_t version)
+{
+    make_head(version, feldrime_font_bytes(version));
+    memcpy(made.file + feldrime_font_bytes(1), made.font.groups, FELDRIME_GROUPS);
 }
 
 static void make(int input)
@@ -358,7 +379,10 @@ static void make(int input)
     made.board = feldrime_board_of(made.page.numbers, made.numbers).board;
     if (input >= MOVABLE && input < SPOILED)
         spoil_page(input - MOVABLE);
-    make_file(input % 2 == 1);
+    if (input % 2 == 0)
+        make_page_file();
+    else
+        make_font_file(input % 4 == 1 ? 2 : 1);
     if (input >= SPOILED)
         spoil_other(input - SPOILED);
 }

@@ -27,7 +27,7 @@ def there(page):
             moved = bytearray(page)
             moved[7] |= 128
             moved[24:26] = place.to_bytes(2, "big")
-            moved[29 + place:29 + place + size] = b"".join(cells[0].to_bytes(2, "little") for cells in found)
+            moved[pages.chars_of(page) + place:pages.chars_of(page) + place + size] = b"".join(cells[0].to_bytes(2, "little") for cells in found)
             return 0, f": a page of the catalogue, its row table in cells {place} to {place + size - 1}", bytes(moved)
     return 17, f": {len(found)} rows need {size} cells", None
 
@@ -52,7 +52,7 @@ def back(page):
 def full_sheet(count, columns, start):
     """A sheet whose buffer is all of memory, with so many rows."""
     irs = bytes([0, 127, 1, 0, count - 1, columns - 1, 0, 0, 0, 240]).ljust(15, b"\0")
-    head = bytes([1, 0, 0, 128, 24]) + irs + start.to_bytes(2, "big") + bytes(4) + bytes([1, 8, 5])
+    head = pages.head(1) + irs + start.to_bytes(2, "big") + bytes(4) + bytes([1, 8, 5])
     return head + bytes(2 * pages.MEMORY)
 
 
@@ -73,7 +73,7 @@ def following_page(dice):
         entries[dice.choice((0, -1, dice.randrange(len(entries))))] ^= 1 << dice.randrange(14)
     place = dice.choice((0, 16383, 16384 - len(entries), dice.randrange(pages.MEMORY)))
     for i, byte in enumerate(b"".join((entry | dice.randrange(4) << 14).to_bytes(2, "little") for entry in entries)):
-        page[29 + (place + i) % pages.MEMORY] = byte
+        page[pages.chars_of(page) + (place + i) % pages.MEMORY] = byte
     page[7] |= 128
     page[20:22] = dice.randrange(pages.MEMORY).to_bytes(2, "big")
     page[24:26] = place.to_bytes(2, "big")
@@ -117,7 +117,7 @@ def wrong_moves(command, name, page, folder, met):
     if moved:
         again = back(moved)
         todo.append(("sheet", moved, again))
-        table = int.from_bytes(moved[24:26], "big") + 29
+        table = int.from_bytes(moved[24:26], "big") + pages.chars_of(page)
         if again[0] or not differing(page, again[2]) <= {24, 25, *range(table, table + 2 * (page[9] & 127) + 2)}:
             print(f"moves: {name} does not come back")
             wrong += 1

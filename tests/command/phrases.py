@@ -96,10 +96,9 @@ def wrong_rows(command, page_name, list_name, records, lines):
 def untold(records, language, page):
     """What is to be told of the rows that no phrase of a language holds."""
     own = [record for record in records if record[0] == language]
-    for row, (_, _, cells) in enumerate(pages.walk(page)):
+    for row, ((_, _, cells), text) in enumerate(zip(pages.walk(page), pages.row_texts(page))):
         if not holding(own, cells):
             met.update(["only in another language"] * bool(holding(records, cells)))
-            text = pages.letters(page, cells).rstrip()
             yield f"row {row}, cells {cells[0]} to {cells[-1]}, is in no phrase of {language}: |{text}"
 
 

@@ -12,7 +12,7 @@ import sys
 import pages
 
 VOID = {"meta", "img", "input"}
-FONT = pages.SAMPLES / "deck.font"
+FONT = pages.SAMPLES / "graphics.font"
 wrong = []
 
 
@@ -110,9 +110,10 @@ def web_page(folder, name, command):
     same(f"{name}: language", reader.all("html")[0], {"lang": language})
     same(f"{name}: language of an unknown text", reader.all("div")[0].get("lang"), None if pages.language(name) else "")
     first, *others = reader.all("img")
-    same(f"{name}: the picture's text", first["alt"], pages.sample_text(name, f"[{pages.LABELS[language]}: ", "]"))
+    word = pages.GRAPHICS[language]
+    same(f"{name}: the picture's text", first["alt"], pages.sample_text(name, f"[{pages.LABELS[language]}: ", "]", word))
     same(f"{name}: alternatives of the same picture", {a["alt"] for a in others} - {""}, set())
-    same(f"{name}: the text", reader.text["pre"][0].removeprefix("\n"), pages.sample_text(name, "", ""))
+    same(f"{name}: the text", reader.text["pre"][0].removeprefix("\n"), pages.sample_text(name, "", "", word))
     same(f"{name}: size", [first["width"].encode(), first["height"].encode()], pgm_of(folder / f"{name}.png").split(None, 3)[1:3])
     fields = range(0, 256, 1 if name == "sheet" else 5)
     count = pictures(folder, pages.SAMPLES / f"{name}.page", reader.text["style"][0], command, fields)

@@ -1,6 +1,6 @@
 # Sourced by tests/feldrime: the web site, whole and with pages that cannot be shown; and what the scripts say where something is missing.
 site=$work/site
-ends 0 "$site/index.html" "${feldrime[@]}" site "$font" "$site" samples/*.page
+ends 0 "$site/index.html" "${feldrime[@]}" site "$grouped" "$site" samples/*.page
 python3 tests/command/site.py "$site" "${runner[@]}" "$example" || failed=1
 # a page whose cells blink over 128 fields, by IR4[7] in byte 9, and its cursor over 64, by IR7[4] in byte 12: no sample does
 cp samples/sheet.page "$work/slow.page"
@@ -34,6 +34,21 @@ ends 0 "$site/tops.html" "${feldrime[@]}" site "$font" "$site" "$work"/halves/*.
 told 3 tops " AVALANCHE WARNING"
 told 1 beside " AVALANCHE WARNING"
 told 2 beside "AVALANCHE WARNING"
+
+# graphics are told in the page's language, and not if the font has no groups; of a line with letters and graphics the letters are the title
+mkdir "$work/drawn"
+cp "$drawing" "$work/drawn/bericht-de.page"
+# screen start 1 at cell 176, behind the graphics of row 3 and before those of row 4; and at cell 96, where a row has graphics alone
+{ head -c 20 "$drawing"; printf '\0\xb0'; tail -c +23 "$drawing"; } > "$work/drawn/before.page"
+{ head -c 20 "$drawing"; printf '\0\x60'; tail -c +23 "$drawing"; } > "$work/drawn/alone.page"
+ends 0 "$site/before.html" "${feldrime[@]}" site "$grouped" "$site" "$work"/drawn/*.page
+told 2 bericht-de "   [Grafik]                     Below 2200 m"
+shows before.html "Above 2200 m                [graphics]"
+shows before.html "<title>Above 2200 m</title>"
+shows alone.html "<title>Above 2200 m</title>"
+ends 0 "$site/alone.html" "${feldrime[@]}" site "$font" "$site" "$work"/drawn/*.page
+told 2 bericht-de "                                Below 2200 m"
+! grep -q "Grafik" "$site/bericht-de.html" || say "graphics that are not shown are told"
 
 # pages that are refused, two of one name, and names that a web page could not carry
 mkdir "$work/pages" "$work/more"

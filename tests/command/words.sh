@@ -65,13 +65,16 @@ levels() {  # levels FILE: a PNG file as the C example writes it
 
 for sample in samples/*.page; do
     for field in 0 16 047 48 255; do
-        ends 0 "$work/a.png: " "${feldrime[@]}" draw "$sample" "$font" "$work/a.png" "$field"
-        cmp -s <(levels "$work/a.png") <("${runner[@]}" "$example" "$sample" "$font" "$field") || say "$sample in field $field is not what the example draws"
+        ends 0 "$work/a.png: " "${feldrime[@]}" draw "$sample" "$grouped" "$work/a.png" "$field"
+        cmp -s <(levels "$work/a.png") <("${runner[@]}" "$example" "$sample" "$grouped" "$field") || say "$sample in field $field is not what the example draws"
     done
     ends 0 "$work/b.png: " "${feldrime[@]}" draw "$sample" "$font" "$work/b.png"
     cmp -s <(levels "$work/b.png") <("${runner[@]}" "$example" "$sample" "$font" 0) || say "$sample is not drawn in field 0"
 done
 ! cmp -s <("${runner[@]}" "$example" "$page" "$font" 0) <("${runner[@]}" "$example" "$page" "$font" 16) || say "fields 0 and 16 look alike, and nothing was tried"
+
+! cmp -s <("${runner[@]}" "$example" "$drawing" "$font" 0) <("${runner[@]}" "$example" "$drawing" "$grouped" 0) || say "a font with groups draws no graphics"
+cmp -s <("${runner[@]}" "$example" "$page" "$font" 0) <("${runner[@]}" "$example" "$page" "$grouped" 0) || say "a font with groups draws other letters"
 
 python3 tests/command/rows.py "${feldrime[@]}" || failed=1
 
@@ -82,6 +85,19 @@ ends 0 "warning.page: a page of 23 rows and 64 columns, 576 x 322 dots, field mo
 { head -c 26 "$latching"; printf '\1'; tail -c +28 "$latching"; } > "$work/character.page"
 ends 0 "character.page: a page of 23 rows and 64 columns, 576 x 322 dots" "${feldrime[@]}" check "$work/character.page"
 [[ $said != *"field mode"* ]] || say "a page of version 2 in character mode is reported as one in field mode"
+[[ $said != *"chip B"* ]] || say "a page of version 2 is reported as one of chip B"
+ends 0 "profile.page: a page of 20 rows and 48 columns, 480 x 240 dots, chip B" "${feldrime[@]}" check "$drawing"
+# its chip, in byte 29, as A, and as one that no page has; its switch 4 on, in byte 26
+{ head -c 29 "$drawing"; printf '\0'; tail -c +31 "$drawing"; } > "$work/struck.page"
+ends 0 "struck.page: a page of 20 rows and 48 columns, 480 x 240 dots" "${feldrime[@]}" check "$work/struck.page"
+[[ $said != *"chip B"* ]] || say "a page of version 3 of chip A is reported as one of chip B"
+{ head -c 29 "$drawing"; printf '\2'; tail -c +31 "$drawing"; } > "$work/chip.page"
+{ head -c 26 "$drawing"; printf '\x11'; tail -c +28 "$drawing"; } > "$work/running.page"
+ends 0 "running.page: a page of 20 rows and 48 columns, 480 x 240 dots, field mode, chip B" "${feldrime[@]}" check "$work/running.page"
+for word in check rows; do
+    ends 1 "chip.page: refused 12, " "${feldrime[@]}" "$word" "$work/chip.page"
+    [[ $said == *"in version 3 the chip is above 1, or a group of the font is above 4" ]] || say "12 is cut: $said"
+done
 ends 0 "headline.page: a page of 12 rows and 48 columns, 432 x 168 dots" "${feldrime[@]}" check samples/headline.page
 # every row of double width: the high bytes of its entries, in every other cell from 8193 on, become 40 hex
 cp samples/headline.page "$work/wide.page"
@@ -99,11 +115,19 @@ while read -r place bytes; do
 done <<< '5 \xe8\x11\x1a
 6 \x91'
 ends 0 "deck.font: a font" "${feldrime[@]}" check "$page" "$font"
+[[ $said != *"graphics"* ]] || say "a font without groups is reported as one with graphics"
+ends 0 "graphics.font: a font with graphics" "${feldrime[@]}" check "$page" "$grouped"
+{ head -c 2470 "$grouped"; printf '\5'; } > "$work/group.font"
+ends 1 "group.font: refused 12, " "${feldrime[@]}" check "$page" "$work/group.font"
 head -c 100 "$font" > "$work/short.font"
 ends 1 "short.font: refused 2, " "${feldrime[@]}" check "$page" "$work/short.font"
 [[ $said == *"fr.page: a page"* ]] || say "a good page is not reported with a bad font"
 ends 1 "refused 2, the length" "${feldrime[@]}" check "$font" "$page"
 [[ $said == *"(it is as long as a font)"*"(it is as long as a page)"* ]] || say "a page and a font that changed places are not recognized: $said"
+ends 1 "refused 2, the length" "${feldrime[@]}" check "$grouped" "$drawing"
+[[ $said == *"(it is as long as a font)"*"refused 1, "*"(it is as long as a page)"* ]] || say "a page of version 3 and a font of version 2 that changed places are not recognized: $said"
+ends 1 "refused 1, " "${feldrime[@]}" check /dev/null /dev/null
+[[ $said != *"as long as"* ]] || say "an empty file is taken for another kind: $said"
 # its byte 7 is IR2, without a back porch 98 hex; its byte 10 is IR5: 52 to 54 cells leave a front porch of 1, 0 and -1
 while read -r number place byte missing; do
     cp "$page" "$work/porch.page"

@@ -10,12 +10,18 @@
 #define ATTRS const uint8_t *attrs, size_t attrs_count
 #define FONT                                                                                                           \
     const uint16_t *words, size_t words_count, const uint8_t *flags, size_t flags_count, const uint8_t *unshifted,     \
-        size_t unshifted_count, const uint8_t *shifted, size_t shifted_count
+        size_t unshifted_count, const uint8_t *shifted, size_t shifted_count, const uint8_t *groups,                   \
+        size_t groups_count
+#define PARTS                                                                                                          \
+    const uint8_t *file, size_t file_count, uint16_t *words, size_t words_count, uint8_t *flags, size_t flags_count,   \
+        uint8_t *unshifted, size_t unshifted_count, uint8_t *shifted, size_t shifted_count, uint8_t *groups,           \
+        size_t groups_count
 #define OUT uint8_t *out, size_t out_count
 #define N numbers, numbers_count
 #define C chars, chars_count
 #define A attrs, attrs_count
-#define F words, words_count, flags, flags_count, unshifted, unshifted_count, shifted, shifted_count
+#define SHAPES words, words_count, flags, flags_count, unshifted, unshifted_count, shifted, shifted_count
+#define F SHAPES, groups, groups_count
 #define O out, out_count
 #define WRONG(result, call, parameters)                                                                                \
     result __real_##call parameters;                                                                                   \
@@ -32,7 +38,7 @@ WRONG(feldrime_answer, feldrime_page_check, (NUMBERS))
 }
 #endif
 
-/* any_version, feldrime_page_check: version 3 is taken for version 2 */
+/* any_version, feldrime_page_check: version 4 is taken for version 3 */
 #ifdef any_version
 WRONG(feldrime_answer, feldrime_page_check, (NUMBERS))
 {
@@ -40,7 +46,20 @@ WRONG(feldrime_answer, feldrime_page_check, (NUMBERS))
     if (numbers_count != sizeof copy)
         return __real_feldrime_page_check(N);
     memcpy(copy, numbers, sizeof copy);
-    copy[0] = copy[0] == 3 ? 2 : copy[0];
+    copy[0] = copy[0] == 4 ? 3 : copy[0];
+    return __real_feldrime_page_check(copy, sizeof copy);
+}
+#endif
+
+/* any_chip, feldrime_page_check: a chip above 1 is taken for B */
+#ifdef any_chip
+WRONG(feldrime_answer, feldrime_page_check, (NUMBERS))
+{
+    uint8_t copy[FELDRIME_NUMBERS];
+    if (numbers_count != sizeof copy)
+        return __real_feldrime_page_check(N);
+    memcpy(copy, numbers, sizeof copy);
+    copy[25] = copy[25] > 1 ? 1 : copy[25];
     return __real_feldrime_page_check(copy, sizeof copy);
 }
 #endif
@@ -89,35 +108,75 @@ WRONG(feldrime_answer, feldrime_page_read, (const uint8_t *file, size_t file_cou
 }
 #endif
 
+/* chip_lost, feldrime_page_read: a page of chip B is read as one of chip A */
+#ifdef chip_lost
+WRONG(feldrime_answer, feldrime_page_read, (const uint8_t *file, size_t file_count, uint8_t *numbers,
+    size_t numbers_count, uint8_t *chars, size_t chars_count, uint8_t *attrs, size_t attrs_count))
+{
+    feldrime_answer answer = __real_feldrime_page_read(file, file_count, N, C, A);
+    if (answer.refusal == 0)
+        numbers[25] = 0;
+    return answer;
+}
+#endif
+
+/* room_for_version_3, feldrime_page_write: a page of version 1 or 2 is refused where one of version 3 has no room */
+#ifdef room_for_version_3
+WRONG(feldrime_answer, feldrime_page_write, (NUMBERS, CHARS, ATTRS, OUT))
+{
+    if (out_count == FELDRIME_PAGE_FILE - 1)
+        return (feldrime_answer){3, 0};
+    return __real_feldrime_page_write(N, C, A, O);
+}
+#endif
+
 /* cleared_beyond, feldrime_page_write: a byte beyond the file is cleared */
 #ifdef cleared_beyond
 WRONG(feldrime_answer, feldrime_page_write, (NUMBERS, CHARS, ATTRS, OUT))
 {
     feldrime_answer answer = __real_feldrime_page_write(N, C, A, O);
-    if (answer.refusal == 0 && out_count > FELDRIME_PAGE_FILE)
-        out[FELDRIME_PAGE_FILE] = 0;
+    if (answer.refusal == 0 && out_count > feldrime_page_bytes(numbers[0]))
+        out[feldrime_page_bytes(numbers[0])] = 0;
     return answer;
 }
 #endif
 
 /* one_byte_more, feldrime_font_read: a font file with a byte behind it is taken */
 #ifdef one_byte_more
-WRONG(feldrime_answer, feldrime_font_read, (const uint8_t *file, size_t file_count, uint16_t *words, size_t words_count,
-    uint8_t *flags, size_t flags_count, uint8_t *unshifted, size_t unshifted_count, uint8_t *shifted,
-    size_t shifted_count))
+WRONG(feldrime_font_answer, feldrime_font_read, (PARTS))
 {
-    return __real_feldrime_font_read(file, file_count == FELDRIME_FONT_FILE + 1 ? file_count - 1 : file_count, F);
+    size_t size = file_count == 0 ? 0 : feldrime_font_bytes(file[0]);
+    return __real_feldrime_font_read(file, size != 0 && file_count == size + 1 ? size : file_count, F);
+}
+#endif
+
+/* groups_cleared, feldrime_font_read: a font of version 1 clears the groups that it was lent */
+#ifdef groups_cleared
+WRONG(feldrime_font_answer, feldrime_font_read, (PARTS))
+{
+    feldrime_font_answer answer = __real_feldrime_font_read(file, file_count, F);
+    if (answer.refusal == 0 && answer.groups == 0 && groups_count != 0)
+        memset(groups, 0, groups_count);
+    return answer;
+}
+#endif
+
+/* groups_not_counted, feldrime_font_read: the answer has no groups */
+#ifdef groups_not_counted
+WRONG(feldrime_font_answer, feldrime_font_read, (PARTS))
+{
+    feldrime_font_answer answer = __real_feldrime_font_read(file, file_count, F);
+    answer.groups = 0;
+    return answer;
 }
 #endif
 
 /* lists_swapped, feldrime_font_read: each list of lines is read into the other */
 #ifdef lists_swapped
-WRONG(feldrime_answer, feldrime_font_read, (const uint8_t *file, size_t file_count, uint16_t *words, size_t words_count,
-    uint8_t *flags, size_t flags_count, uint8_t *unshifted, size_t unshifted_count, uint8_t *shifted,
-    size_t shifted_count))
+WRONG(feldrime_font_answer, feldrime_font_read, (PARTS))
 {
     return __real_feldrime_font_read(file, file_count, words, words_count, flags, flags_count, shifted, shifted_count,
-                                     unshifted, unshifted_count);
+                                     unshifted, unshifted_count, groups, groups_count);
 }
 #endif
 
@@ -158,6 +217,41 @@ WRONG(feldrime_answer, feldrime_line_draw, (NUMBERS, CHARS, ATTRS, FONT, uint32_
     if (answer.refusal != 0 && out_count == 0)
         answer.refusal = 8, answer.beside = 0;
     return answer;
+}
+#endif
+
+/* groups_not_lent, feldrime_line_draw: a line is drawn by a font without groups */
+#ifdef groups_not_lent
+WRONG(feldrime_answer, feldrime_line_draw, (NUMBERS, CHARS, ATTRS, FONT, uint32_t line, uint8_t field, OUT))
+{
+    feldrime_answer answer = __real_feldrime_line_draw(N, C, A, F, line, field, O);
+    return answer.refusal != 0 ? answer : __real_feldrime_line_draw(N, C, A, SHAPES, NULL, 0, line, field, O);
+}
+#endif
+
+/* any_group, feldrime_picture_draw: a group above 4 is taken for none */
+#ifdef any_group
+WRONG(feldrime_answer, feldrime_picture_draw, (NUMBERS, CHARS, ATTRS, FONT, uint8_t field, OUT))
+{
+    uint8_t copy[FELDRIME_GROUPS];
+    if (groups_count != sizeof copy)
+        return __real_feldrime_picture_draw(N, C, A, F, field, O);
+    for (size_t i = 0; i < sizeof copy; i++)
+        copy[i] = groups[i] > 4 ? 0 : groups[i];
+    return __real_feldrime_picture_draw(N, C, A, SHAPES, copy, sizeof copy, field, O);
+}
+#endif
+
+/* groups_turned_round, feldrime_picture_draw: scan line 0 has the group of scan line 15 */
+#ifdef groups_turned_round
+WRONG(feldrime_answer, feldrime_picture_draw, (NUMBERS, CHARS, ATTRS, FONT, uint8_t field, OUT))
+{
+    uint8_t copy[FELDRIME_GROUPS];
+    if (groups_count != sizeof copy)
+        return __real_feldrime_picture_draw(N, C, A, F, field, O);
+    for (size_t i = 0; i < sizeof copy; i++)
+        copy[i] = groups[sizeof copy - 1 - i];
+    return __real_feldrime_picture_draw(N, C, A, SHAPES, copy, sizeof copy, field, O);
 }
 #endif
 
@@ -306,7 +400,7 @@ WRONG(feldrime_answer, feldrime_to_sheet, (uint8_t *numbers, size_t numbers_coun
 {
     feldrime_answer answer = __real_feldrime_to_sheet(N, C);
     if (answer.refusal == 0)
-        memset(numbers + 25, 0, 7);
+        memset(numbers + 26, 0, 6);
     return answer;
 }
 #endif
@@ -408,6 +502,18 @@ WRONG(feldrime_board_answer, feldrime_set_video, (feldrime_board board, uint8_t 
     feldrime_board_answer answer = __real_feldrime_set_video(board, dots, strike, bkgnd, rblank);
     if (answer.refusal == 0)
         answer.board.page.switches &= 0x0F;
+    return answer;
+}
+#endif
+
+/* chip_cleared, feldrime_set_video: a board that is not of version 3 loses its chip byte */
+#ifdef chip_cleared
+WRONG(feldrime_board_answer, feldrime_set_video, (feldrime_board board, uint8_t dots, uint8_t strike, uint8_t bkgnd,
+    uint8_t rblank))
+{
+    feldrime_board_answer answer = __real_feldrime_set_video(board, dots, strike, bkgnd, rblank);
+    if (answer.refusal == 0 && answer.board.page.version != 3)
+        answer.board.page.video.chip = 0;
     return answer;
 }
 #endif

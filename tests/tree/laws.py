@@ -3,7 +3,7 @@ and its law are one text but for the names of parameters. Used by tests/names an
 import re
 from pathlib import Path
 
-FONT = 'words flags unshifted shifted'
+FONT = 'words flags unshifted shifted groups'
 
 
 def plain(text, names):  # a fact with _ for each parameter, whatever of it is named

@@ -11,7 +11,7 @@ SECTIONS = {  # the first word of a tag, and the heading that it stands for
     'strength': '01, "How strong each guarantee must be"', 'more': 'Calls that 01 does not name',
     'R-1': '02, R-1: attributes that run on', 'R-2': '02, R-2: which porch', 'R-3': '02, R-3: the level rule',
     'R-4': '02, R-4: headlines of double size', 'R-5': '02, R-5: from sheets to the catalogue, and back',
-    'R-6': '02, R-6: an index of phrases',
+    'R-6': '02, R-6: an index of phrases', 'R-7': "02, R-7: the B chip's graphics",
 }
 TAG = re.compile(r'\[((?:' + '|'.join(SECTIONS) + r') [\w. -]+)\]')
 FUNCTION = re.compile(r'^( *)(pub )?(?:extern "C" )?fn (\w+)(.*?)(?:^\1| )\{\n(.*?)^\1\}', re.M | re.S)

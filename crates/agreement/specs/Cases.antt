@@ -27,7 +27,7 @@ page ec hact first last start1 bkgnd = record {
       72 ∷ (ec - 1) ∷ 26 ∷ 8 ∷ 23 ∷ (hact - 1) ∷ 0 ∷ 0 ∷ (first % 256) ∷ (16 * (last / 1024) + first / 256) ∷ 0 ∷ 0 ∷ 0 ∷ 0 ∷ 0 ∷ [];
   starts = record { start1 = start1; cursor = 0; start2 = 0 };
   switches = 1 + 4 * bkgnd;
-  video = record { dots = record { 0 = 8 }; strike = 0 };
+  video = record { dots = record { 0 = 8 }; strike = 0; chip = 0 };
 }
 
 pub data Fact : Type 0 where

@@ -33,7 +33,7 @@ use Rattle.board.specs.Parts.{withIrs, withStarts, withPage}
 use Rattle.catalogue.specs.ToTable.{fetchesCell, tableSize, tablePlaces, unfetchedAt, tablePlace, tableByte, asTablePage, asTableChars, ownCheck, asTableCheck, movedTo, asTable, asTableLeft}
 use Rattle.catalogue.specs.ToSheet.{followsRow, rowsApart, asSheetPage, asSheetCheck, asSheet}
 use Rattle.catalogue.specs.Marks.{Movable, Returnable, as-table-passed, as-sheet-passed}
-use Rattle.alike.specs.Pages.{Same, same-coded, same-buffer, same-hact, same-rows, same-accepted, same-state}
+use Rattle.alike.specs.Pages.{Same, same-coded, same-buffer, same-hact, same-rows, same-accepted, video-passed, same-state}
 use Rattle.alike.specs.Views.{viewOf, Alike}
 use Rattle.alike.specs.Shown.{Shows, shows-on, alike-shows}
 use Rattle.agreement.specs.Rows.{nthCell, cell-in}
@@ -45,9 +45,12 @@ changed p irs s t = withStarts (withIrs p irs) (record { start1 = s; cursor = p 
 -- as `alike` has it, if of the registers IR2 alone is another and keeps its seven low bits
 kept-page : (p : Page) (x s t : ℕ) → 2 < length (p .irs) → x % 128 ≡ ir p 2 % 128 → Same p (changed p (set (p .irs) 2 x) s t)
 kept-page p x s t registers low = record {
-  version = refl;
+  modes = refl;
+  chip = refl;
+  irs = refl;
   switches = refl;
-  video = refl;
+  dots = refl;
+  strike = refl;
   cursor = refl;
   others = λ n other. sym (getD-set-other (p .irs) 2 n x 0 (eqb-false n 2 other));
   low = sym (ap (λ (k : ℕ). k % 128) (getD-set-same (p .irs) 2 x 0 registers) ∙ low);
@@ -194,7 +197,7 @@ module _ (b : Board) (chars : List ℕ) (m : Movable b chars) (registers : 2 < l
   -- the moved page is accepted
   pub as-table-accepted : pageCheck (asTablePage p place) ≡ Done
   unfolding asTablePage
-  as-table-accepted = same-accepted same-page page-ok (m .page .start1) (omega (arith, m .found)) (rw plain)
+  as-table-accepted = same-accepted same-page page-ok (m .page .start1) (omega (arith, m .found)) (video-passed p page-ok) (rw plain)
 
   chars-whole : length chars′ ≡ length chars
   unfolding asTableChars
@@ -325,7 +328,7 @@ module _ (b : Board) (chars : List ℕ) (m : Returnable b chars) (registers : 2 
 
   pub as-sheet-accepted : pageCheck (asSheetPage (b .page) chars) ≡ Done
   unfolding asSheetPage
-  as-sheet-accepted = same-accepted sheet-same sheet-page-ok (omega (arith, entry-lt (b .page) chars 0)) (m .page .start2) (rw sheet-plain)
+  as-sheet-accepted = same-accepted sheet-same sheet-page-ok (omega (arith, entry-lt (b .page) chars 0)) (m .page .start2) (video-passed (b .page) sheet-page-ok) (rw sheet-plain)
 
   -- so it shows the same
   pub as-sheet-shown : ShowsSame b chars (withPage b (asSheetPage (b .page) chars)) chars

@@ -3,19 +3,21 @@
 --     sheet-again, cells-again                 there and back only screen start 2 and the table's cells differ
 --     table-refused, sheet-refused             a refusal leaves numbers and memory
 --     table-same, sheet-same                   so pictures and steps are the same, refused or not
-use Prim.Native.Nat.{ℕ, _+_, _/_, _%_, _≤_, _<_}
+use Prim.Native.Nat.{ℕ, _+_, _-_, _/_, _%_, _≤_, _<_}
 use mathlib.Core.Path.{_≡_, refl, sym, ap, ap₂, _∙_}
 use mathlib.Core.Bool.{Bool, true, false}
 use mathlib.Core.List.{List, [], _∷_, _++_, append-assoc}
 use native.Mathlib.Nat.{zero-add, suc-add}
 use native.Mathlib.Omega.{arith}
 use lib.ListN.{length, getD, set, take, drop, length-set}
-use lib.Seq.{length-take-le, drop-cons}
+use lib.Dec.{eqb}
+use lib.Seq.{take-add, length-take-le, drop-cons}
 use Rattle.lists.specs.Choice.{pick}
 use Rattle.refusal.specs.declared.Refusal.{Refusal}
 use Rattle.refusal.specs.declared.Refusal.the-variants.{Done, Size}
 use Rattle.refusal.specs.Number.{numberOf, besideOf, doneOf, wrongSize}
 use Rattle.refusal.specs.Laws.{done-is, passed}
+use Rattle.board.specs.declared.Video.{Video}
 use Rattle.board.specs.declared.Page.{Page}
 use Rattle.board.specs.declared.Board.{Board}
 use Rattle.board.specs.State.{boardOf}
@@ -51,16 +53,16 @@ use Rattle.agreement.specs.FromC.{stepC, fit-from-c, begins-from-c, step
 pub record SameC (numbers chars numbers′ chars′ : List ℕ) : Type 0 where
   pub answered : (attrs : List ℕ) (f : Font) (room : ℕ) → pictureDrawCheck numbers chars attrs f room ≡ pictureDrawCheck numbers′ chars′ attrs f room
   pub pictured : (attrs : List ℕ) (f : Font) (field : ℕ) (out : List ℕ) → pictureDrawn numbers chars attrs f field out ≡ pictureDrawn numbers′ chars′ attrs f field out
-  pub stepped : (attrs words flags unshifted shifted : List ℕ) (k : ℕ) → stepC numbers chars attrs words flags unshifted shifted k ≡ stepC numbers′ chars′ attrs words flags unshifted shifted k
+  pub stepped : (attrs words flags unshifted shifted groups : List ℕ) (k : ℕ) → stepC numbers chars attrs words flags unshifted shifted groups k ≡ stepC numbers′ chars′ attrs words flags unshifted shifted groups k
 
 itself : (numbers chars : List ℕ) → SameC numbers chars numbers chars
-itself numbers chars = record { answered = λ attrs f room. refl; pictured = λ attrs f field out. refl; stepped = λ attrs words flags unshifted shifted k. refl }
+itself numbers chars = record { answered = λ attrs f room. refl; pictured = λ attrs f field out. refl; stepped = λ attrs words flags unshifted shifted groups k. refl }
 
 pub same-on : {n m o x y z : List ℕ} → SameC n x m y → SameC m y o z → SameC n x o z
 same-on s t = record {
   answered = λ attrs f room. s .answered attrs f room ∙ t .answered attrs f room;
   pictured = λ attrs f field out. s .pictured attrs f field out ∙ t .pictured attrs f field out;
-  stepped = λ attrs words flags unshifted shifted k. s .stepped attrs words flags unshifted shifted k ∙ t .stepped attrs words flags unshifted shifted k;
+  stepped = λ attrs words flags unshifted shifted groups k. s .stepped attrs words flags unshifted shifted groups k ∙ t .stepped attrs words flags unshifted shifted groups k;
 }
 
 -- and those others are accepted
@@ -94,28 +96,28 @@ module _ (numbers chars numbers′ chars′ : List ℕ) (ok : numbersCheck numbe
   ok′ = rw fine (s [] .accepted)
 
   -- with memories and font parts of the right sizes
-  sized-same : (attrs words flags unshifted shifted : List ℕ) → lentCheck chars attrs (fontOf words flags unshifted shifted) ≡ Done
-      → (k : ℕ) → stepC numbers chars attrs words flags unshifted shifted k ≡ stepC numbers′ chars′ attrs words flags unshifted shifted k
-  sized-same attrs words flags unshifted shifted sized k =
-      let f = fontOf words flags unshifted shifted in
-      let fit = fit-from-c numbers chars attrs words flags unshifted shifted ok sized in
+  sized-same : (attrs words flags unshifted shifted groups : List ℕ) → lentCheck chars attrs (fontOf words flags unshifted shifted groups) ≡ Done
+      → (k : ℕ) → stepC numbers chars attrs words flags unshifted shifted groups k ≡ stepC numbers′ chars′ attrs words flags unshifted shifted groups k
+  sized-same attrs words flags unshifted shifted groups sized k =
+      let f = fontOf words flags unshifted shifted groups in
+      let fit = fit-from-c numbers chars attrs words flags unshifted shifted groups ok sized in
       let both = s attrs .stepped f fit in
-      let begun = begins-from-c numbers chars attrs words flags unshifted shifted ok sized in
-      let begun′ = begins-from-c numbers′ chars′ attrs words flags unshifted shifted ok′ (sym (s attrs .lent f) ∙ sized) in
+      let begun = begins-from-c numbers chars attrs words flags unshifted shifted groups ok sized in
+      let begun′ = begins-from-c numbers′ chars′ attrs words flags unshifted shifted groups ok′ (sym (s attrs .lent f) ∙ sized) in
       let refused = step-answers (numbersBoard numbers) chars attrs f fit k ∙ sym (step-answers (numbersBoard numbers′) chars′ attrs f (both .0) k) in
       let shown = both .1 k in
-      rw (steps-from-c numbers chars attrs words flags unshifted shifted (begun .0) (begun .1) k, steps-from-c numbers′ chars′ attrs words flags unshifted shifted (begun′ .0) (begun′ .1) k)
+      rw (steps-from-c numbers chars attrs words flags unshifted shifted groups (begun .0) (begun .1) k, steps-from-c numbers′ chars′ attrs words flags unshifted shifted groups (begun′ .0) (begun′ .1) k)
       (same-numbered _ _ refused (shown .signals) (shown .address) (shown .dots))
 
-  step-same : (attrs words flags unshifted shifted : List ℕ) (k : ℕ) → stepC numbers chars attrs words flags unshifted shifted k ≡ stepC numbers′ chars′ attrs words flags unshifted shifted k
-  step-same attrs words flags unshifted shifted k = go (doneOf (lentCheck chars attrs f)) refl
+  step-same : (attrs words flags unshifted shifted groups : List ℕ) (k : ℕ) → stepC numbers chars attrs words flags unshifted shifted groups k ≡ stepC numbers′ chars′ attrs words flags unshifted shifted groups k
+  step-same attrs words flags unshifted shifted groups k = go (doneOf (lentCheck chars attrs f)) refl
     where
       f : Font
-      f = fontOf words flags unshifted shifted
+      f = fontOf words flags unshifted shifted groups
 
-      go : (t : Bool) → doneOf (lentCheck chars attrs f) ≡ t → stepC numbers chars attrs words flags unshifted shifted k ≡ stepC numbers′ chars′ attrs words flags unshifted shifted k
+      go : (t : Bool) → doneOf (lentCheck chars attrs f) ≡ t → stepC numbers chars attrs words flags unshifted shifted groups k ≡ stepC numbers′ chars′ attrs words flags unshifted shifted groups k
       go false e = lent-alone _ _ chars chars′ attrs f e (s attrs .lent f)
-      go true e = sized-same attrs words flags unshifted shifted (done-is _ e) k
+      go true e = sized-same attrs words flags unshifted shifted groups (done-is _ e) k
 
   shows-from-c : ShowsC numbers chars numbers′ chars′
   unfolding pictureDrawCheck pictureDrawn
@@ -155,12 +157,17 @@ sheet-refused numbers chars = go (numbersRefused numbers) (asSheet (numbersBoard
 
 -- a move that is done, of the board that numbers describe
 module _ (numbers : List ℕ) (fine : numbersRefused numbers ≡ false) (m : Moved) (done : m .refusal ≡ Done) (q : Page) (moved : m .board ≡ boardOf q) (n : length (q .irs) ≡ 15)
-    (version : q .version ≡ getD numbers 0 0) where
+    (version : q .version ≡ getD numbers 0 0) (video : q .video ≡ pageAt numbers 1 .video) where
   numbers-are : movedNumbers m numbers ≡ pageIn q numbers
   numbers-are = rw done (ap (λ (x : Board). pageIn (x .page) numbers) moved)
 
+  -- numbers have a chip in version 3 alone
+  no-chip : eqb (q .version) 3 ≡ false → q .video .chip ≡ 0
+  unfolding pageAt
+  no-chip e = ap (λ (x : Video). x .chip) video ∙ rw (rw version at e)
+
   board-is : numbersBoard (movedNumbers m numbers) ≡ m .board
-  board-is = ap numbersBoard numbers-are ∙ ap boardOf (put-page numbers fine q n version) ∙ sym moved
+  board-is = ap numbersBoard numbers-are ∙ ap boardOf (put-page numbers fine q n version no-chip) ∙ sym moved
 
   moved-fine : numbersRefused (movedNumbers m numbers) ≡ false
   moved-fine = rw numbers-are (put-fine numbers fine q n)
@@ -212,12 +219,25 @@ module _ (numbers : List ℕ) (fits : Bytes numbers) (fine : numbersRefused numb
   irs-long : length irs ≡ layoutOf v .irs
   irs-long = length-take-le (layoutOf v .irs) (own .irs) (omega (arith, irs-all numbers fine, layout-fits v .irs-most))
 
+  -- what stands behind the IRs begins with the three addresses
+  six-first : (p : Page) → take (layoutOf v .rest) (tailOf p)
+      ≡ (p .starts .start1 / 256) ∷ (p .starts .start1 % 256) ∷ (p .starts .cursor / 256) ∷ (p .starts .cursor % 256) ∷ (p .starts .start2 / 256) ∷ (p .starts .start2 % 256)
+      ∷ take (layoutOf v .rest - 6) (p .switches ∷ p .video .dots .0 ∷ p .video .strike ∷ p .video .chip ∷ [])
+  unfolding tailOf
+  six-first p =
+      let more : layoutOf v .rest ≡ 6 + (layoutOf v .rest - 6) = omega (arith, layout-fits v .rest-some) in
+      ap (λ (k : ℕ). take k (tailOf p)) more ∙ take-add 6 (layoutOf v .rest - 6) (tailOf p)
+
   start-put : pageIn (changed own (own .irs) (own .starts .start1) x) numbers ≡ withStart2 numbers x
-  unfolding tailOf pageAt
+  unfolding pageAt
   start-put =
-      ap (λ (l : List ℕ). versionOf own ∷ l) (append-assoc irs _ (drop (counted v) numbers))
-      ∙ sym (start-set irs (layoutOf v .irs) irs-long (versionOf own) _ _ _ _ _ _ (x / 256) (x % 256) _)
-      ∙ ap (λ (l : List ℕ). set (set (versionOf own ∷ l) (irsIn numbers + 5) (x / 256)) (irsIn numbers + 6) (x % 256)) (sym (append-assoc irs _ (drop (counted v) numbers)))
+      let other = changed own (own .irs) (own .starts .start1) x in
+      let rest = drop (counted v) numbers in
+      ap (λ (l : List ℕ). versionOf own ∷ l) (append-assoc irs (take (layoutOf v .rest) (tailOf other)) rest)
+      ∙ ap (λ (l : List ℕ). versionOf own ∷ (irs ++ (l ++ rest))) (six-first other)
+      ∙ sym (start-set irs (layoutOf v .irs) irs-long (versionOf own) _ _ _ _ (own .starts .start2 / 256) (own .starts .start2 % 256) (x / 256) (x % 256) _)
+      ∙ ap (λ (l : List ℕ). set (set (versionOf own ∷ (irs ++ (l ++ rest))) (irsIn numbers + 5) (x / 256)) (irsIn numbers + 6) (x % 256)) (sym (six-first own))
+      ∙ ap (λ (l : List ℕ). set (set (versionOf own ∷ l) (irsIn numbers + 5) (x / 256)) (irsIn numbers + 6) (x % 256)) (sym (append-assoc irs (take (layoutOf v .rest) (tailOf own)) rest))
       ∙ ap (λ (l : List ℕ). set (set l (irsIn numbers + 5) (x / 256)) (irsIn numbers + 6) (x % 256)) own-as-sheet
 
 -- what the page's own refusals passed
@@ -262,6 +282,10 @@ module _ (numbers chars : List ℕ) (done : toTableCheck numbers chars ≡ Done)
   unfolding asTablePage pageAt
   version = refl
 
+  video : asTablePage p place .video ≡ p .video
+  unfolding asTablePage
+  video = refl
+
   numbers-left : toTableNumbers numbers chars ≡ movedNumbers m numbers
   unfolding toTableNumbers
   numbers-left = rw (taken .0)
@@ -271,10 +295,10 @@ module _ (numbers chars : List ℕ) (done : toTableCheck numbers chars ≡ Done)
   chars-left = rw (taken .0)
 
   table-fine : numbersRefused (toTableNumbers numbers chars) ≡ false
-  table-fine = rw numbers-left (moved-fine numbers (taken .0) m m-done (asTablePage p place) moved long′ version)
+  table-fine = rw numbers-left (moved-fine numbers (taken .0) m m-done (asTablePage p place) moved long′ version video)
 
   table-board : numbersBoard (toTableNumbers numbers chars) ≡ m .board
-  table-board = ap numbersBoard numbers-left ∙ board-is numbers (taken .0) m m-done (asTablePage p place) moved long′ version
+  table-board = ap numbersBoard numbers-left ∙ board-is numbers (taken .0) m m-done (asTablePage p place) moved long′ version video
 
   -- [R-5 same]
   -- they and character memory show the same
@@ -300,7 +324,7 @@ module _ (numbers chars : List ℕ) (done : toTableCheck numbers chars ≡ Done)
     rest-left : drop (counted (p .version)) (toTableNumbers numbers chars) ≡ drop (counted (p .version)) numbers
     unfolding asTablePage
     rest-left =
-        ap (drop (counted (p .version))) (numbers-left ∙ numbers-are numbers (taken .0) m m-done (asTablePage p place) moved long′ version)
+        ap (drop (counted (p .version))) (numbers-left ∙ numbers-are numbers (taken .0) m m-done (asTablePage p place) moved long′ version video)
         ∙ put-rest numbers (taken .0) (asTablePage p place) long′
 
     -- [R-5 both]
@@ -338,6 +362,10 @@ module _ (numbers chars : List ℕ) (done : toSheetCheck numbers chars ≡ Done)
   unfolding asSheetPage pageAt
   as-sheet-version = refl
 
+  as-sheet-video : sheetPage .video ≡ numbersBoard numbers .page .video
+  unfolding asSheetPage
+  as-sheet-video = refl
+
   sheet-left : toSheetNumbers numbers chars ≡ movedNumbers (asSheet (numbersBoard numbers) chars) numbers
   unfolding toSheetNumbers
   sheet-left = rw (as-sheet-taken .0)
@@ -347,8 +375,8 @@ module _ (numbers chars : List ℕ) (done : toSheetCheck numbers chars ≡ Done)
   pub sheet-shows : ShowsC numbers chars (toSheetNumbers numbers chars) chars
   sheet-shows =
       let back = asSheet (numbersBoard numbers) chars in
-      let fine = moved-fine numbers (as-sheet-taken .0) back as-sheet-done sheetPage as-sheet-moved as-sheet-long as-sheet-version in
-      let board = board-is numbers (as-sheet-taken .0) back as-sheet-done sheetPage as-sheet-moved as-sheet-long as-sheet-version in
+      let fine = moved-fine numbers (as-sheet-taken .0) back as-sheet-done sheetPage as-sheet-moved as-sheet-long as-sheet-version as-sheet-video in
+      let board = board-is numbers (as-sheet-taken .0) back as-sheet-done sheetPage as-sheet-moved as-sheet-long as-sheet-version as-sheet-video in
       shows-from-c numbers chars (toSheetNumbers numbers chars) chars (own-ok numbers chars (as-sheet-taken .0) (as-sheet-passed (numbersBoard numbers) chars (as-sheet-taken .1) .own)) (rw sheet-left fine)
       (rw (sheet-left, board) (as-sheet-shows (numbersBoard numbers) chars (omega (arith, irs-all numbers (as-sheet-taken .0))) (as-sheet-taken .1)))
 

@@ -2,14 +2,14 @@
 -- All of it speaks of the public calls that read and write. A file is a list of bytes. Assumes nothing.
 use Prim.Native.Nat.{ℕ, _+_, _*_, _≤_}
 use mathlib.Core.Path.{_≡_, refl, sym, _∙_, ap}
-use mathlib.Core.Bool.{Bool, false, _||_, not}
+use mathlib.Core.Bool.{Bool, true, false, _&&_, _||_, not}
 use mathlib.Core.List.{List, _++_}
 use native.Mathlib.Omega.{arith}
 use borrow.Author.Tests.{eqb-true, eq-eqb, le-ltb, not-false}
 use lib.Dec.{eqb, ltb}
 use lib.ListN.{length, take, drop, length-append}
 use lib.Seq.{take-all, take-at, drop-at, drop-drop}
-use Rattle.lists.specs.Choice.{neither}
+use Rattle.lists.specs.Choice.{pick, neither}
 use Rattle.lists.specs.Tab.{length-tab}
 use Rattle.refusal.specs.declared.Refusal.the-variants.{Done}
 use Rattle.refusal.specs.Number.{wrongSize}
@@ -21,14 +21,15 @@ use Rattle.board.specs.Range.{memoriesRefused}
 use Rattle.board.specs.Laws.{layout-kept}
 use Rattle.timing.specs.Check.{pageCheck, stateRefused}
 use Rattle.timing.specs.Laws.{range-ok, call-ok, call-page}
-use Rattle.shape.specs.Font.{Font, fontRefused}
+use Rattle.shape.specs.Font.{Font, fontRefused, groupsCheck}
 use Rattle.copies.specs.Put.{length-part}
 use Rattle.files.specs.Page.{wordAt, versionIn, pageAt, keptPage}
 use Rattle.files.specs.File.{longAt, versionRefused, lengthRefused, fileCheck, readCheck, pageRead, readPageOf, charsRead, attrsRead, headOf, fileOf, writeCheck, written}
-use Rattle.files.specs.FontFile.{fontLength, fontSize, fontCheck, fontIn, fontRead, fontWriteCheck, fontWritten}
-use Rattle.files.specs.Laws.{file-sized, FilePassed, file-passed, head-all, write-passed}
+use Rattle.files.specs.FontFile.{fontLength, fontSize, fileGroups, fontShort, fontCheck, fontIn, fontRead, fontVersion, fontFileOf, fontWriteCheck, fontWritten, fileFont}
+use Rattle.files.specs.Laws.{version-known, file-sized, FilePassed, file-passed, head-all, write-passed}
 use Rattle.files.specs.Round.{Bytes, page-again, page-kept, kept-check, written-known}
-use Rattle.files.specs.FontRound.{font-again}
+use Rattle.files.specs.FontLaws.{font-least}
+use Rattle.files.specs.FontRound.{groups-own, groups-many, version-own, font-again}
 use Rattle.numbers.specs.Numbers.{numbersRefused}
 use Rattle.numbers.specs.Files.{numbersRead}
 use Rattle.numbers.specs.Laws.{numbers-long, numbers-page}
@@ -112,7 +113,7 @@ module _ (b : Board) (irs-all : length (b .page .irs) ≡ 15) (chars attrs out :
   unfolding writeCheck
   page-ok = call-page b (wrongSize (memoriesRefused (length chars) (length attrs) || ltb (length out) (fileSize (b .page .version)))) false false ok
 
-  file-is : take (fileSize (b .page .version)) (written b chars attrs out) ≡ fileOf (b .page) chars attrs
+  pub file-is : take (fileSize (b .page .version)) (written b chars attrs out) ≡ fileOf (b .page) chars attrs
   unfolding written
   file-is = rw ok (take-at (fileOf (b .page) chars attrs) (drop (fileSize (b .page .version)) out) (fileSize (b .page .version)) (length-file (b .page) chars attrs irs-all (memories .0) (memories .1)))
 
@@ -164,32 +165,57 @@ module _ (b : Board) (irs-all : length (b .page .irs) ≡ 15) (chars attrs out :
 
 -- ---- a font file, read and written again
 
-module _ (file : List ℕ) (f : Font) (ok : fontCheck file (fontRefused f) ≡ Done) where
-  font-ok : FilePassed file 1 fontLength (fontRefused f) Done
-  font-ok = file-passed file 1 fontLength (fontRefused f) Done ok
+module _ (file : List ℕ) (f : Font) (ok : fontCheck file (fontShort file f) ≡ Done) where
+  font-ok : FilePassed file 2 (fontLength (versionIn file)) (fontShort file f) (groupsCheck (fileGroups file))
+  unfolding fontCheck
+  font-ok = file-passed file 2 (fontLength (versionIn file)) (fontShort file f) (groupsCheck (fileGroups file)) ok
 
-  font-length : length file ≡ fontSize
-  font-length = file-sized file fontLength (font-ok .length-ok)
+  font-length : length file ≡ fontSize (versionIn file)
+  font-length = file-sized file (fontLength (versionIn file)) (font-ok .length-ok)
 
-  parts-fine : fontRefused (fontIn file) ≡ false
+  -- the font that it leaves, with as many groups as the file has
+  abbrev own : Font
+  own = fileFont file (fontRead file f)
+
+  own-is : own ≡ fileFont file (fontIn file (f .groups))
+  unfolding fontRead
+  own-is = rw ok
+
+  parts-fine : fontRefused (fileFont file (fontIn file (f .groups))) ≡ false
   unfolding fontIn
   parts-fine =
+      let long = font-least file font-length in
       let words = length-tab 1152 (λ (i : ℕ). wordAt (take 2304 (drop 5 file)) (2 * i)) in
-      let flags = length-part file 2309 128 (omega (arith, font-length)) in
-      let unshifted = length-part file 2437 9 (omega (arith, font-length)) in
-      let shifted = length-part file 2446 9 (omega (arith, font-length)) in
-      rw (words, flags, unshifted, shifted)
+      let flags = length-part file 2309 128 (omega (arith, long)) in
+      let unshifted = length-part file 2437 9 (omega (arith, long)) in
+      let shifted = length-part file 2446 9 (omega (arith, long)) in
+      rw (words, flags, unshifted, shifted, groups-own file font-length (f .groups), groups-many file font-length) (go (eqb (versionIn file) 2))
+    where
+      go : (t : Bool) → (not (eqb (pick t 16 0) 0) && not (eqb (pick t 16 0) 16)) ≡ false
+      go true = refl
+      go false = refl
 
-  -- the font that it leaves is whole
-  pub font-fine : fontRefused (fontRead file f) ≡ false
-  unfolding fontRead
-  font-fine = rw ok parts-fine
+  -- it is whole, and no group is refused
+  pub font-fine : fontRefused own ≡ false
+  font-fine = ap fontRefused own-is ∙ parts-fine
 
-  -- [demand round]
+  pub groups-fine : groupsCheck (own .groups) ≡ Done
+  groups-fine = ap (λ (x : Font). groupsCheck (x .groups)) own-is ∙ ap groupsCheck (groups-own file font-length (f .groups)) ∙ font-ok .rest-ok
+
+  -- its version is the file's
+  pub version-kept : fontVersion own ≡ versionIn file
+  version-kept =
+      let k = version-known file 2 (font-ok .version-ok) in
+      ap fontVersion own-is ∙ rw (groups-own file font-length (f .groups)) (version-own file font-length (k .0) (k .1))
+
+  -- [demand round] [R-7 font]
   -- the write answers 0, and out begins with the file
-  pub font-same : Bytes file → (out : List ℕ) → fontSize ≤ length out
-      → (fontWriteCheck (fontRead file f) (length out) ≡ Done) × (fontWritten (fontRead file f) out ≡ file ++ drop fontSize out)
-  unfolding fontRead fontWriteCheck fontWritten
+  pub font-same : Bytes file → (out : List ℕ) → fontSize (versionIn file) ≤ length out
+      → (fontWriteCheck own (length out) ≡ Done) × (fontWritten own out ≡ file ++ drop (fontSize (versionIn file)) out)
+  unfolding fontWriteCheck fontWritten
   font-same bytes out l =
-      rw (ok, parts-fine, le-ltb (length out) fontSize l)
-      (refl, rw (font-again file bytes font-length (font-ok .version-ok) (length-is file fontLength (font-ok .length-ok))))
+      rw (version-kept, font-fine, le-ltb (length out) (fontSize (versionIn file)) l, groups-fine) (
+        refl,
+        ap (λ (x : List ℕ). x ++ drop (fontSize (versionIn file)) out)
+            (ap fontFileOf own-is ∙ font-again file bytes font-length (font-ok .version-ok) (length-is file (fontLength (versionIn file)) (font-ok .length-ok)) (f .groups)),
+      )

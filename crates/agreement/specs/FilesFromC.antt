@@ -6,21 +6,21 @@ use mathlib.Core.Bool.{Bool, false}
 use mathlib.Core.List.{List, _++_}
 use lib.ListN.{length, drop}
 use Rattle.refusal.specs.declared.Refusal.the-variants.{Done}
-use Rattle.refusal.specs.Number.{numberOf, wrongSize}
+use Rattle.refusal.specs.Number.{numberOf}
 use Rattle.board.specs.Layout.{fileSize}
-use Rattle.shape.specs.Font.{Font, fontOf, fontRefused}
+use Rattle.shape.specs.Font.{Font, fontOf}
 use Rattle.video.specs.At.{lentCheck}
 use Rattle.step.specs.Step.{stepCheck}
 use Rattle.files.specs.Page.{versionIn}
 use Rattle.files.specs.File.{readCheck, charsRead, attrsRead}
-use Rattle.files.specs.FontFile.{fontCheck, fontRead}
+use Rattle.files.specs.FontFile.{groupCount, fontShort, fontCheck, fontRead, fileFont}
 use Rattle.files.specs.Round.{Bytes}
 use Rattle.numbers.specs.Numbers.{numbersBoard, numbersCheck}
 use Rattle.numbers.specs.Files.{pageReadSize, numbersRead, pageWriteCheck, pageWritten}
 use Rattle.feldrime.specs.declared.StepAnswer.{StepAnswer}
 use Rattle.feldrime.specs.Answers.{answerOf}
-use Rattle.feldrime.specs.Pages.{boardFor}
-use Rattle.agreement.specs.Files.{file-ok, again, chars-read-all, attrs-read-all, numbers-fine, numbers-are, font-fine}
+use Rattle.feldrime.specs.Pages.{boardFor, fontFor}
+use Rattle.agreement.specs.Files.{file-ok, again, chars-read-all, attrs-read-all, numbers-fine, numbers-are, font-fine, groups-fine}
 use Rattle.agreement.specs.FromC.{zero-done, stepC, fit-from-c, begins-from-c, steps-answer}
 
 -- a page file that feldrime_page_read takes
@@ -57,32 +57,38 @@ module _ (file numbers chars attrs : List ℕ)
   accepted-check = rw (numbers-fine file size read-ok numbers, numbers-are file size read-ok numbers) (file-ok file size read-ok .rest-ok)
 
   -- and a font file that feldrime_font_read takes
-  module _ (fontfile words flags unshifted shifted : List ℕ)
-      (font-taken : answerOf (fontCheck fontfile (fontRefused (fontOf words flags unshifted shifted))) .refusal ≡ 0) where
-    -- what that call leaves in the font's parts
+  module _ (fontfile words flags unshifted shifted groups : List ℕ)
+      (font-taken : fontFor fontfile (fontOf words flags unshifted shifted groups) .refusal ≡ 0) where
+    abbrev lent : Font
+    lent = fontOf words flags unshifted shifted groups
+
+    -- what that call leaves in the font's parts, with as many groups as it answers
     abbrev fontC : Font
-    fontC = fontRead fontfile (fontOf words flags unshifted shifted)
+    fontC = fileFont fontfile (fontRead fontfile lent)
 
     -- what feldrime_step then answers at clock n
     abbrev pub answerC : ℕ → StepAnswer
-    answerC = stepC numbersC charsC attrsC (fontC .words) (fontC .flags) (fontC .unshifted) (fontC .shifted)
+    answerC = stepC numbersC charsC attrsC (fontC .words) (fontC .flags) (fontC .unshifted) (fontC .shifted) (fontC .groups)
 
-    font-done : fontCheck fontfile (fontRefused (fontOf words flags unshifted shifted)) ≡ Done
-    font-done = zero-done (fontCheck fontfile (fontRefused (fontOf words flags unshifted shifted))) font-taken
+    font-done : fontCheck fontfile (fontShort fontfile lent) ≡ Done
+    font-done = zero-done (fontCheck fontfile (fontShort fontfile lent)) font-taken
+
+    -- which are those of the file's version
+    pub groups-answered : fontFor fontfile lent .groups ≡ groupCount (versionIn fontfile)
+    groups-answered = rw font-done
 
     lent-fine : lentCheck charsC attrsC fontC ≡ Done
     lent-fine =
-        rw (chars-read-all file size read-ok chars, attrs-read-all file size read-ok attrs)
-        (ap wrongSize (font-fine fontfile (fontOf words flags unshifted shifted) font-done))
+        rw (chars-read-all file size read-ok chars, attrs-read-all file size read-ok attrs, font-fine fontfile lent font-done) (groups-fine fontfile lent font-done)
 
     -- the hypothesis of the promises on `step`, `state_at` and `draw_line`
     pub accepted-fits : stepCheck (numbersBoard numbersC) charsC attrsC fontC ≡ Done
-    accepted-fits = fit-from-c numbersC charsC attrsC (fontC .words) (fontC .flags) (fontC .unshifted) (fontC .shifted) accepted-check lent-fine
+    accepted-fits = fit-from-c numbersC charsC attrsC (fontC .words) (fontC .flags) (fontC .unshifted) (fontC .shifted) (fontC .groups) accepted-check lent-fine
 
     begun : (boardFor numbersC .refusal ≡ 0) × (answerC 0 .refusal ≡ 0)
-    begun = begins-from-c numbersC charsC attrsC (fontC .words) (fontC .flags) (fontC .unshifted) (fontC .shifted) accepted-check lent-fine
+    begun = begins-from-c numbersC charsC attrsC (fontC .words) (fontC .flags) (fontC .unshifted) (fontC .shifted) (fontC .groups) accepted-check lent-fine
 
     -- feldrime_board_of answers 0, and so does every feldrime_step after it
     pub accepted-steps : (boardFor numbersC .refusal ≡ 0) × ((n : ℕ) → answerC n .refusal ≡ 0)
     accepted-steps =
-        (begun .0, steps-answer numbersC charsC attrsC (fontC .words) (fontC .flags) (fontC .unshifted) (fontC .shifted) (begun .0) (begun .1))
+        (begun .0, steps-answer numbersC charsC attrsC (fontC .words) (fontC .flags) (fontC .unshifted) (fontC .shifted) (fontC .groups) (begun .0) (begun .1))

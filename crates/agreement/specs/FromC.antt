@@ -67,18 +67,18 @@ step-taken b chars attrs f e = go (doneOf (stepCheck b chars attrs f)) refl
     go true d = done-is (stepCheck b chars attrs f) d
     go false d = rw d at e
 
-module _ (numbers chars attrs words flags unshifted shifted : List ℕ) where
+module _ (numbers chars attrs words flags unshifted shifted groups : List ℕ) where
   -- the board that the numbers describe, and the font
   abbrev b : Board
   b = numbersBoard numbers
 
   abbrev f : Font
-  f = fontOf words flags unshifted shifted
+  f = fontOf words flags unshifted shifted groups
 
   -- the board after n calls of feldrime_step, from the board that feldrime_board_of gives
   unfoldable pub afterC : ℕ → Board
   afterC zero = boardFor numbers .board
-  afterC (suc n) = stepNumbers (afterC n) chars attrs words flags unshifted shifted .board
+  afterC (suc n) = stepNumbers (afterC n) chars attrs words flags unshifted shifted groups .board
 
   -- accepted or not, the board that is made stands at clock 0, where the steps begin
   pub steps-made : (n : ℕ) → afterC n ≡ after (boardFor numbers .board) chars attrs f n
@@ -92,7 +92,7 @@ module _ (numbers chars attrs words flags unshifted shifted : List ℕ) where
 
   -- what the next feldrime_step answers
   abbrev pub stepC : ℕ → StepAnswer
-  stepC n = stepNumbers (afterC n) chars attrs words flags unshifted shifted .answer
+  stepC n = stepNumbers (afterC n) chars attrs words flags unshifted shifted groups .answer
 
   -- what feldrime_state_at answers of a board
   abbrev pub stateC : Board → ℕ → BoardAnswer

@@ -10,6 +10,7 @@ pub mod Lines
 pub mod Frames
 pub mod Rows
 pub mod Modes
+pub mod Chips
 pub mod Porches
 pub mod Pictures
 pub mod Catalogue

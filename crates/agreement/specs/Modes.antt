@@ -6,15 +6,16 @@
 --     no-code-left       a step leaves a code of 0, whatever it was
 use Prim.Native.Nat.{ℕ, _<_}
 use mathlib.Core.Path.{_≡_, refl, sym, ap, _∙_}
-use mathlib.Core.Bool.{Bool, true, false, _||_}
+use mathlib.Core.Bool.{Bool, true, false, _||_, or-false}
 use mathlib.Core.List.{List}
 use native.Mathlib.Decide.{decLt}
 use native.Mathlib.Omega.{arith}
 use borrow.Author.Tests.{lt-ltb, le-ltb}
 use lib.Dec.{eqb, ltb}
+use Rattle.lists.specs.Choice.{neither}
 use Rattle.board.specs.declared.Page.{Page}
 use Rattle.board.specs.declared.Place.{Place}
-use Rattle.board.specs.Modes.{fieldMode}
+use Rattle.board.specs.Modes.{fieldMode, hasModes}
 use Rattle.board.specs.Range.{startsRefused, addressRefused}
 use Rattle.timing.specs.Fields.{codedOf, hactOf}
 use Rattle.fetch.specs.Rows.{codeAt, fetchedOf}
@@ -24,7 +25,7 @@ use Rattle.latch.specs.Laws.{held-plain}
 use Rattle.place.specs.Place.{countedLatch, countedCode, nextPlace}
 use Rattle.place.specs.Settled.{next-settled}
 
-module _ (p : Page) (one : eqb (p .version) 2 ≡ false) where
+module _ (p : Page) (one : hasModes (p .version) ≡ false) where
   above-15 : (ltb 63 (p .switches) || ltb 15 (p .switches)) ≡ ltb 15 (p .switches)
   above-15 = go (decLt 15 (p .switches))
     where
@@ -37,10 +38,12 @@ module _ (p : Page) (one : eqb (p .version) 2 ≡ false) where
       go (no f) = rw (le-ltb 63 (p .switches) (omega arith))
 
   -- [R-1 version]
-  -- a page whose version is not 2 is in character mode, and its switches 4 to 7 are refused by 12
+  -- a page whose version has no modes is in character mode, and its switches 4 to 7 are refused by 12
   pub version-1 : (fieldMode p ≡ false) × (addressRefused p ≡ startsRefused (p .starts) || ltb 15 (p .switches) || ltb 15 (p .video .strike))
   unfolding addressRefused
-  version-1 = (rw one, rw one (ap (λ (t : Bool). startsRefused (p .starts) || t || ltb 15 (p .video .strike)) above-15))
+  version-1 =
+      let not-3 = neither (eqb (p .version) 2) (eqb (p .version) 3) one .1 in
+      (rw one, rw (one, not-3, or-false (ltb 15 (p .video .strike))) (ap (λ (t : Bool). startsRefused (p .starts) || t || ltb 15 (p .video .strike)) above-15))
 
 module _ (p : Page) (character : fieldMode p ≡ false) (chars attrs : List ℕ) where
   -- [dots attributes]

@@ -19,13 +19,14 @@ use Rattle.raster.specs.Moves.{cell, advance, advanceBy}
 use Rattle.raster.specs.Wide.{codeOf, isWide, isTop, isBottom, againAt}
 use Rattle.raster.specs.Latch.{latched}
 use Rattle.board.specs.declared.Starts.{Starts}
+use Rattle.board.specs.declared.Video.{Video}
 use Rattle.board.specs.declared.Page.{Page}
 use Rattle.board.specs.declared.Place.{Place}
 use Rattle.board.specs.declared.Board.{Board}
 use Rattle.board.specs.State.{clockZero, powerOf}
 use Rattle.board.specs.Layout.{layoutOf, lastIr, pageLength}
-use Rattle.board.specs.Modes.{versionOf, fieldMode, settersHidden}
-use Rattle.board.specs.Range.{memoriesRefused, startsRefused, switchesRefused, addressRefused, cellsRefused, pointerRefused}
+use Rattle.board.specs.Modes.{versionOf, fieldMode, settersHidden, chipB}
+use Rattle.board.specs.Range.{memoriesRefused, startsRefused, switchesRefused, addressRefused, cellsRefused, pointerRefused, videoRefused}
 use Rattle.timing.specs.Fields.{scansOf, linesOf, timingOf, visibleOf, bufferOf, codedOf, tableOf, cursorOf, underlineOf, blinkOf}
 use Rattle.timing.specs.Check.{widthRefused, pageCheck, sizeOf, stateRefused, callCheck}
 use Rattle.registers.specs.Write.{writeOf}
@@ -196,8 +197,14 @@ page-length-one version = only _
 pub field-mode-one : (p : Page) → OneAnswer (λ r. r ≡ fieldMode p)
 field-mode-one p = only _
 
+pub chip-b-one : (p : Page) → OneAnswer (λ r. r ≡ chipB p)
+chip-b-one p = only _
+
 pub setters-hidden-one : (p : Page) → OneAnswer (λ r. r ≡ settersHidden p)
 setters-hidden-one p = only _
+
+pub video-refused-one : (version : ℕ) (v : Video) → OneAnswer (λ r. r ≡ videoRefused version v)
+video-refused-one version v = only _
 
 pub address-refused-one : (p : Page) → OneAnswer (λ r. r ≡ addressRefused p)
 address-refused-one p = only _

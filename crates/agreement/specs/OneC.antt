@@ -7,6 +7,7 @@ use Rattle.board.specs.declared.Board.{Board}
 use Rattle.shape.specs.Font.{Font}
 use Rattle.numbers.specs.Numbers.{numbersCheck}
 use Rattle.feldrime.specs.declared.Answer.{Answer}
+use Rattle.feldrime.specs.declared.FontAnswer.{FontAnswer}
 use Rattle.feldrime.specs.declared.CellsAnswer.{CellsAnswer}
 use Rattle.feldrime.specs.declared.StepAnswer.{StepAnswer}
 use Rattle.feldrime.specs.Answers.{archiveVersion, answerOf}
@@ -37,7 +38,7 @@ page-read-one file numbers chars attrs = only-four _ _ _ _
 pub page-write-one : (numbers chars attrs out : List ℕ) → OneAnswer (λ (r : Answer × List ℕ). WritesPageFor numbers chars attrs out (r .0) (r .1))
 page-write-one numbers chars attrs out = only-both _ _
 
-pub font-read-one : (file : List ℕ) (f : Font) → OneAnswer (λ (r : Answer × Font). ReadsFontFor file f (r .0) (r .1))
+pub font-read-one : (file : List ℕ) (f : Font) → OneAnswer (λ (r : FontAnswer × Font). ReadsFontFor file f (r .0) (r .1))
 font-read-one file f = only-both _ _
 
 pub line-draw-one : (numbers chars attrs : List ℕ) (f : Font) (line field : ℕ) (out : List ℕ) → OneAnswer (λ (r : Answer × List ℕ). DrawsLineFor numbers chars attrs f line field out (r .0) (r .1))
@@ -84,10 +85,10 @@ read-for-c-one b address = only _
 pub state-for-c-one : (b : Board) (chars attrs : List ℕ) (n : ℕ) → OneAnswer (λ r. r ≡ stateFor b chars attrs n)
 state-for-c-one b chars attrs n = only _
 
-pub step-numbers-one : (b : Board) (chars attrs words flags unshifted shifted : List ℕ)
-    → OneAnswer (λ r. r ≡ stepNumbers b chars attrs words flags unshifted shifted)
-step-numbers-one b chars attrs words flags unshifted shifted = only _
+pub step-numbers-one : (b : Board) (chars attrs words flags unshifted shifted groups : List ℕ)
+    → OneAnswer (λ r. r ≡ stepNumbers b chars attrs words flags unshifted shifted groups)
+step-numbers-one b chars attrs words flags unshifted shifted groups = only _
 
 -- the answer and the board
-pub step-in-place-one : (b : Board) (chars attrs words flags unshifted shifted : List ℕ) → OneAnswer (λ (r : StepAnswer × Board). StepsFor b chars attrs words flags unshifted shifted (r .0) (r .1))
-step-in-place-one b chars attrs words flags unshifted shifted = only-both _ _
+pub step-in-place-one : (b : Board) (chars attrs words flags unshifted shifted groups : List ℕ) → OneAnswer (λ (r : StepAnswer × Board). StepsFor b chars attrs words flags unshifted shifted groups (r .0) (r .1))
+step-in-place-one b chars attrs words flags unshifted shifted groups = only-both _ _

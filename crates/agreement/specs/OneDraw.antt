@@ -37,7 +37,7 @@ use Rattle.columns.specs.Columns.{recordsOf}
 use Rattle.latch.specs.Held.{heldAt}
 use Rattle.shape.specs.declared.FontLine.{FontLine}
 use Rattle.shape.specs.declared.FontLines.{FontLines}
-use Rattle.shape.specs.Font.{Font, fontRefused, fontLineOf, fontLinesOf, fontLineAt, wordBy}
+use Rattle.shape.specs.Font.{Font, fontRefused, fontLineOf, fontLinesOf, fontLineAt, wordBy, graphicsWord, groupsCheck}
 use Rattle.video.specs.declared.Scene.{Scene}
 use Rattle.video.specs.declared.Look.{Look}
 use Rattle.video.specs.declared.Reading.{Reading}
@@ -50,7 +50,7 @@ use Rattle.line.specs.Line.{scanFor, DrawsLine}
 use Rattle.line.specs.Walk.{shapedOver}
 use Rattle.picture.specs.Picture.{DrawsPicture}
 use Rattle.dots.specs.Half.{halved}
-use Rattle.video.specs.At.{lentCheck, scanOf, scanAt, readingOf, countedByte, shownCode}
+use Rattle.video.specs.At.{lentRefused, lentBy, lentCheck, scanOf, scanAt, readingOf, countedByte, shownCode, graphicsBy}
 use Rattle.step.specs.Step.{stepOf}
 use Rattle.place.specs.declared.Carried.{Carried}
 use Rattle.place.specs.Place.{activeAt, loadedIn, movedIn, turnedIn}
@@ -166,11 +166,11 @@ held-at-one p chars attrs row column = only _
 
 -- ---- `shape`
 
-pub font-line-one : (unshifted shifted : List ℕ) (scan : ℕ) → OneAnswer (λ r. r ≡ fontLineOf unshifted shifted scan)
-font-line-one unshifted shifted scan = only _
+pub font-line-one : (unshifted shifted groups : List ℕ) (scan : ℕ) → OneAnswer (λ r. r ≡ fontLineOf unshifted shifted groups scan)
+font-line-one unshifted shifted groups scan = only _
 
-pub font-lines-one : (unshifted shifted : List ℕ) → OneAnswer (λ r. r ≡ fontLinesOf unshifted shifted)
-font-lines-one unshifted shifted = only _
+pub font-lines-one : (unshifted shifted groups : List ℕ) → OneAnswer (λ r. r ≡ fontLinesOf unshifted shifted groups)
+font-lines-one unshifted shifted groups = only _
 
 pub font-line-at-one : (lines : FontLines) (scan : ℕ) → OneAnswer (λ r. r ≡ fontLineAt lines scan)
 font-line-at-one lines scan = only _
@@ -178,8 +178,14 @@ font-line-at-one lines scan = only _
 pub font-refused-one : (f : Font) → OneAnswer (λ r. r ≡ fontRefused f)
 font-refused-one f = only _
 
-pub word-by-one : (words flags : List ℕ) (line : FontLine) (code : ℕ) → OneAnswer (λ r. r ≡ wordBy words flags line code)
-word-by-one words flags line code = only _
+pub groups-check-one : (groups : List ℕ) → OneAnswer (λ r. r ≡ groupsCheck groups)
+groups-check-one groups = only _
+
+pub graphics-word-one : (group code : ℕ) → OneAnswer (λ r. r ≡ graphicsWord group code)
+graphics-word-one group code = only _
+
+pub word-by-one : (words flags : List ℕ) (line : FontLine) (graphics : Bool) (code : ℕ) → OneAnswer (λ r. r ≡ wordBy words flags line graphics code)
+word-by-one words flags line graphics code = only _
 
 -- ---- `video`
 
@@ -204,8 +210,17 @@ counted-byte-one k again byte = only _
 pub shown-code-one : (hidden : Bool) (code byte : ℕ) → OneAnswer (λ r. r ≡ shownCode hidden code byte)
 shown-code-one hidden code byte = only _
 
+pub graphics-by-one : (k : Reading) (attributes : ℕ) → OneAnswer (λ r. r ≡ graphicsBy k attributes)
+graphics-by-one k attributes = only _
+
 pub look-of-one : (s : Scene) (attributes : ℕ) (cursor : Bool) → OneAnswer (λ r. r ≡ lookOf s attributes cursor)
 look-of-one s attributes cursor = only _
+
+pub lent-refused-one : (chars attrs : List ℕ) (f : Font) → OneAnswer (λ r. r ≡ lentRefused chars attrs f)
+lent-refused-one chars attrs f = only _
+
+pub lent-by-one : (size : Bool) (groups : List ℕ) → OneAnswer (λ r. r ≡ lentBy size groups)
+lent-by-one size groups = only _
 
 pub lent-check-one : (chars attrs : List ℕ) (f : Font) → OneAnswer (λ r. r ≡ lentCheck chars attrs f)
 lent-check-one chars attrs f = only _

@@ -7,13 +7,13 @@ use Rattle.lists.specs.Answer.{OneAnswer, only, only-both, only-three, only-fou
 use Rattle.refusal.specs.declared.Refusal.{Refusal}
 use Rattle.board.specs.declared.Page.{Page}
 use Rattle.board.specs.declared.Board.{Board}
-use Rattle.board.specs.Layout.{charsPlace}
+use Rattle.board.specs.Layout.{charsPlace, fileSize}
 use Rattle.shape.specs.Font.{Font}
 use Rattle.copies.specs.Put.{putAt, takenFrom}
 use Rattle.files.specs.declared.PageRead.{PageRead}
 use Rattle.files.specs.File.{versionRefused, readCheck, ReadsPage, WritesPage}
-use Rattle.files.specs.FontFile.{ReadsFont, WritesFont}
-use Rattle.files.specs.Page.{pageAt, boardAt, pageBytes}
+use Rattle.files.specs.FontFile.{groupCount, ReadsFont, WritesFont}
+use Rattle.files.specs.Page.{versionIn, pageAt, boardAt, pageBytes}
 use Rattle.numbers.specs.Numbers.{numbersRefused, numbersCheck, pageOrOwn, GivesNumbers}
 use Rattle.numbers.specs.Files.{ReadsFile, WritesFile}
 use Rattle.listing.specs.declared.Listed.{Listed}
@@ -37,12 +37,18 @@ read-page-one file chars attrs = only-three _ _ _
 pub write-page-one : (b : Board) (chars attrs out : List ℕ) → OneAnswer (λ (r : Refusal × List ℕ). WritesPage b chars attrs out (r .0) (r .1))
 write-page-one b chars attrs out = only-both _ _
 
--- the refusal and the four parts
+-- the refusal and the five parts
 pub read-font-one : (file : List ℕ) (f : Font) → OneAnswer (λ (r : Refusal × Font). ReadsFont file f (r .0) (r .1))
 read-font-one file f = only-both _ _
 
 pub write-font-one : (f : Font) (out : List ℕ) → OneAnswer (λ (r : Refusal × List ℕ). WritesFont f out (r .0) (r .1))
 write-font-one f out = only-both _ _
+
+pub groups-in-one : (file : List ℕ) → OneAnswer (λ r. r ≡ groupCount (versionIn file))
+groups-in-one file = only _
+
+pub file-size-one : (version : ℕ) → OneAnswer (λ r. r ≡ fileSize version)
+file-size-one version = only _
 
 pub version-refused-one : (file : List ℕ) (newest : ℕ) → OneAnswer (λ r. r ≡ versionRefused file newest)
 version-refused-one file newest = only _

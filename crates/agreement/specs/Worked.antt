@@ -19,7 +19,7 @@ use Rattle.fetch.specs.Rows.{codeAt, entryOf, rowStart, cellAt, fetchedOf, fetc
 use Rattle.latch.specs.Held.{heldAt}
 use Rattle.timing.specs.Fields.{bufferOf, countsOf, codedOf, linesOf, tableOf, hbpOf, vsyncOf}
 use Rattle.timing.specs.Check.{pageCheck, stateRefused, callCheck}
-use Rattle.shape.specs.Font.{Font, fontOf, fontRefused}
+use Rattle.shape.specs.Font.{Font, fontOf, fontRefused, groupsRefused}
 use Rattle.catalogue.specs.ToTable.{ownCheck, fetchesCell, tablePlaces, unfetchedAt, tablePlace, asTableCheck}
 use Rattle.catalogue.specs.ToSheet.{followsRow, rowsApart, asSheetCheck}
 use Rattle.step.specs.Step.{stepCheck}
@@ -27,6 +27,7 @@ use Rattle.step.specs.After.{after}
 use Rattle.files.specs.File.{readCheck, fileCheck, lengthRefused, longAt, headOf, fileOf}
 use Rattle.files.specs.Page.{wordAt, pageAt, tailOf}
 use Rattle.files.specs.FontFile.{fontLength, fontCheck, fontHead}
+use Rattle.feldrime.specs.Pages.{fontFor}
 use Rattle.numbers.specs.Numbers.{numbersOfCheck}
 use Rattle.numbers.specs.Files.{pageReadSize}
 use Rattle.feldrime.specs.Answers.{answerOf}
@@ -44,10 +45,10 @@ pub memory : List ℕ
 memory = replicate 16384 0
 
 pub font : Font
-font = fontOf (replicate 1152 0) (replicate 128 0) (replicate 9 0) (replicate 9 0)
+font = fontOf (replicate 1152 0) (replicate 128 0) (replicate 9 0) (replicate 9 0) []
 
 pub sheet-taken : stepCheck sheet memory memory font ≡ Done
-unfolding sheet memory font page callCheck pageCheck addressRefused codedOf linesOf tableOf hbpOf vsyncOf stateRefused layoutOf
+unfolding sheet memory font page groupsRefused callCheck pageCheck addressRefused codedOf linesOf tableOf hbpOf vsyncOf stateRefused layoutOf
 sheet-taken = refl
 
 -- its numbers are given, so `board-back` and `numbers-back` speak of something
@@ -74,7 +75,7 @@ pub low : Board
 low = boardOf (page 35 80 2048 3071 0 0)
 
 pub low-taken : stepCheck low memory memory font ≡ Done
-unfolding low memory font page callCheck pageCheck addressRefused codedOf linesOf tableOf hbpOf vsyncOf stateRefused layoutOf
+unfolding low memory font groupsRefused page callCheck pageCheck addressRefused codedOf linesOf tableOf hbpOf vsyncOf stateRefused layoutOf
 low-taken = refl
 
 pub outside : Inside (bufferOf (low .page)) (addressAt low memory memory font 0 0 0) → ⊥
@@ -89,7 +90,7 @@ abbrev pub file : List ℕ
 file = fileOf (sheet .page) memory memory
 
 abbrev pub fontFile : List ℕ
-fontFile = fontHead ++ replicate fontLength 0
+fontFile = fontHead 1 ++ replicate (fontLength 1) 0
 
 abbrev pub numbers : List ℕ
 numbers = replicate 32 0
@@ -98,13 +99,13 @@ pub page-taken : answerOf (readCheck file (pageReadSize (length numbers) (length
 unfolding sheet memory page readCheck fileCheck lengthRefused longAt wordAt tailOf headOf fileOf pageAt pageCheck addressRefused codedOf tableOf hbpOf layoutOf
 page-taken = refl
 
-pub font-taken : answerOf (fontCheck fontFile (fontRefused (fontOf (font .words) (font .flags) (font .unshifted) (font .shifted)))) .refusal ≡ 0
-unfolding font fileCheck lengthRefused longAt wordAt
+pub font-taken : fontFor fontFile (fontOf (font .words) (font .flags) (font .unshifted) (font .shifted) (font .groups)) .refusal ≡ 0
+unfolding font fontCheck fileCheck groupsRefused lengthRefused longAt wordAt
 font-taken = refl
 
 pub from-files : (n : ℕ)
-    → answerC file numbers memory memory page-taken fontFile (font .words) (font .flags) (font .unshifted) (font .shifted) font-taken n .refusal ≡ 0
-from-files = accepted-steps file numbers memory memory page-taken fontFile (font .words) (font .flags) (font .unshifted) (font .shifted) font-taken .1
+    → answerC file numbers memory memory page-taken fontFile (font .words) (font .flags) (font .unshifted) (font .shifted) (font .groups) font-taken n .refusal ≡ 0
+from-files = accepted-steps file numbers memory memory page-taken fontFile (font .words) (font .flags) (font .unshifted) (font .shifted) (font .groups) font-taken .1
 
 -- ---- a page of the catalogue: version 2 in field mode, with the row table on and codes for its rows
 
@@ -115,7 +116,7 @@ catalogued rows hact codes table version switches = record {
   irs = (72 + 128 * codes) ∷ 34 ∷ (26 + 128 * table) ∷ 8 ∷ (rows - 1) ∷ (hact - 1) ∷ 0 ∷ 0 ∷ 0 ∷ 240 ∷ 0 ∷ 0 ∷ 0 ∷ 0 ∷ 0 ∷ [];
   starts = record { start1 = 0; cursor = 0; start2 = 0 };
   switches = switches;
-  video = record { dots = record { 0 = 8 }; strike = 0 };
+  video = record { dots = record { 0 = 8 }; strike = 0; chip = 0 };
 }
 
 pub coded : Board
@@ -129,7 +130,7 @@ pub reversed : List ℕ
 reversed = replicate 16384 129
 
 pub coded-taken : stepCheck coded entries reversed font ≡ Done
-unfolding coded entries reversed font callCheck pageCheck addressRefused codedOf linesOf tableOf hbpOf vsyncOf stateRefused layoutOf
+unfolding coded entries reversed font groupsRefused callCheck pageCheck addressRefused codedOf linesOf tableOf hbpOf vsyncOf stateRefused layoutOf
 coded-taken = refl
 
 -- so the promise on rows speaks of cell 64 and of double width in row 5, and attributes run on

@@ -24,13 +24,13 @@ use Rattle.alike.specs.Views.{View, pageOf, SameBytes, Alike, same-cell,
 -- what is the same for all cells of a scan line, on boards in the same power state
 pub same-scene : (b n : Board) → Same (b .page) (n .page) → b .resets ≡ n .resets → (scan field : ℕ) → sceneOf b scan field ≡ sceneOf n scan field
 unfolding sceneOf
-same-scene b n s power scan field = rw (same-look s, same-blink s, same-underline s, s .switches, s .video, s .cursor, power)
+same-scene b n s power scan field = rw (same-look s, same-blink s, same-underline s, s .switches, s .chip, s .strike, s .cursor, power)
 
 -- the dots of a cell that has the same bytes
 pub same-dots : (v w : View) → Same (pageOf v) (pageOf w) → v .board .resets ≡ w .board .resets → (f : Font) (scan field valid x : ℕ) → SameBytes v w x
     → dotsAt (v .board) (v .chars) (v .attrs) f scan field valid x ≡ dotsAt (w .board) (w .chars) (w .attrs) f scan field valid x
 unfolding dotsAt scanDots
-same-dots v w s power f scan field valid x e = rw (e .0, e .1, same-scene (v .board) (w .board) s power scan field, s .version, s .switches, s .video, s .cursor)
+same-dots v w s power f scan field valid x e = rw (e .0, e .1, same-scene (v .board) (w .board) s power scan field, s .modes, s .chip, s .switches, s .dots, s .cursor)
 
 module _ {v w : View} (a : Alike v w) where
   abbrev p : Page

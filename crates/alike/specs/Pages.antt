@@ -15,16 +15,20 @@ use Rattle.raster.specs.declared.Counts.{Counts}
 use Rattle.board.specs.declared.Page.{Page}
 use Rattle.board.specs.declared.Board.{Board}
 use Rattle.board.specs.Parts.{withPage}
-use Rattle.board.specs.Modes.{fieldMode}
-use Rattle.board.specs.Range.{startsRefused, switchesRefused, addressRefused}
+use Rattle.board.specs.Layout.{layoutOf}
+use Rattle.board.specs.Modes.{hasModes, fieldMode, chipB}
+use Rattle.board.specs.Range.{startsRefused, switchesRefused, videoRefused, addressRefused}
 use Rattle.timing.specs.Fields.{ir, codedOf, tableOf, linesOf, hbpOf, blinkOf, rowsOf, hactOf, cursorOf, vsyncOf, underlineOf, bufferOf, htOf, visibleOf, vtOf, countsOf}
 use Rattle.timing.specs.Check.{reservedRefused, backPorchRefused, lineShort, frontPorchRefused, missing, pageCheck, stateRefused}
 
 -- which these are: here alone it stands which registers agree
 pub record Same (p q : Page) : Type 0 where
-  pub version : p .version ≡ q .version
+  pub modes : hasModes (p .version) ≡ hasModes (q .version)
+  pub chip : chipB p ≡ chipB q
+  pub irs : layoutOf (p .version) .irs ≡ layoutOf (q .version) .irs
   pub switches : p .switches ≡ q .switches
-  pub video : p .video ≡ q .video
+  pub dots : p .video .dots ≡ q .video .dots
+  pub strike : p .video .strike ≡ q .video .strike
   pub cursor : p .starts .cursor ≡ q .starts .cursor
   pub others : (n : ℕ) → eqb n 2 ≡ false → ir p n ≡ ir q n
   pub low : ir p 2 % 128 ≡ ir q 2 % 128
@@ -86,28 +90,34 @@ module _ {p q : Page} (s : Same p q) where
   same-vt = ap (λ (g : Counts). g .vt .0) same-counts
 
   pub same-mode : fieldMode p ≡ fieldMode q
-  same-mode = rw (s .version, s .switches)
+  same-mode = rw (s .modes, s .switches)
 
   -- what a line's clocks are refused for
   pub same-porches : (backPorchRefused p ≡ backPorchRefused q) × (lineShort p ≡ lineShort q) × (frontPorchRefused p ≡ frontPorchRefused q) × (missing p ≡ missing q)
   unfolding hbpOf
   same-porches = (rw same-hbp, simp (s .others, same-hsync, same-hbp), simp (s .others, same-hsync, same-hbp), simp (s .others, same-hsync, same-hbp))
 
-  pub same-accepted : pageCheck p ≡ Done → q .starts .start1 ≤ 16383 → q .starts .start2 ≤ 16383 → (codedOf q && not (tableOf q)) ≡ false → pageCheck q ≡ Done
+  pub same-accepted : pageCheck p ≡ Done → q .starts .start1 ≤ 16383 → q .starts .start2 ≤ 16383 → videoRefused (q .version) (q .video) ≡ false
+      → (codedOf q && not (tableOf q)) ≡ false → pageCheck q ≡ Done
   unfolding pageCheck addressRefused
-  same-accepted ok h1 h2 table =
+  same-accepted ok h1 h2 video table =
       let address = passed (addressRefused p) Address _ refl ok in
       let reserved = passed (reservedRefused p) Reserved _ refl (address .1) in
-      let strike = neither (startsRefused (p .starts) || switchesRefused (p .version) (p .switches)) (ltb 15 (p .video .strike)) (address .0) in
-      let switches = neither (startsRefused (p .starts)) (switchesRefused (p .version) (p .switches)) (strike .0) in
+      let switches = neither (startsRefused (p .starts)) (switchesRefused (p .version) (p .switches)) (neither (startsRefused (p .starts) || switchesRefused (p .version) (p .switches)) (videoRefused (p .version) (p .video)) (address .0) .0) in
       let starts = neither (ltb 16383 (p .starts .start1) || ltb 16383 (p .starts .cursor)) (ltb 16383 (p .starts .start2)) (switches .0) in
       let cursor = neither (ltb 16383 (p .starts .start1)) (ltb 16383 (p .starts .cursor)) (starts .0) .1 in
       let straight = neither (eqb (ir p 1 / 128 % 2) 1) (codedOf p && not (tableOf p)) (reserved .0) .0 in
       let address-too : addressRefused q ≡ false =
-      rw (le-ltb 16383 (q .starts .start1) h1, le-ltb 16383 (q .starts .start2) h2, ← (s .cursor), cursor, ← (s .version), ← (s .switches), switches .1, ← (s .video), strike .1) in
+      rw (le-ltb 16383 (q .starts .start1) h1, le-ltb 16383 (q .starts .start2) h2, ← (s .cursor), cursor, ← (s .modes), ← (s .switches), switches .1, video) in
       let reserved-too : reservedRefused q ≡ false = rw (← (s .others 1 refl), straight, table) in
-      rw (address-too, reserved-too) (rw (same-porches .0, same-porches .1, same-porches .2, same-porches .3, s .video) at (reserved .1))
+      rw (address-too, reserved-too) (rw (same-porches .0, same-porches .1, same-porches .2, same-porches .3, s .dots) at (reserved .1))
+
+-- an accepted page's video part
+pub video-passed : (p : Page) → pageCheck p ≡ Done → videoRefused (p .version) (p .video) ≡ false
+unfolding pageCheck addressRefused
+video-passed p ok =
+    neither (startsRefused (p .starts) || switchesRefused (p .version) (p .switches)) (videoRefused (p .version) (p .video)) (passed (addressRefused p) Address _ refl ok .0) .1
 
 pub same-state : (b : Board) (q : Page) → Same (b .page) q → stateRefused b ≡ stateRefused (withPage b q)
 unfolding stateRefused
-same-state b q s = rw (same-vt s, same-ht s, s .version)
+same-state b q s = rw (same-vt s, same-ht s, s .irs)

@@ -54,7 +54,7 @@ shows-on {w = w} s t = record {
 module _ {v w : View} (a : Alike v w) (chars-long : length (v .chars) ≡ length (w .chars)) (attrs-long : length (v .attrs) ≡ length (w .attrs))
     (ok : pageCheck (pageOf v) ≡ Done) (ok′ : pageCheck (pageOf w) ≡ Done) where
   same-room : pictureLength (pageOf v) ≡ pictureLength (pageOf w)
-  same-room = rw (same-visible (a .page), same-hact (a .page), a .page .video)
+  same-room = rw (same-visible (a .page), same-hact (a .page), a .page .dots)
 
   same-lent : (f : Font) → lentOf v f ≡ lentOf w f
   same-lent f = rw (chars-long, attrs-long)

@@ -107,8 +107,8 @@ module _ {v w : View} (a : Alike v w) where
         go true e =
             let k = bytes e in
             let dots = same-dots (viewOf b (v .chars) (v .attrs)) (viewOf n (w .chars) (w .attrs)) (a .page) (same-power a) f (scanIn b c) (y .field) (validIn b (v .attrs) c held x) x k in
-            rw (e, sym same-active ∙ e, dots, same-lines (a .page), same-mode (a .page), k .1, a .page .video)
-        go false e = rw (e, sym same-active ∙ e, scene (scanIn b c), same-lines (a .page), a .page .video)
+            rw (e, sym same-active ∙ e, dots, same-lines (a .page), same-mode (a .page), k .1, a .page .dots)
+        go false e = rw (e, sym same-active ∙ e, scene (scanIn b c), same-lines (a .page), a .page .dots)
 
   -- ---- every step from clock 0
 

@@ -47,7 +47,7 @@ pageOf v = v .board .page
 abbrev pub SameBytes : View → View → (x : ℕ) → Type 0
 SameBytes v w x = (getD (v .chars) x 0 ≡ getD (w .chars) x 0) × (getD (v .attrs) x 0 ≡ getD (w .attrs) x 0)
 
--- boards that differ in their pages alone, and these in IR2[7] and the screen starts at most; each row has the same code and start, and each cell that it fetches the same bytes
+-- boards that differ in their pages alone, and these in IR2[7], the screen starts, and a version or chip byte that says the same at most; each row has the same code and start, and each cell that it fetches the same bytes
 pub record Alike (v w : View) : Type 0 where
   pub board : withPage (v .board) (pageOf w) ≡ w .board
   pub page : Same (pageOf v) (pageOf w)

@@ -1,14 +1,17 @@
 -- 01, "Files": how a page is laid out, by its version.
 use Prim.Native.Nat.{ℕ, _+_, _-_}
+use lib.Dec.{eqb}
+use Rattle.lists.specs.Choice.{pick}
 use Rattle.board.specs.declared.Layout.{Layout}
 
 -- versions from 1 to the newest are known; one that is not known counts as 1
 abbrev pub newestVersion : ℕ
-newestVersion = 2
+newestVersion = 3
 
--- 15 IRs, then 9 bytes: screen start 1, cursor, screen start 2 (two bytes each), switches, dots, strike line; version 2 has the layout of version 1
+-- [R-7 version] page file version 3 is version 2 with one more byte after the strike line; versions 1 and 2 are still read
+-- 15 IRs, then screen start 1, cursor, screen start 2 (two bytes each), switches, dots, strike line, and in version 3 the chip
 unfoldable pub layoutOf : (version : ℕ) → Layout
-layoutOf version = record { irs = 15; rest = 9 }
+layoutOf version = record { irs = 15; rest = pick (eqb version 3) 10 9 }
 
 -- where the IR pointer stays
 abbrev pub lastIr : (version : ℕ) → ℕ

@@ -20,7 +20,7 @@ powerOf = record {
     irs = replicate 15 0;
     starts = record { start1 = 0; cursor = 0; start2 = 0 };
     switches = 0;
-    video = record { dots = dots 0; strike = 0 };
+    video = record { dots = dots 0; strike = 0; chip = 0 };
   };
   place = clockZero;
   pointer = 0;

@@ -2,8 +2,8 @@
 ghost use mathlib.Core.Path.{_≡_};
 ghost use Rattle.board.specs.State.{clockZero, powerOf};
 ghost use Rattle.board.specs.Layout.{layoutOf, lastIr, pageLength};
-ghost use Rattle.board.specs.Modes.{versionOf, fieldMode, settersHidden};
-ghost use Rattle.board.specs.Range.{memoriesRefused, startsRefused, switchesRefused, addressRefused, cellsRefused, pointerRefused};
+ghost use Rattle.board.specs.Modes.{hasModes, versionOf, fieldMode, settersHidden, chipB};
+ghost use Rattle.board.specs.Range.{memoriesRefused, startsRefused, switchesRefused, videoRefused, addressRefused, cellsRefused, pointerRefused};
 
 #[repr(C)]
 pub struct Starts {
@@ -16,6 +16,7 @@ pub struct Starts {
 pub struct Video {
     pub dots: units::Dots,
     pub strike: u8,
+    pub chip: u8,
 }
 
 // How many IRs a page has, and how many bytes stand behind them in its file.
@@ -24,8 +25,8 @@ pub struct Layout {
     pub rest: usize,
 }
 
-// What a page file holds beside the memories. The switches are the file's byte: bit 0 display, 1 cursor, 2 BKGND, 3 RBLANK, and in version 2 bit 4
-// field mode, 5 ACD.
+// What a page file holds beside the memories. The switches are the file's byte: bit 0 display, 1 cursor, 2 BKGND, 3 RBLANK, and from version 2 on bit
+// 4 field mode, 5 ACD. The chip counts in version 3.
 #[repr(C)]
 pub struct Page {
     pub version: u8,
@@ -89,6 +90,7 @@ pub fn power() -> Board
             video: Video {
                 dots: units::Dots(0),
                 strike: 0,
+                chip: 0,
             },
         },
         place: clock_zero(),
@@ -98,12 +100,15 @@ pub fn power() -> Board
 }
 
 // Versions from 1 to the newest are known.
-pub const NEWEST_VERSION: u8 = 2;
+pub const NEWEST_VERSION: u8 = 3;
 
-// A page's layout by its version: versions 1 and 2 have the same.
+// A page's layout by its version: version 3 has one byte more.
 pub fn layout_of(version: u8) -> Layout
     ensures { λ r. ⌜ r ≡ layoutOf version ⌝ }
 {
+    if version == 3 {
+        return Layout { irs: 15, rest: 10 };
+    }
     Layout { irs: 15, rest: 9 }
 }
 
@@ -142,11 +147,25 @@ pub fn starts_refused(s: Starts) -> bool
     (16383 < s.start1) | (16383 < s.cursor) | (16383 < s.start2)
 }
 
-// Switches 6 and 7, and in every version but 2 also 4 and 5.
+// Whether switches 4 and 5 are a version's own.
+fn has_modes(version: u8) -> bool
+    ensures { λ r. ⌜ r ≡ hasModes version ⌝ }
+{
+    (version == 2) | (version == 3)
+}
+
+// Switches 6 and 7, and where they are not the version's also 4 and 5.
 pub fn switches_refused(version: u8, switches: u8) -> bool
     ensures { λ r. ⌜ r ≡ switchesRefused version switches ⌝ }
 {
-    (63 < switches) | ((version != 2) & (15 < switches))
+    (63 < switches) | (!has_modes(version) & (15 < switches))
+}
+
+// The strike line, and in version 3 the chip.
+pub fn video_refused(version: u8, v: Video) -> bool
+    ensures { λ r. ⌜ r ≡ videoRefused version v ⌝ }
+{
+    (15 < v.strike) | ((version == 3) & (1 < v.chip))
 }
 
 // 12, for a page.
@@ -154,21 +173,22 @@ pub fn address_refused(p: Page) -> bool
     ensures { λ r. ⌜ r ≡ addressRefused p ⌝ }
 {
     let s = p.starts;
-    starts_refused(s) | switches_refused(p.version, p.switches) | (15 < p.video.strike)
+    let v = p.video;
+    starts_refused(s) | switches_refused(p.version, p.switches) | video_refused(p.version, v)
 }
 
 // The version as it is written.
 pub fn version_of(p: Page) -> u8
     ensures { λ r. ⌜ r ≡ versionOf p ⌝ }
 {
-    if p.version == 2 { 2 } else { 1 }
+    if has_modes(p.version) { p.version } else { 1 }
 }
 
 // Whether attributes run on from cell to cell.
 pub fn field_mode(p: Page) -> bool
     ensures { λ r. ⌜ r ≡ fieldMode p ⌝ }
 {
-    (p.version == 2) & (p.switches / 16 % 2 == 1)
+    has_modes(p.version) & (p.switches / 16 % 2 == 1)
 }
 
 // Whether a cell that sets attributes has zero dots.
@@ -176,6 +196,13 @@ pub fn setters_hidden(p: Page) -> bool
     ensures { λ r. ⌜ r ≡ settersHidden p ⌝ }
 {
     field_mode(p) & !(p.switches / 32 % 2 == 1)
+}
+
+// Whether the page is one of the 2677B.
+pub fn chip_b(p: Page) -> bool
+    ensures { λ r. ⌜ r ≡ chipB p ⌝ }
+{
+    (p.version == 3) & (p.video.chip == 1)
 }
 
 // 7, for the two cells of a place.

@@ -1,11 +1,11 @@
 -- A file read and written again. Assumes nothing.
 use Prim.Native.Nat.{ℕ, _≤_}
 use mathlib.Core.Path.{_≡_, refl, sym, ap, _∙_}
-use mathlib.Core.Bool.{Bool, true, false, or-true}
+use mathlib.Core.Bool.{Bool, true, false, _&&_, or-true}
 use mathlib.Core.List.{List, _++_}
 use borrow.Author.Tests.{eq-eqb, ne-eqb, ltb-false}
-use lib.ListN.{length, drop, replicate}
-use lib.Dec.{ltb}
+use lib.ListN.{length, take, drop, replicate}
+use lib.Dec.{eqb, ltb}
 use Rattle.lists.specs.Choice.{pick}
 use Rattle.refusal.specs.declared.Refusal.{Refusal}
 use Rattle.refusal.specs.declared.Refusal.the-variants.{Done, Size}
@@ -18,13 +18,15 @@ use Rattle.timing.specs.Check.{callCheck}
 use Rattle.shape.specs.Font.{Font, fontOf, fontRefused}
 use Rattle.files.specs.Page.{versionIn, pageAt}
 use Rattle.files.specs.File.{readCheck, charsRead, attrsRead, writeCheck, written}
-use Rattle.files.specs.FontFile.{fontSize, fontCheck, fontRead, fontWriteCheck, fontWritten}
+use Rattle.files.specs.FontFile.{groupCount, fontSize, fontShort, fontCheck, fontRead, fontVersion, fontWriteCheck, fontWritten, fileFont}
 use Rattle.files.specs.Round.{Bytes}
 use Rattle.numbers.specs.Numbers.{numbersRefused, numbersBoard}
 use Rattle.numbers.specs.Files.{numbersRead, pageWriteCheck, pageWritten}
 use Rattle.feldrime.specs.declared.Answer.{Answer}
+use Rattle.feldrime.specs.declared.FontAnswer.{FontAnswer}
 use Rattle.feldrime.specs.Answers.{answerOf}
-use Rattle.agreement.specs.Files.{font-same}
+use Rattle.feldrime.specs.Pages.{fontFor}
+use Rattle.agreement.specs.Files.{version-kept, font-same}
 use Rattle.agreement.specs.FilesFromC.{page-same-from-c}
 
 -- the read's own answer, then 3 where there is room for less than the file's n bytes
@@ -100,21 +102,50 @@ module _ (file : List ℕ) (bytes : Bytes file) (out : List ℕ) {a : Answer} {n
 
 -- the parts before the file is read into them
 abbrev noFont : Font
-noFont = fontOf (zeros 1152) (zeros 128) (zeros 9) (zeros 9)
+noFont = fontOf (zeros 1152) (zeros 128) (zeros 9) (zeros 9) (zeros 16)
 
-font-short : (f : Font) (out : List ℕ) → ltb (length out) fontSize ≡ true → (fontWriteCheck f (length out) ≡ Size) × (fontWritten f out ≡ out)
+font-short : (f : Font) (out : List ℕ) → ltb (length out) (fontSize (fontVersion f)) ≡ true → (fontWriteCheck f (length out) ≡ Size) × (fontWritten f out ≡ out)
 unfolding fontWriteCheck fontWritten
 font-short f out t = rw (t, or-true (fontRefused f)) (refl, refl)
 
-module _ (file : List ℕ) (bytes : Bytes file) (out : List ℕ) {a : Answer} {f : Font}
-    (read : (a ≡ answerOf (fontCheck file false)) × (f ≡ fontRead file noFont)) where
-  pub font-refused : (a .refusal ≡ 0 → ⊥) → (a ≡ answerOf (againCheck (fontCheck file false) fontSize (length out))) × (out ≡ writtenAgain (fontCheck file false) fontSize file out)
-  font-refused e = read-stops (fontCheck file false) fontSize file out (read .0) e
+-- with room for the groups no version is short of it
+roomy : (file : List ℕ) → fontShort file noFont ≡ false
+roomy file = go (eqb (versionIn file) 2)
+  where
+    go : (t : Bool) → (t && false) ≡ false
+    go true = refl
+    go false = refl
 
-  pub font-wrote : a .refusal ≡ 0 → {w : Refusal} {out′ : List ℕ} → (w ≡ fontWriteCheck f (length out)) × (out′ ≡ fontWritten f out) → {n k : ℕ} → n ≡ numberOf w → k ≡ besideOf w
-      → (record { refusal = n; beside = k } ≡ answerOf (againCheck (fontCheck file false) fontSize (length out))) × (out′ ≡ writtenAgain (fontCheck file false) fontSize file out)
-  font-wrote e {w} {out′} write number beside =
-      let ok : fontCheck file false ≡ Done = answer-done _ (read .0) e in
-      wrote fontSize file out ok (λ i. record { refusal = number i; beside = beside i })
-      (λ l. let s = font-same file noFont ok bytes out l in (write .0 ∙ rw (read .1) (s .0), write .1 ∙ rw (read .1) (s .1)))
-      (λ t. let s = font-short f out t in (write .0 ∙ s .0, write .1 ∙ s .1))
+module _ (file : List ℕ) (bytes : Bytes file) (out : List ℕ) {a : FontAnswer} {f : Font}
+    (read : (a ≡ fontFor file noFont) × (f ≡ fontRead file noFont)) where
+  abbrev read-check : Refusal
+  read-check = fontCheck file false
+
+  check-is : fontCheck file (fontShort file noFont) ≡ read-check
+  check-is = ap (fontCheck file) (roomy file)
+
+  abbrev own : Answer
+  own = record { refusal = a .refusal; beside = a .beside }
+
+  own-is : own ≡ answerOf read-check
+  own-is = ap (λ (x : FontAnswer). record { refusal = x .refusal; beside = x .beside }) (read .0) ∙ ap answerOf check-is
+
+  pub font-refused : (a .refusal ≡ 0 → ⊥) → (own ≡ answerOf (againCheck read-check (fontSize (versionIn file)) (length out))) × (out ≡ writtenAgain read-check (fontSize (versionIn file)) file out)
+  font-refused e = read-stops read-check (fontSize (versionIn file)) file out own-is e
+
+  -- as many groups as the file has
+  pub groups-are : a .refusal ≡ 0 → a .groups ≡ groupCount (versionIn file)
+  groups-are e = ap (λ (x : FontAnswer). x .groups) (read .0) ∙ rw (check-is ∙ answer-done _ own-is e)
+
+  pub font-wrote : a .refusal ≡ 0 → {g : List ℕ} → g ≡ take (a .groups) (f .groups) → {w : Refusal} {out′ : List ℕ}
+      → (w ≡ fontWriteCheck (fontOf (f .words) (f .flags) (f .unshifted) (f .shifted) g) (length out)) × (out′ ≡ fontWritten (fontOf (f .words) (f .flags) (f .unshifted) (f .shifted) g) out)
+      → {n k : ℕ} → n ≡ numberOf w → k ≡ besideOf w
+      → (record { refusal = n; beside = k } ≡ answerOf (againCheck read-check (fontSize (versionIn file)) (length out))) × (out′ ≡ writtenAgain read-check (fontSize (versionIn file)) file out)
+  font-wrote e {g} ge {w} {out′} write number beside =
+      let ok : read-check ≡ Done = answer-done _ own-is e in
+      let own-font : fontOf (f .words) (f .flags) (f .unshifted) (f .shifted) g ≡ fileFont file (fontRead file noFont) =
+      ap (λ (x : List ℕ). fontOf (f .words) (f .flags) (f .unshifted) (f .shifted) x) (ge ∙ ap (λ (k : ℕ). take k (f .groups)) (groups-are e)) ∙ ap (fileFont file) (read .1) in
+      let version = version-kept file noFont (check-is ∙ ok) in
+      wrote (fontSize (versionIn file)) file out ok (λ i. record { refusal = number i; beside = beside i })
+      (λ l. let s = font-same file noFont (check-is ∙ ok) bytes out l in (write .0 ∙ rw own-font (s .0), write .1 ∙ rw own-font (s .1)))
+      (λ t. let s = font-short (fileFont file (fontRead file noFont)) out (ap (λ (v : ℕ). ltb (length out) (fontSize v)) version ∙ t) in (write .0 ∙ rw own-font (s .0), write .1 ∙ rw own-font (s .1)))

@@ -2,19 +2,20 @@
 use Prim.Native.Nat.{ℕ}
 use mathlib.Core.Path.{_≡_, refl, sym, ap, _∙_}
 use mathlib.Core.Bool.{Bool, true, false, not}
-use mathlib.Core.List.{List, [], _++_, append-nil}
+use mathlib.Core.List.{List, [], _++_}
 use native.Mathlib.Omega.{arith}
-use borrow.Author.Tests.{eq-eqb}
+use borrow.Author.Tests.{eq-eqb, le-ltb}
 use lib.Dec.{eqb}
 use lib.ListN.{length, take, drop, replicate}
-use lib.Seq.{take-all, take-at}
+use lib.Seq.{take-at}
 use Rattle.lists.specs.Choice.{pick}
 use Rattle.refusal.specs.declared.Refusal.{Refusal}
 use Rattle.refusal.specs.declared.Refusal.the-variants.{Done, Size}
 use Rattle.refusal.specs.Number.{numberOf, doneOf}
 use Rattle.refusal.specs.Laws.{done-is, passed}
 use Rattle.board.specs.declared.Page.{Page}
-use Rattle.board.specs.Layout.{newestVersion, layoutOf, pageLength, lengthField, fileSize}
+use Rattle.board.specs.declared.Board.{Board}
+use Rattle.board.specs.Layout.{newestVersion, pageLength, lengthField, fileSize}
 use Rattle.board.specs.Modes.{versionOf}
 use Rattle.board.specs.Range.{memoriesRefused}
 use Rattle.board.specs.Laws.{memories-all, layout-kept}
@@ -23,7 +24,7 @@ use Rattle.timing.specs.Laws.{range-ok}
 use Rattle.files.specs.declared.PageRead.{PageRead}
 use Rattle.files.specs.Page.{versionIn, pageAt, pageBytes}
 use Rattle.files.specs.File.{fileCheck, readCheck, readPageOf, headOf, fileOf, writeCheck, written}
-use Rattle.files.specs.Laws.{file-passed, page-irs, bytes-all}
+use Rattle.files.specs.Laws.{file-passed, page-irs, bytes-all, file-most}
 use Rattle.files.specs.Round.{Bytes}
 use Rattle.numbers.specs.Numbers.{numbersRefused, numbersBoard, zerosAfter, numbersFront, numbersIn, cleared, numbersCheck}
 use Rattle.numbers.specs.Files.{pageReadSize, numbersRead}
@@ -32,7 +33,7 @@ use Rattle.feldrime.specs.declared.Answer.{Answer}
 use Rattle.feldrime.specs.declared.BoardAnswer.{BoardAnswer}
 use Rattle.feldrime.specs.Answers.{answerOf}
 use Rattle.feldrime.specs.Pages.{boardFor}
-use Rattle.agreement.specs.Files.{length-file, board-same}
+use Rattle.agreement.specs.Files.{file-is, board-same}
 use Rattle.callers.specs.Sizes.{made-refused, made-done}
 
 -- the numbers' own answer, then 3 where a memory or the room for the numbers has another size
@@ -58,15 +59,10 @@ numbers-of xs chars attrs fits fine = rw (layout-kept own) (ap (λ (l : List ℕ
 
 -- ---- the write, and the read of what was written
 
--- the longest page file
+-- room for the longest page file
 abbrev longest : ℕ
-longest = 32797
+longest = 32798
 
-longest-is : fileSize newestVersion ≡ longest
-unfolding layoutOf
-longest-is = refl
-
--- as many zeros as it has bytes
 abbrev zeros : List ℕ
 zeros = replicate longest 0
 
@@ -93,12 +89,12 @@ module _ (numbers : List ℕ) (fits : Bytes numbers) (chars attrs out : List ℕ
     at-zero = range-ok (numbersBoard numbers) (record { line-lt = omega arith; clock-lt = omega arith; beam-le = omega arith; row-le = omega arith; pointer-le = omega arith })
 
     write-is : writeCheck (numbersBoard numbers) (length chars) (length attrs) longest ≡ pick (memoriesRefused (length chars) (length attrs)) Size Done
-    unfolding writeCheck callCheck layoutOf
+    unfolding writeCheck callCheck
     write-is = go (memoriesRefused (length chars) (length attrs)) refl
       where
         go : (t : Bool) → memoriesRefused (length chars) (length attrs) ≡ t → writeCheck (numbersBoard numbers) (length chars) (length attrs) longest ≡ pick t Size Done
         go true t = rw t
-        go false t = rw (t, page-ok, at-zero)
+        go false t = rw (t, le-ltb longest (fileSize (numbersBoard numbers .page .version)) (file-most _), page-ok, at-zero)
 
     wrote-is : w ≡ pick (memoriesRefused (length chars) (length attrs)) Size Done
     wrote-is = wrote .0 ∙ rw (made-done numbers made z .1) write-is
@@ -111,7 +107,8 @@ module _ (numbers : List ℕ) (fits : Bytes numbers) (chars attrs out : List ℕ
         go true t = (rw (done, t, e, wrote-is, t), rw (done, t))
         go false t = absurd (f (e ∙ rw (wrote-is, t)))
 
-    module _ {n : ℕ} (e : n ≡ numberOf w) (y : n ≡ 0) where
+    -- as many bytes of it as the page's version has are read
+    module _ {n : ℕ} (e : n ≡ numberOf w) (y : n ≡ 0) {part : List ℕ} (cut : part ≡ take (fileSize (m .board .page .version)) file) where
       fine : memoriesRefused (length chars) (length attrs) ≡ false
       fine = passed (memoriesRefused (length chars) (length attrs)) Size Done refl (sym wrote-is ∙ done-is w (eq-eqb _ _ (sym e ∙ y))) .0
 
@@ -121,36 +118,26 @@ module _ (numbers : List ℕ) (fits : Bytes numbers) (chars attrs out : List ℕ
       ok : writeCheck (numbersBoard numbers) (length chars) (length attrs) longest ≡ Done
       ok = write-is ∙ rw fine
 
-      abbrev laid : List ℕ
-      laid = fileOf (numbersBoard numbers .page) chars attrs
-
-      laid-is : written (numbersBoard numbers) chars attrs zeros ≡ laid
-      unfolding written layoutOf
-      laid-is = rw ok (append-nil laid)
-
-      file-is : file ≡ laid
-      file-is = wrote .1 ∙ rw (made-done numbers made z .1) laid-is
-
-      front : file ≡ take (fileSize (numbersBoard numbers .page .version)) (written (numbersBoard numbers) chars attrs zeros)
+      front : part ≡ take (fileSize (numbersBoard numbers .page .version)) (written (numbersBoard numbers) chars attrs zeros)
       front =
-          let c = memories-all (length chars) (length attrs) fine in
-          file-is ∙ rw laid-is (sym (take-all (fileSize (numbersBoard numbers .page .version)) laid (omega (arith, length-file (numbersBoard numbers .page) chars attrs irs-all (c .0) (c .1)))))
+          cut ∙ ap (take (fileSize (m .board .page .version))) (wrote .1)
+          ∙ ap (λ (b : Board). take (fileSize (b .page .version)) (written b chars attrs zeros)) (made-done numbers made z .1)
 
-      read-done : readCheck file false ≡ Done
+      read-done : readCheck part false ≡ Done
       unfolding readPageOf
-      read-done = ap (λ (r : PageRead). r .refusal) (board-same (numbersBoard numbers) irs-all chars attrs zeros ok [] [] file front .0)
+      read-done = ap (λ (r : PageRead). r .refusal) (board-same (numbersBoard numbers) irs-all chars attrs zeros ok [] [] part front .0)
 
-      read-is : (size : Bool) → readCheck file size ≡ pick size Size Done
+      read-is : (size : Bool) → readCheck part size ≡ pick size Size Done
       unfolding readCheck fileCheck
       read-is size =
-          let p = file-passed file newestVersion (lengthField (versionIn file)) false (pageCheck (pageAt file 5)) read-done in
+          let p = file-passed part newestVersion (lengthField (versionIn part)) false (pageCheck (pageAt part 5)) read-done in
           rw (p .version-ok, p .length-ok, p .rest-ok)
 
-      numbers-are : numbersIn file ≡ cleared numbers
-      numbers-are = rw file-is (numbers-of numbers chars attrs fits (numbers-passed numbers done))
+      numbers-are : numbersIn part ≡ cleared numbers
+      numbers-are = rw (front ∙ file-is (numbersBoard numbers) irs-all chars attrs zeros ok) (numbers-of numbers chars attrs fits (numbers-passed numbers done))
 
       pub numbers-read : {a : Answer} {x : List ℕ}
-          → (a ≡ answerOf (readCheck file (pageReadSize (length out) 16384 16384))) × (x ≡ numbersRead file (pageReadSize (length out) 16384 16384) out) → Again a x
+          → (a ≡ answerOf (readCheck part (pageReadSize (length out) 16384 16384))) × (x ≡ numbersRead part (pageReadSize (length out) 16384 16384) out) → Again a x
       unfolding numbersRead numbersAgainCheck numbersAgain
       numbers-read r =
           let is = read-is (not (eqb (length out) 32)) in

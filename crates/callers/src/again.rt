@@ -28,24 +28,30 @@ pub fn page_again(file: &[u8], out: &mut [u8]) -> Answer
 
 // A font file that is accepted is written as the same bytes. C has no call that writes a font.
 pub fn font_again(file: &[u8], out: &mut [u8]) -> Answer
-    ensures { λ r. ⌜ (r ≡ answerOf (againCheck (fontCheck (now (file .entry)) false) fontSize (length (now (out .entry)))))
-        × (now (out .exit) ≡ writtenAgain (fontCheck (now (file .entry)) false) fontSize (now (file .entry)) (now (out .entry))) ⌝ }
+    ensures { λ r. ⌜ (r ≡ answerOf (againCheck (fontCheck (now (file .entry)) false) (fontSize (versionIn (now (file .entry)))) (length (now (out .entry)))))
+        × (now (out .exit) ≡ writtenAgain (fontCheck (now (file .entry)) false) (fontSize (versionIn (now (file .entry)))) (now (file .entry)) (now (out .entry))) ⌝ }
 {
     let mut words = [0u16; 1152];
     let mut flags = [0u8; 128];
     let mut unshifted = [0u8; 9];
     let mut shifted = [0u8; 9];
+    let mut groups = [0u8; 16];
     let read = feldrime::feldrime_font_read(
         file,
         &mut words,
         &mut flags,
         &mut unshifted,
         &mut shifted,
+        &mut groups,
     );
     if read.refusal != 0 {
-        return read;
+        return Answer {
+            refusal: read.refusal,
+            beside: read.beside,
+        };
     }
-    let refused = files::write_font(&words, &flags, &unshifted, &shifted, out);
+    let n = read.groups as usize;
+    let refused = files::write_font(&words, &flags, &unshifted, &shifted, &groups[..n], out);
     Answer {
         refusal: refusal::number(refused),
         beside: refusal::beside(refused),
@@ -74,7 +80,8 @@ pub fn numbers_again(numbers: &[u8], chars: &[u8], attrs: &[u8], out: &mut [u8])
             beside: 0,
         };
     }
+    let n = files::file_size(board.page.version);
     let mut chars_read = [0u8; 16384];
     let mut attrs_read = [0u8; 16384];
-    feldrime::feldrime_page_read(&file, out, &mut chars_read, &mut attrs_read)
+    feldrime::feldrime_page_read(&file[..n], out, &mut chars_read, &mut attrs_read)
 }

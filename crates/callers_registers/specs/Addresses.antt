@@ -142,7 +142,7 @@ module _ {b : Board} (r : Ready b) (a : ℕ) (lo : 2 ≤ a) (hi : a ≤ 7) (v : 
   ok = parts r .starts
 
   still-ready : Ready (startedOf b a v)
-  still-ready = ready (startedOf b a v) (r .active) (record { starts = still s ok v small a lo hi; switches = parts r .switches; strike = parts r .strike; pointer = parts r .pointer })
+  still-ready = ready (startedOf b a v) (r .active) (record { starts = still s ok v small a lo hi; switches = parts r .switches; video = parts r .video; pointer = parts r .pointer })
 
   there : one .board ≡ startedOf b a v
   there = ap (λ (x : BoardAnswer). x .board) (e ∙ put r a lo hi v)

@@ -33,7 +33,7 @@ loadedFirst byte = record {
     irs = byte ∷ replicate 14 0;
     starts = record { start1 = 0; cursor = 0; start2 = 0 };
     switches = 0;
-    video = record { dots = dots 0; strike = 0 };
+    video = record { dots = dots 0; strike = 0; chip = 0 };
   };
   place = clockZero;
   pointer = 1;
@@ -113,7 +113,7 @@ module _ {b : Board} (r : Ready b) where
     ready-pointed : Ready (pointedOf b (v - 16))
     ready-pointed =
         let p = parts r in
-        ready (pointedOf b (v - 16)) (r .active) (record { starts = p .starts; switches = p .switches; strike = p .strike; pointer = fine })
+        ready (pointedOf b (v - 16)) (r .active) (record { starts = p .starts; switches = p .switches; video = p .video; pointer = fine })
 
     pub loaded : (byte : ℕ) {one two : BoardAnswer} → one ≡ writeFor b 1 v → two ≡ writeFor (one .board) 0 byte → two ≡ boardAnswer Done (loadedAt b (v - 16) byte)
     unfolding activeOf
@@ -152,7 +152,7 @@ module _ {b : Board} (r : Ready b) (v : ℕ) (e : switching v ≡ true) where
       let p = parts r in
       let s = b .page .switches in
       let upper : switchesAfter s v / 16 ≡ s / 16 = omega (arith, after s v .0) in
-      ready (switchedOf b v) (r .active) (record { starts = p .starts; switches = judged (b .page .version) (switchesAfter s v) s upper ∙ p .switches; strike = p .strike; pointer = p .pointer })
+      ready (switchedOf b v) (r .active) (record { starts = p .starts; switches = judged (b .page .version) (switchesAfter s v) s upper ∙ p .switches; video = p .video; pointer = p .pointer })
 
 module _ {b : Board} (r : Ready b) (v w : ℕ) (e : switching v ≡ true) (f : switching w ≡ true) where
   pub switched : {one two : BoardAnswer} → one ≡ writeFor b 1 v → two ≡ writeFor (one .board) 1 w → two ≡ boardAnswer Done (switchedBy b v w)

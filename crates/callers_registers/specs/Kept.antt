@@ -16,7 +16,7 @@ use Rattle.place.specs.State.{stateCheck, stateOf}
 use Rattle.registers.specs.declared.Written.{Written}
 use Rattle.registers.specs.Answers.{answer}
 use Rattle.registers.specs.Write.{registerCheck, commandOf, activeOf, inactiveOf, writeOf}
-use Rattle.registers.specs.Video.{videoCheck, setVideoOf}
+use Rattle.registers.specs.Video.{videoCheck, withDots, setVideoOf}
 use Rattle.feldrime.specs.declared.BoardAnswer.{BoardAnswer}
 use Rattle.feldrime.specs.Answers.{boardAnswer}
 use Rattle.feldrime.specs.Boards.{writeFor}
@@ -55,7 +55,7 @@ write-keeps b a v =
 video-keeps : (b : Board) (d : Dots) (strike : ℕ) (bkgnd rblank : Bool) → KeptIn b (setVideoOf b d strike bkgnd rblank)
 unfolding setVideoOf
 video-keeps b d strike bkgnd rblank =
-    let check = videoCheck (b .page .starts) (b .page .version) (b .page .switches) d strike in
+    let check = videoCheck (withDots (b .page) d strike) in
     either (doneOf check) _ _ (done _) (same check)
 
 state-keeps : (b : Board) (chars attrs : List ℕ) (n : ℕ) → Kept b (stateOf b chars attrs n .refusal) (stateOf b chars attrs n .board)

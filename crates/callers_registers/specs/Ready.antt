@@ -9,7 +9,7 @@ use Rattle.lists.specs.Choice.{neither}
 use Rattle.refusal.specs.declared.Refusal.the-variants.{Done, Range, Address}
 use Rattle.refusal.specs.Laws.{passed}
 use Rattle.board.specs.declared.Board.{Board}
-use Rattle.board.specs.Range.{startsRefused, switchesRefused, addressRefused, pointerRefused}
+use Rattle.board.specs.Range.{startsRefused, switchesRefused, videoRefused, addressRefused, pointerRefused}
 use Rattle.registers.specs.Write.{registerCheck, activeOf, writeOf}
 use Rattle.registers.specs.Read.{readAt, readOf}
 
@@ -30,7 +30,7 @@ reads r a = rw (r .taken)
 pub record Parts (b : Board) : Type 0 where
   pub starts : startsRefused (b .page .starts) ≡ false
   pub switches : switchesRefused (b .page .version) (b .page .switches) ≡ false
-  pub strike : ltb 15 (b .page .video .strike) ≡ false
+  pub video : videoRefused (b .page .version) (b .page .video) ≡ false
   pub pointer : pointerRefused (b .page) (b .pointer) ≡ false
 
 pub parts : {b : Board} → Ready b → Parts b
@@ -38,13 +38,13 @@ unfolding registerCheck addressRefused
 parts {b} r =
     let a = passed (addressRefused (b .page)) Address _ refl (r .taken) in
     let p = passed (pointerRefused (b .page) (b .pointer)) Range _ refl (a .1) in
-    let three = neither (startsRefused (b .page .starts) || switchesRefused (b .page .version) (b .page .switches)) (ltb 15 (b .page .video .strike)) (a .0) in
+    let three = neither (startsRefused (b .page .starts) || switchesRefused (b .page .version) (b .page .switches)) (videoRefused (b .page .version) (b .page .video)) (a .0) in
     let two = neither (startsRefused (b .page .starts)) (switchesRefused (b .page .version) (b .page .switches)) (three .0) in
-    record { starts = two .0; switches = two .1; strike = three .1; pointer = p .0 }
+    record { starts = two .0; switches = two .1; video = three .1; pointer = p .0 }
 
 pub ready : (b : Board) → 2 ≤ b .resets → Parts b → Ready b
 unfolding registerCheck addressRefused
-ready b h p = record { active = h; taken = rw (p .starts, p .switches, p .strike, p .pointer) }
+ready b h p = record { active = h; taken = rw (p .starts, p .switches, p .video, p .pointer) }
 
 -- switches are judged by the upper four alone
 ltb-same : (k x y : ℕ) → (k < y → k < x) → (y ≤ k → x ≤ k) → ltb k x ≡ ltb k y

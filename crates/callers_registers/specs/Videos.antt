@@ -11,8 +11,9 @@ use Rattle.units.specs.declared.Dots.{Dots}
 use Rattle.refusal.specs.declared.Refusal.{Refusal}
 use Rattle.refusal.specs.Number.{numberOf, doneOf}
 use Rattle.board.specs.declared.Board.{Board}
-use Rattle.board.specs.Parts.{withSwitches, withVideo, withPage}
-use Rattle.registers.specs.Video.{videoCheck, switchesSet, videoSet, setVideoOf}
+use Rattle.board.specs.Parts.{withSwitches, withPage}
+use Rattle.board.specs.Range.{addressRefused}
+use Rattle.registers.specs.Video.{videoCheck, withDots, switchesSet, videoSet, setVideoOf}
 use Rattle.feldrime.specs.declared.BoardAnswer.{BoardAnswer}
 use Rattle.feldrime.specs.Answers.{boardAnswer}
 use Rattle.callers_registers.specs.Ready.{judged}
@@ -23,7 +24,7 @@ videoAnswered b d strike bkgnd rblank = boardAnswer (setVideoOf b d strike bkgnd
 
 -- what is judged, and its number
 abbrev check : Board → Dots → (strike : ℕ) → Refusal
-check b d strike = videoCheck (b .page .starts) (b .page .version) (b .page .switches) d strike
+check b d strike = videoCheck (withDots (b .page) d strike)
 
 abbrev pub videoNumber : Board → Dots → (strike : ℕ) → ℕ
 videoNumber b d strike = numberOf (check b d strike)
@@ -82,14 +83,14 @@ module _ (d : Dots) (strike : ℕ) (bkgnd rblank : Bool) where
     between = videoSet b d₀ strike₀ bkgnd₀ rblank₀
 
     judged-same : videoNumber between d strike ≡ videoNumber b d strike
-    unfolding videoCheck
+    unfolding videoCheck addressRefused
     judged-same = rw (judged (b .page .version) (between .page .switches) (b .page .switches) (switches-stay (b .page .switches) bkgnd₀ rblank₀ .0))
 
     set-over : videoSet between d strike bkgnd rblank ≡ videoSet b d strike bkgnd rblank
     set-over =
         let stay = switches-stay (b .page .switches) bkgnd₀ rblank₀ in
         let same : switchesSet (between .page .switches) bkgnd rblank ≡ switchesSet (b .page .switches) bkgnd rblank = rw (stay .0, stay .1) in
-        ap (λ (k : ℕ). withPage b (withVideo (withSwitches (b .page) k) (record { dots = d; strike = strike }))) same
+        ap (λ (k : ℕ). withPage b (withDots (withSwitches (b .page) k) d strike)) same
 
     pub set-last : {one two : BoardAnswer} → one ≡ videoAnswered b d₀ strike₀ bkgnd₀ rblank₀ → two ≡ videoAnswered (one .board) d strike bkgnd rblank
         → (two .refusal ≡ videoNumber b d strike) × (two .refusal ≡ 0 → two .board ≡ videoSet b d strike bkgnd rblank)

@@ -10,15 +10,16 @@ use lib.ListN.{length, drop}
 use Rattle.lists.specs.Choice.{pick, firstOf, neither}
 use Rattle.units.specs.declared.Clocks.{Clocks}
 use Rattle.refusal.specs.declared.Refusal.the-variants.{Done, Size, Reserved, BackPorch, LineShort, FrontPorch, Width, Range, Room, Address}
-use Rattle.refusal.specs.Number.{numberOf, besideOf, doneOf, wrongSize}
+use Rattle.refusal.specs.Number.{numberOf, besideOf, doneOf}
 use Rattle.refusal.specs.Laws.{done-is, passed, not-refused}
 use Rattle.board.specs.declared.Page.{Page}
 use Rattle.board.specs.declared.Board.{Board}
+use Rattle.board.specs.State.{powerOf}
 use Rattle.board.specs.Range.{memoriesRefused, addressRefused}
-use Rattle.timing.specs.Fields.{visibleOf}
+use Rattle.timing.specs.Fields.{visibleOf, codedOf, tableOf, hbpOf}
 use Rattle.timing.specs.Check.{reservedRefused, backPorchRefused, lineShort, frontPorchRefused, missing, widthRefused, pageCheck, sizeOf, stateRefused, callCheck}
 use Rattle.timing.specs.Laws.{range-ok, call-ok}
-use Rattle.shape.specs.Font.{Font, fontOf, fontRefused}
+use Rattle.shape.specs.Font.{Font, fontOf, fontRefused, groupsRefused}
 use Rattle.line.specs.Line.{lineLength, lineDots, drawCheck, drawnOf}
 use Rattle.video.specs.At.{lentCheck}
 use Rattle.step.specs.Step.{steppedOf, stepCheck, stepOf}
@@ -58,20 +59,38 @@ page-not-three p =
     go false false false false false true e = omega arith
     go false false false false false false e = omega arith
 
-call-three : (b : Board) (size : Bool) → numberOf (callCheck b (wrongSize size) false false) ≡ 3 → size ≡ true
-unfolding callCheck
-call-three b true e = refl
-call-three b false e = absurd (go (doneOf (pageCheck (b .page))) (stateRefused b || false) e)
-  where
-    go : (d s : Bool) → numberOf (pick (not d) (pageCheck (b .page)) (pick s Range Done)) ≡ 3 → ⊥
-    go false s e = page-not-three (b .page) e
-    go true true e = omega arith
-    go true false e = omega arith
+-- what is lent, by whether a size is wrong and whether a group is refused
+module _ (b : Board) where
+  abbrev answered : (size group : Bool) → ℕ
+  answered size group = numberOf (callCheck b (pick size Size (pick group Address Done)) false false)
 
-call-size : (b : Board) (size : Bool) → (numberOf (callCheck b (wrongSize size) false false) ≡ 3 → ⊥) → size ≡ false
-unfolding callCheck
-call-size b true e = absurd (e refl)
-call-size b false e = refl
+  -- where nothing of it is, the page's own answer and 7
+  own-else : (n : ℕ) → (n ≡ 7 → ⊥) → (n ≡ 0 → ⊥) → (numberOf (pageCheck (b .page)) ≡ n → ⊥) → answered false false ≡ n → ⊥
+  unfolding callCheck
+  own-else n no-7 no-0 own = go (doneOf (pageCheck (b .page))) (stateRefused b || false)
+    where
+      go : (d s : Bool) → numberOf (pick (not d) (pageCheck (b .page)) (pick s Range Done)) ≡ n → ⊥
+      go false s e = own e
+      go true true e = no-7 (sym e)
+      go true false e = no-0 (sym e)
+
+  call-three : (size group : Bool) → answered size group ≡ 3 → size ≡ true
+  unfolding callCheck
+  call-three true group e = refl
+  call-three false true e = absurd (omega arith)
+  call-three false false e = absurd (own-else 3 (λ q. omega arith) (λ q. omega arith) (page-not-three (b .page)) e)
+
+  call-twelve : (numberOf (pageCheck (b .page)) ≡ 12 → ⊥) → (size group : Bool) → answered size group ≡ 12 → (size ≡ false) × (group ≡ true)
+  unfolding callCheck
+  call-twelve own true group e = absurd (omega arith)
+  call-twelve own false true e = (refl, refl)
+  call-twelve own false false e = absurd (own-else 12 (λ q. omega arith) (λ q. omega arith) own e)
+
+  call-fine : (size group : Bool) → (answered size group ≡ 3 → ⊥) → (answered size group ≡ 12 → ⊥) → (size ≡ false) × (group ≡ false)
+  unfolding callCheck
+  call-fine true group three twelve = absurd (three refl)
+  call-fine false true three twelve = absurd (twelve refl)
+  call-fine false false three twelve = (refl, refl)
 
 -- a step's own answer
 step-answer : (b : Board) (chars attrs : List ℕ) (f : Font) → stepOf b chars attrs f .refusal ≡ stepCheck b chars attrs f
@@ -82,24 +101,24 @@ step-answer b chars attrs f = go (doneOf (stepCheck b chars attrs f)) refl
     go true t = rw t (sym (done-is _ t))
     go false t = rw t
 
-pub step-by-value : (b : Board) (chars attrs words flags unshifted shifted : List ℕ) {s : StepBy} → s ≡ stepNumbers b chars attrs words flags unshifted shifted
-    → s .answer .refusal ≡ numberOf (stepCheck b chars attrs (fontOf words flags unshifted shifted))
+pub step-by-value : (b : Board) (chars attrs words flags unshifted shifted groups : List ℕ) {s : StepBy} → s ≡ stepNumbers b chars attrs words flags unshifted shifted groups
+    → s .answer .refusal ≡ numberOf (stepCheck b chars attrs (fontOf words flags unshifted shifted groups))
 unfolding numbered
-step-by-value b chars attrs words flags unshifted shifted e =
-    ap (λ (x : StepBy). x .answer .refusal) e ∙ ap numberOf (step-answer b chars attrs (fontOf words flags unshifted shifted))
+step-by-value b chars attrs words flags unshifted shifted groups e =
+    ap (λ (x : StepBy). x .answer .refusal) e ∙ ap numberOf (step-answer b chars attrs (fontOf words flags unshifted shifted groups))
 
-pub step-beside : (b : Board) (chars attrs words flags unshifted shifted : List ℕ) {s : StepBy} → s ≡ stepNumbers b chars attrs words flags unshifted shifted
-    → s .answer .beside ≡ besideOf (stepCheck b chars attrs (fontOf words flags unshifted shifted))
+pub step-beside : (b : Board) (chars attrs words flags unshifted shifted groups : List ℕ) {s : StepBy} → s ≡ stepNumbers b chars attrs words flags unshifted shifted groups
+    → s .answer .beside ≡ besideOf (stepCheck b chars attrs (fontOf words flags unshifted shifted groups))
 unfolding numbered
-step-beside b chars attrs words flags unshifted shifted e =
-    ap (λ (x : StepBy). x .answer .beside) e ∙ ap besideOf (step-answer b chars attrs (fontOf words flags unshifted shifted))
+step-beside b chars attrs words flags unshifted shifted groups e =
+    ap (λ (x : StepBy). x .answer .beside) e ∙ ap besideOf (step-answer b chars attrs (fontOf words flags unshifted shifted groups))
 
 -- ---- the calls, one after the other
 
-module _ (numbers chars attrs words flags unshifted shifted : List ℕ) (line room : ℕ) {m : BoardAnswer} (made : m ≡ boardFor numbers) where
+module _ (numbers chars attrs words flags unshifted shifted groups : List ℕ) (line room : ℕ) {m : BoardAnswer} (made : m ≡ boardFor numbers) where
   -- what the call that draws answers
   abbrev answer : Answer
-  answer = answerOf (lineDrawCheck numbers chars attrs (fontOf words flags unshifted shifted) line room)
+  answer = answerOf (lineDrawCheck numbers chars attrs (fontOf words flags unshifted shifted groups) line room)
 
   made-is : m .refusal ≡ numberOf (numbersCheck numbers)
   unfolding boardFor
@@ -113,8 +132,21 @@ module _ (numbers chars attrs words flags unshifted shifted : List ℕ) (line ro
   unfolding boardFor
   own-is = ap (λ (x : BoardAnswer). record { refusal = x .refusal; beside = x .beside }) made
 
-  abbrev lent : Bool
-  lent = memoriesRefused (length chars) (length attrs) || fontRefused (fontOf words flags unshifted shifted)
+  -- a size that is wrong, and a group that is refused
+  abbrev short : Bool
+  short = memoriesRefused (length chars) (length attrs) || fontRefused (fontOf words flags unshifted shifted groups)
+
+  abbrev group : Bool
+  group = groupsRefused groups
+
+  -- the page of the board that is made has no 12 of its own
+  made-page : numberOf (pageCheck (m .board .page)) ≡ 12 → ⊥
+  unfolding boardFor numbersCheck pageCheck addressRefused codedOf tableOf hbpOf
+  made-page e = go (doneOf (numbersCheck numbers)) refl (ap (λ (x : BoardAnswer). numberOf (pageCheck (x .board .page))) (sym made) ∙ e)
+    where
+      go : (t : Bool) → doneOf (numbersCheck numbers) ≡ t → numberOf (pageCheck (pick t (numbersBoard numbers) powerOf .page)) ≡ 12 → ⊥
+      go true d q = let ok = passed (numbersRefused numbers) Size _ refl (done-is _ d) .1 in omega (arith, sym (ap numberOf ok) ∙ q)
+      go false d q = omega arith
 
   -- 3 for the numbers, which a page's own answer never is
   pub numbers-three : m .refusal ≡ 3 → aloneOf 3 ≡ answer
@@ -133,19 +165,29 @@ module _ (numbers chars attrs words flags unshifted shifted : List ℕ) (line ro
       go true t = absurd (e (made-is ∙ rw t))
       go false t = t
 
-  module _ {s : StepBy} (tried : s ≡ stepNumbers (m .board) chars attrs words flags unshifted shifted) where
+  module _ {s : StepBy} (tried : s ≡ stepNumbers (m .board) chars attrs words flags unshifted shifted groups) where
+    step-is : s .answer .refusal ≡ numberOf (stepCheck (m .board) chars attrs (fontOf words flags unshifted shifted groups))
+    step-is = step-by-value (m .board) chars attrs words flags unshifted shifted groups tried
+
     -- 3 for what is lent: a step answers it whatever the board is
     pub lent-three : s .answer .refusal ≡ 3 → aloneOf 3 ≡ answer
     unfolding lineDrawCheck drawCheck callCheck
-    lent-three e = rw (call-three (m .board) lent (sym (step-by-value (m .board) chars attrs words flags unshifted shifted tried) ∙ e)) (go (numbersRefused numbers))
+    lent-three e = rw (call-three (m .board) short group (sym step-is ∙ e)) (go (numbersRefused numbers))
       where
         go : (t : Bool) → aloneOf 3 ≡ answerOf (pick t Size Size)
         go true = refl
         go false = refl
 
-    module _ (no-three : m .refusal ≡ 3 → ⊥) (none-lent : s .answer .refusal ≡ 3 → ⊥) where
-      lent-fine : lent ≡ false
-      lent-fine = call-size (m .board) lent (λ e. none-lent (step-by-value (m .board) chars attrs words flags unshifted shifted tried ∙ e))
+    -- then 12, which is the groups'
+    pub lent-twelve : (m .refusal ≡ 3 → ⊥) → s .answer .refusal ≡ 12 → aloneOf 12 ≡ answer
+    unfolding lineDrawCheck drawCheck callCheck
+    lent-twelve no-three e =
+        let lent = call-twelve (m .board) made-page short group (sym step-is ∙ e) in
+        rw (numbers-fine no-three, lent .0, lent .1)
+
+    module _ (no-three : m .refusal ≡ 3 → ⊥) (none-short : s .answer .refusal ≡ 3 → ⊥) (none-grouped : s .answer .refusal ≡ 12 → ⊥) where
+      lent-fine : (short ≡ false) × (group ≡ false)
+      lent-fine = call-fine (m .board) short group (λ e. none-short (step-is ∙ e)) (λ e. none-grouped (step-is ∙ e))
 
       -- then the page's own
       pub pages-own : (m .refusal ≡ 0 → ⊥) → own ≡ answer
@@ -153,7 +195,7 @@ module _ (numbers chars attrs words flags unshifted shifted : List ℕ) (line ro
       pages-own e =
           let page : own ≡ answerOf (pageCheck (pageAt numbers 1)) = own-is ∙ rw (numbers-fine no-three) in
           let refused : doneOf (pageCheck (pageAt numbers 1)) ≡ false = ne-eqb _ _ (λ q. e (ap (λ (x : Answer). x .refusal) page ∙ q)) in
-          rw (numbers-fine no-three, lent-fine, refused) page
+          rw (numbers-fine no-three, lent-fine .0, lent-fine .1, refused) page
 
       module _ (done : m .refusal ≡ 0) {z : SizeAnswer} (size : z ≡ sizeFor numbers) where
         page-done : pageCheck (pageAt numbers 1) ≡ Done
@@ -174,15 +216,15 @@ module _ (numbers chars attrs words flags unshifted shifted : List ℕ) (line ro
         -- then 7 for a line that is not visible, 8 for a buffer that is too short
         pub hidden : z .lines ≤ line → aloneOf 7 ≡ answer
         unfolding lineDrawCheck drawCheck callCheck
-        hidden h = rw (numbers-fine no-three, lent-fine, page-done, le-leb (visibleOf (pageAt numbers 1) .0) line (rw lines-are at h), or-true (stateRefused (numbersBoard numbers)))
+        hidden h = rw (numbers-fine no-three, lent-fine .0, lent-fine .1, page-done, le-leb (visibleOf (pageAt numbers 1) .0) line (rw lines-are at h), or-true (stateRefused (numbersBoard numbers)))
 
         pub no-room : line < z .lines → room < z .dots → aloneOf 8 ≡ answer
         unfolding lineDrawCheck drawCheck callCheck
-        no-room h k = rw (numbers-fine no-three, lent-fine, page-done, lt-leb (visibleOf (pageAt numbers 1) .0) line (rw lines-are at h), at-zero, lt-ltb room (lineLength (numbersBoard numbers)) (rw dots-are at k))
+        no-room h k = rw (numbers-fine no-three, lent-fine .0, lent-fine .1, page-done, lt-leb (visibleOf (pageAt numbers 1) .0) line (rw lines-are at h), at-zero, lt-ltb room (lineLength (numbersBoard numbers)) (rw dots-are at k))
 
         pub nothing : line < z .lines → z .dots ≤ room → aloneOf 0 ≡ answer
         unfolding lineDrawCheck drawCheck callCheck
-        nothing h k = rw (numbers-fine no-three, lent-fine, page-done, lt-leb (visibleOf (pageAt numbers 1) .0) line (rw lines-are at h), at-zero, le-ltb room (lineLength (numbersBoard numbers)) (rw dots-are at k))
+        nothing h k = rw (numbers-fine no-three, lent-fine .0, lent-fine .1, page-done, lt-leb (visibleOf (pageAt numbers 1) .0) line (rw lines-are at h), at-zero, le-ltb room (lineLength (numbersBoard numbers)) (rw dots-are at k))
 
 -- ---- a line that nothing refuses can be stepped, and what stepping leaves is the line drawn; on a refusal the buffer stays
 

@@ -60,10 +60,10 @@ clock-is b e field line p q r =
 
 -- ---- the loop: the board stands at column c of the line, and steps
 
-module _ {b : Board} {chars attrs words flags unshifted shifted : List ℕ} {line room : ℕ}
-    (s : Steppable b chars attrs (fontOf words flags unshifted shifted) line room) where
+module _ {b : Board} {chars attrs words flags unshifted shifted groups : List ℕ} {line room : ℕ}
+    (s : Steppable b chars attrs (fontOf words flags unshifted shifted groups) line room) where
   pub width : b .page .video .dots .0 ≤ 12
-  width = fits b chars attrs (fontOf words flags unshifted shifted) (s .accepted) .page .most
+  width = fits b chars attrs (fontOf words flags unshifted shifted groups) (s .accepted) .page .most
 
   -- n turns have room
   pub turns-fit : {n : ℕ} → n ≡ hactOf (b .page) → n * b .page .video .dots .0 ≤ room
@@ -71,23 +71,23 @@ module _ {b : Board} {chars attrs words flags unshifted shifted : List ℕ} {lin
 
   module _ (field : ℕ) (small : field < 256) where
     abbrev pub atColumn : ℕ → Board
-    atColumn c = after b chars attrs (fontOf words flags unshifted shifted) (clockOf b field line c)
+    atColumn c = after b chars attrs (fontOf words flags unshifted shifted groups) (clockOf b field line c)
 
     abbrev pub columnOf : ℕ → List ℕ
-    columnOf c = columnDots b chars attrs (fontOf words flags unshifted shifted) line field c
+    columnOf c = columnDots b chars attrs (fontOf words flags unshifted shifted groups) line field c
 
     pub each : (c : ℕ) → length (columnOf c) ≡ b .page .video .dots .0
-    each = length-dots b chars attrs (fontOf words flags unshifted shifted) line field (fits b chars attrs (fontOf words flags unshifted shifted) (s .accepted) .page)
+    each = length-dots b chars attrs (fontOf words flags unshifted shifted groups) line field (fits b chars attrs (fontOf words flags unshifted shifted groups) (s .accepted) .page)
 
     pub line-begins : {n : Clocks} {a : BoardAnswer} → n ≡ clocks (clockOf b field line 0)
         → a ≡ boardAnswer (stateOf b chars attrs (n .0) .refusal) (stateOf b chars attrs (n .0) .board) → a .board ≡ atColumn 0
-    line-begins e q = ap (λ (x : BoardAnswer). x .board) q ∙ rw e (at-once b chars attrs (fontOf words flags unshifted shifted) (s .accepted) (clockOf b field line 0) .1)
+    line-begins e q = ap (λ (x : BoardAnswer). x .board) q ∙ rw e (at-once b chars attrs (fontOf words flags unshifted shifted groups) (s .accepted) (clockOf b field line 0) .1)
 
     next-clock : (c : ℕ) → clockOf b field line (c + 1) ≡ suc (clockOf b field line c)
     unfolding clockOf
     next-clock c = omega arith
 
-    module _ (c : ℕ) {at : Board} (here : at ≡ atColumn c) {x : StepBy} (step : x ≡ stepNumbers at chars attrs words flags unshifted shifted) where
+    module _ (c : ℕ) {at : Board} (here : at ≡ atColumn c) {x : StepBy} (step : x ≡ stepNumbers at chars attrs words flags unshifted shifted groups) where
       pub goes-on : x .board ≡ atColumn (c + 1)
       unfolding after
       goes-on = rw (step, here, next-clock c)
@@ -96,7 +96,7 @@ module _ {b : Board} {chars attrs words flags unshifted shifted : List ℕ} {lin
         shows : take (b .page .video .dots .0) (x .answer .dots) ≡ columnOf c
         unfolding numbered
         shows =
-            rw (step, here, dots-are b chars attrs (fontOf words flags unshifted shifted) (s .accepted) field line c (s .visible) h, mod-eq-of-lt small)
+            rw (step, here, dots-are b chars attrs (fontOf words flags unshifted shifted groups) (s .accepted) field line c (s .visible) h, mod-eq-of-lt small)
             (take-at _ _ (b .page .video .dots .0) (each c))
 
         pub wide : b .page .video .dots .0 ≡ length (take (b .page .video .dots .0) (x .answer .dots))

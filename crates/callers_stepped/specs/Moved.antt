@@ -36,9 +36,9 @@ use Rattle.callers_stepped.specs.Pictures.{pictured, dots-long, same-len
 
 -- ---- a picture drawn over itself
 
-module _ (numbers chars attrs words flags unshifted shifted : List ℕ) (field : ℕ) where
+module _ (numbers chars attrs words flags unshifted shifted groups : List ℕ) (field : ℕ) where
   abbrev f : Font
-  f = fontOf words flags unshifted shifted
+  f = fontOf words flags unshifted shifted groups
 
   abbrev draw : List ℕ → List ℕ
   draw = pictureDrawn numbers chars attrs f field
@@ -58,7 +58,7 @@ module _ (numbers chars attrs words flags unshifted shifted : List ℕ) (field :
       go : (t : Bool) → doneOf (pictureDrawCheck numbers chars attrs f (length out)) ≡ t → length (draw out) ≡ length out
       go true e =
           let zero = eqb-true _ _ e in
-          same-length numbers chars attrs words flags unshifted shifted field out zero (draw out) (pictured numbers chars attrs words flags unshifted shifted field out zero)
+          same-length numbers chars attrs words flags unshifted shifted groups field out zero (draw out) (pictured numbers chars attrs words flags unshifted shifted groups field out zero)
       go false e = ap length (refused-kept out e)
 
   pub drawn-again : (out : List ℕ) → draw (draw out) ≡ draw out
@@ -71,67 +71,67 @@ module _ (numbers chars attrs words flags unshifted shifted : List ℕ) (field :
           let dots = pictureDots b chars attrs f field in
           let zero = eqb-true _ _ e in
           let again : numberOf (pictureDrawCheck numbers chars attrs f (length (draw out))) ≡ 0 = rw (drawn-long out) zero in
-          let first = pictured numbers chars attrs words flags unshifted shifted field out zero in
-          let long = dots-long numbers chars attrs words flags unshifted shifted field out zero in
-          pictured numbers chars attrs words flags unshifted shifted field (draw out) again
+          let first = pictured numbers chars attrs words flags unshifted shifted groups field out zero in
+          let long = dots-long numbers chars attrs words flags unshifted shifted groups field out zero in
+          pictured numbers chars attrs words flags unshifted shifted groups field (draw out) again
           ∙ ap (λ (l : List ℕ). dots ++ l) (ap (drop (pictureLength (b .page))) first ∙ drop-at dots (drop (pictureLength (b .page)) out) (pictureLength (b .page)) long)
           ∙ sym first
 
 -- ---- moved there and drawn, moved back and drawn
 
-pub moved-drawn : (numbers chars attrs words flags unshifted shifted : List ℕ) (field : ℕ) (out : List ℕ) {n c m one two : List ℕ} {a : Answer}
+pub moved-drawn : (numbers chars attrs words flags unshifted shifted groups : List ℕ) (field : ℕ) (out : List ℕ) {n c m one two : List ℕ} {a : Answer}
     → n ≡ toTableNumbers numbers chars → c ≡ toTableChars numbers chars
-    → one ≡ pictureDrawn n c attrs (fontOf words flags unshifted shifted) field out
+    → one ≡ pictureDrawn n c attrs (fontOf words flags unshifted shifted groups) field out
     → m ≡ toSheetNumbers n c
-    → a ≡ answerOf (pictureDrawCheck m c attrs (fontOf words flags unshifted shifted) (length one))
-    → two ≡ pictureDrawn m c attrs (fontOf words flags unshifted shifted) field one
-    → (a ≡ answerOf (pictureDrawCheck numbers chars attrs (fontOf words flags unshifted shifted) (length out)))
-    × (two ≡ pictureDrawn numbers chars attrs (fontOf words flags unshifted shifted) field out)
-moved-drawn numbers chars attrs words flags unshifted shifted field out {n} {c} {m} {one} {two} {a} ne ce first me ae second =
-    let f = fontOf words flags unshifted shifted in
+    → a ≡ answerOf (pictureDrawCheck m c attrs (fontOf words flags unshifted shifted groups) (length one))
+    → two ≡ pictureDrawn m c attrs (fontOf words flags unshifted shifted groups) field one
+    → (a ≡ answerOf (pictureDrawCheck numbers chars attrs (fontOf words flags unshifted shifted groups) (length out)))
+    × (two ≡ pictureDrawn numbers chars attrs (fontOf words flags unshifted shifted groups) field out)
+moved-drawn numbers chars attrs words flags unshifted shifted groups field out {n} {c} {m} {one} {two} {a} ne ce first me ae second =
+    let f = fontOf words flags unshifted shifted groups in
     let n′ = toTableNumbers numbers chars in
     let c′ = toTableChars numbers chars in
     let there = table-same numbers chars in
     let back = same-on there (sheet-same n′ c′) in
     let one-is : one ≡ pictureDrawn numbers chars attrs f field out = rw (first, ne, ce) (sym (there .pictured attrs f field out)) in
-    let long : length one ≡ length out = ap length one-is ∙ drawn-long numbers chars attrs words flags unshifted shifted field out in (
+    let long : length one ≡ length out = ap length one-is ∙ drawn-long numbers chars attrs words flags unshifted shifted groups field out in (
       rw (ae, me, ne, ce, long) (ap answerOf (sym (back .answered attrs f (length out)))),
-      rw (second, me, ne, ce) (sym (back .pictured attrs f field one)) ∙ ap (pictureDrawn numbers chars attrs f field) one-is ∙ drawn-again numbers chars attrs words flags unshifted shifted field out,
+      rw (second, me, ne, ce) (sym (back .pictured attrs f field one)) ∙ ap (pictureDrawn numbers chars attrs f field) one-is ∙ drawn-again numbers chars attrs words flags unshifted shifted groups field out,
     )
 
 -- ---- moved, and stepped
 
-module _ (numbers chars attrs words flags unshifted shifted : List ℕ) where
+module _ (numbers chars attrs words flags unshifted shifted groups : List ℕ) where
   abbrev font : Font
-  font = fontOf words flags unshifted shifted
+  font = fontOf words flags unshifted shifted groups
 
   abbrev start : Board
   start = boardFor numbers .board
 
   -- a step that is refused leaves the board, and so does the next one
-  stays : doneOf (stepCheck start chars attrs font) ≡ false → (n : ℕ) → afterC numbers chars attrs words flags unshifted shifted n ≡ start
+  stays : doneOf (stepCheck start chars attrs font) ≡ false → (n : ℕ) → afterC numbers chars attrs words flags unshifted shifted groups n ≡ start
   unfolding afterC stepOf
   stays e zero = refl
   stays e (suc n) = ap (λ (x : Board). stepOf x chars attrs font .board) (stays e n) ∙ rw e
 
-  reached : (n : ℕ) → steppedTo start chars attrs font n .board ≡ afterC numbers chars attrs words flags unshifted shifted n
+  reached : (n : ℕ) → steppedTo start chars attrs font n .board ≡ afterC numbers chars attrs words flags unshifted shifted groups n
   unfolding steppedTo
   reached n = go (doneOf (stepCheck start chars attrs font)) refl
     where
       go : (t : Bool) → doneOf (stepCheck start chars attrs font) ≡ t
-          → pick t (stateOf start chars attrs n .board) start ≡ afterC numbers chars attrs words flags unshifted shifted n
-      go true e = at-once start chars attrs font (done-is _ e) n .1 ∙ sym (steps-made numbers chars attrs words flags unshifted shifted n)
+          → pick t (stateOf start chars attrs n .board) start ≡ afterC numbers chars attrs words flags unshifted shifted groups n
+      go true e = at-once start chars attrs font (done-is _ e) n .1 ∙ sym (steps-made numbers chars attrs words flags unshifted shifted groups n)
       go false e = sym (stays e n)
 
   pub stepped-after : (n : ℕ) {m : BoardAnswer} → m ≡ boardFor numbers → {r : BoardAnswer} → r ≡ steppedTo (m .board) chars attrs font (0 + n)
-      → {s : StepBy} → s ≡ stepNumbers (r .board) chars attrs words flags unshifted shifted → s .answer ≡ stepC numbers chars attrs words flags unshifted shifted n
-  stepped-after n me re se = rw (se, re, me, zero-add n) (ap (λ (x : Board). stepNumbers x chars attrs words flags unshifted shifted .answer) (reached n))
+      → {s : StepBy} → s ≡ stepNumbers (r .board) chars attrs words flags unshifted shifted groups → s .answer ≡ stepC numbers chars attrs words flags unshifted shifted groups n
+  stepped-after n me re se = rw (se, re, me, zero-add n) (ap (λ (x : Board). stepNumbers x chars attrs words flags unshifted shifted groups .answer) (reached n))
 
   -- after either move
-  pub table-stepped : (k : ℕ) {n c : List ℕ} → n ≡ toTableNumbers numbers chars → c ≡ toTableChars numbers chars → {a : StepAnswer} → a ≡ stepC n c attrs words flags unshifted shifted k
-      → a ≡ stepC numbers chars attrs words flags unshifted shifted k
-  table-stepped k ne ce ae = rw (ae, ne, ce) (sym (table-same numbers chars .stepped attrs words flags unshifted shifted k))
+  pub table-stepped : (k : ℕ) {n c : List ℕ} → n ≡ toTableNumbers numbers chars → c ≡ toTableChars numbers chars → {a : StepAnswer} → a ≡ stepC n c attrs words flags unshifted shifted groups k
+      → a ≡ stepC numbers chars attrs words flags unshifted shifted groups k
+  table-stepped k ne ce ae = rw (ae, ne, ce) (sym (table-same numbers chars .stepped attrs words flags unshifted shifted groups k))
 
-  pub sheet-stepped : (k : ℕ) {n : List ℕ} → n ≡ toSheetNumbers numbers chars → {a : StepAnswer} → a ≡ stepC n chars attrs words flags unshifted shifted k
-      → a ≡ stepC numbers chars attrs words flags unshifted shifted k
-  sheet-stepped k ne ae = rw (ae, ne) (sym (sheet-same numbers chars .stepped attrs words flags unshifted shifted k))
+  pub sheet-stepped : (k : ℕ) {n : List ℕ} → n ≡ toSheetNumbers numbers chars → {a : StepAnswer} → a ≡ stepC n chars attrs words flags unshifted shifted groups k
+      → a ≡ stepC numbers chars attrs words flags unshifted shifted groups k
+  sheet-stepped k ne ae = rw (ae, ne) (sym (sheet-same numbers chars .stepped attrs words flags unshifted shifted groups k))

@@ -48,13 +48,13 @@ again : (xs p : List ℕ) (a d : ℕ) → take d (drop a xs) ≡ p → take a xs
 again xs p a d e =
     rw (← e, ← drop-drop d a xs, take-append-drop d (drop a xs)) (take-append-drop a xs)
 
-module _ (numbers chars attrs words flags unshifted shifted : List ℕ) (field : ℕ) (out₀ : List ℕ)
-    (done : answerOf (pictureDrawCheck numbers chars attrs (fontOf words flags unshifted shifted) (length out₀)) .refusal ≡ 0) where
+module _ (numbers chars attrs words flags unshifted shifted groups : List ℕ) (field : ℕ) (out₀ : List ℕ)
+    (done : answerOf (pictureDrawCheck numbers chars attrs (fontOf words flags unshifted shifted groups) (length out₀)) .refusal ≡ 0) where
   abbrev b : Board
   b = numbersBoard numbers
 
   abbrev f : Font
-  f = fontOf words flags unshifted shifted
+  f = fontOf words flags unshifted shifted groups
 
   taken : (numbersRefused numbers ≡ false) × (pictureCheck b (lentCheck chars attrs f) (length out₀) ≡ Done)
   unfolding pictureDrawCheck
@@ -67,7 +67,7 @@ module _ (numbers chars attrs words flags unshifted shifted : List ℕ) (field :
   step-ok : stepCheck b chars attrs f ≡ Done
   unfolding numbersCheck pictureCheck
   step-ok =
-      fit-from-c numbers chars attrs words flags unshifted shifted (rw (taken .0) page-ok)
+      fit-from-c numbers chars attrs words flags unshifted shifted groups (rw (taken .0) page-ok)
       (call-passed b (lentCheck chars attrs f) false (ltb (length out₀) (pictureLength (b .page))) (taken .1) .lent-fine)
 
   page : Accepted (b .page)

@@ -37,22 +37,22 @@ unfolding on after
 later b chars attrs f n zero = ap (after b chars attrs f) (sym (add-zero n))
 later b chars attrs f n (suc i) = ap (λ (x : Board). stepOf x chars attrs f .board) (later b chars attrs f n i) ∙ ap (after b chars attrs f) (sym (add-suc n i))
 
-pub goes : (chars attrs words flags unshifted shifted : List ℕ) (i : ℕ) (from : Board) {at : Board} → at ≡ on from chars attrs (fontOf words flags unshifted shifted) i
-    → {s : StepBy} → s ≡ stepNumbers at chars attrs words flags unshifted shifted → s .board ≡ on from chars attrs (fontOf words flags unshifted shifted) (i + 1)
+pub goes : (chars attrs words flags unshifted shifted groups : List ℕ) (i : ℕ) (from : Board) {at : Board} → at ≡ on from chars attrs (fontOf words flags unshifted shifted groups) i
+    → {s : StepBy} → s ≡ stepNumbers at chars attrs words flags unshifted shifted groups → s .board ≡ on from chars attrs (fontOf words flags unshifted shifted groups) (i + 1)
 unfolding on
-goes chars attrs words flags unshifted shifted i from here e = rw (e, here, add-one i)
+goes chars attrs words flags unshifted shifted groups i from here e = rw (e, here, add-one i)
 
-module _ (b : Board) (chars attrs words flags unshifted shifted : List ℕ) where
+module _ (b : Board) (chars attrs words flags unshifted shifted groups : List ℕ) where
   abbrev font : Font
-  font = fontOf words flags unshifted shifted
+  font = fontOf words flags unshifted shifted groups
 
-  module _ (n : ℕ) {s : StepBy} (tried : s ≡ stepNumbers b chars attrs words flags unshifted shifted) where
+  module _ (n : ℕ) {s : StepBy} (tried : s ≡ stepNumbers b chars attrs words flags unshifted shifted groups) where
     pub not-stepped : (s .answer .refusal ≡ 0 → ⊥) → record { refusal = s .answer .refusal; beside = s .answer .beside; board = b } ≡ steppedTo b chars attrs font n
     unfolding steppedTo
     not-stepped e =
-        let r : s .answer .refusal ≡ numberOf (stepCheck b chars attrs font) = step-by-value b chars attrs words flags unshifted shifted tried in
+        let r : s .answer .refusal ≡ numberOf (stepCheck b chars attrs font) = step-by-value b chars attrs words flags unshifted shifted groups tried in
         let refused : doneOf (stepCheck b chars attrs font) ≡ false = ne-eqb _ _ (λ q. e (r ∙ q)) in
-        let k = step-beside b chars attrs words flags unshifted shifted tried in
+        let k = step-beside b chars attrs words flags unshifted shifted groups tried in
         rw refused (λ i. record { refusal = r i; beside = k i; board = b })
 
     -- the state asked for at a clock is that of the steps so far, and steps go on from there
@@ -60,7 +60,7 @@ module _ (b : Board) (chars attrs words flags unshifted shifted : List ℕ) wher
         → {at : Board} → at ≡ on (a .board) chars attrs font i → from + i ≡ n → record { refusal = 0; beside = 0; board = at } ≡ steppedTo b chars attrs font n
     unfolding steppedTo
     stepped e from i {a} asked here q =
-        let r : s .answer .refusal ≡ numberOf (stepCheck b chars attrs font) = step-by-value b chars attrs words flags unshifted shifted tried in
+        let r : s .answer .refusal ≡ numberOf (stepCheck b chars attrs font) = step-by-value b chars attrs words flags unshifted shifted groups tried in
         let ok : stepCheck b chars attrs font ≡ Done = done-is _ (eq-eqb _ _ (sym r ∙ e)) in
         let start : a .board ≡ after b chars attrs font from = ap (λ (x : BoardAnswer). x .board) asked ∙ at-once b chars attrs font ok from .1 in
         let last = here ∙ ap (λ (x : Board). on x chars attrs font i) start ∙ later b chars attrs font from i ∙ ap (after b chars attrs font) q ∙ sym (at-once b chars attrs font ok n .1) in

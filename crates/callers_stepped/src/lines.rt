@@ -36,11 +36,12 @@ fn step_line(
     flags: &[u8],
     unshifted: &[u8],
     shifted: &[u8],
+    groups: &[u8],
     line: u32,
     field: u8,
 )
-    requires { ⌜ Steppable b (now chars) (now attrs) (fontNow words flags unshifted shifted) line (length (now out)) ⌝ }
-    ensures { λ _. ⌜ now (out .exit) ≡ lineOver b (now (chars .entry)) (now (attrs .entry)) (lentFont words flags unshifted shifted) line field (now (out .entry)) ⌝ }
+    requires { ⌜ Steppable b (now chars) (now attrs) (fontNow words flags unshifted shifted groups) line (length (now out)) ⌝ }
+    ensures { λ _. ⌜ now (out .exit) ≡ lineOver b (now (chars .entry)) (now (attrs .entry)) (lentFont words flags unshifted shifted groups) line field (now (out .entry)) ⌝ }
 {
     let page = b.page;
     let t = timing::timing_of(page);
@@ -52,7 +53,7 @@ fn step_line(
     while c < n {
         let d = b.page.video.dots.0 as usize;
         let a = c * d;
-        let s = feldrime::step_numbers(at, chars, attrs, words, flags, unshifted, shifted);
+        let s = feldrime::step_numbers(at, chars, attrs, words, flags, unshifted, shifted, groups);
         let dots = s.answer.dots;
         bytes::copy(&dots[..d], &mut out[a..]);
         at = s.board;
@@ -70,7 +71,8 @@ fn alone(number: u32) -> Answer
     }
 }
 
-// What the call that draws answers, from the calls that step. A step answers 3 for what is lent whatever the board is.
+// What the call that draws answers, from the calls that step. A step answers 3 and 12 for what is lent whatever the board is, and the page of a board
+// that was made, or of power's, has no 12 of its own.
 fn line_answer(
     numbers: &[u8],
     chars: &[u8],
@@ -79,10 +81,11 @@ fn line_answer(
     flags: &[u8],
     unshifted: &[u8],
     shifted: &[u8],
+    groups: &[u8],
     line: u32,
     room: usize,
 ) -> Answer
-    ensures { λ r. let f = lentFont words flags unshifted shifted in
+    ensures { λ r. let f = lentFont words flags unshifted shifted groups in
         ⌜ r ≡ answerOf (lineDrawCheck (now (numbers .entry)) (now (chars .entry)) (now (attrs .entry)) f line room) ⌝ }
 {
     let made = feldrime::feldrime_board_of(numbers);
@@ -90,9 +93,21 @@ fn line_answer(
         return alone(3);
     }
     let board = made.board;
-    let tried = feldrime::step_numbers(board, chars, attrs, words, flags, unshifted, shifted);
+    let tried = feldrime::step_numbers(
+        board,
+        chars,
+        attrs,
+        words,
+        flags,
+        unshifted,
+        shifted,
+        groups,
+    );
     if tried.answer.refusal == 3 {
         return alone(3);
+    }
+    if tried.answer.refusal == 12 {
+        return alone(12);
     }
     if made.refusal != 0 {
         return Answer {
@@ -119,11 +134,12 @@ pub fn line_by_steps(
     flags: &[u8],
     unshifted: &[u8],
     shifted: &[u8],
+    groups: &[u8],
     line: u32,
     field: u8,
     out: &mut [u8],
 ) -> Answer
-    ensures { λ r. ⌜ DrawsLineFor (now (numbers .entry)) (now (chars .entry)) (now (attrs .entry)) (lentFont words flags unshifted shifted)
+    ensures { λ r. ⌜ DrawsLineFor (now (numbers .entry)) (now (chars .entry)) (now (attrs .entry)) (lentFont words flags unshifted shifted groups)
         line field (now (out .entry)) r (now (out .exit)) ⌝ }
 {
     let room = out.len();
@@ -135,6 +151,7 @@ pub fn line_by_steps(
         flags,
         unshifted,
         shifted,
+        groups,
         line,
         room,
     );
@@ -150,6 +167,7 @@ pub fn line_by_steps(
             flags,
             unshifted,
             shifted,
+            groups,
             line,
             field,
         );
@@ -166,6 +184,7 @@ pub fn drawn_both_ways(
     flags: &[u8],
     unshifted: &[u8],
     shifted: &[u8],
+    groups: &[u8],
     line: u32,
     field: u8,
     out: &mut [u8],
@@ -181,6 +200,7 @@ pub fn drawn_both_ways(
         flags,
         unshifted,
         shifted,
+        groups,
         line,
         field,
         out,
@@ -193,6 +213,7 @@ pub fn drawn_both_ways(
         flags,
         unshifted,
         shifted,
+        groups,
         line,
         field,
         other,

@@ -15,10 +15,11 @@ pub fn moved_over_picture(
     flags: &[u8],
     unshifted: &[u8],
     shifted: &[u8],
+    groups: &[u8],
     field: u8,
     out: &mut [u8],
 ) -> Answer
-    ensures { λ r. ⌜ DrawsPictureFor (now (numbers .entry)) (now (chars .entry)) (now (attrs .entry)) (lentFont words flags unshifted shifted)
+    ensures { λ r. ⌜ DrawsPictureFor (now (numbers .entry)) (now (chars .entry)) (now (attrs .entry)) (lentFont words flags unshifted shifted groups)
         field (now (out .entry)) r (now (out .exit)) ⌝ }
 {
     feldrime::feldrime_to_table(numbers, chars);
@@ -30,6 +31,7 @@ pub fn moved_over_picture(
         flags,
         unshifted,
         shifted,
+        groups,
         field,
         out,
     );
@@ -42,6 +44,7 @@ pub fn moved_over_picture(
         flags,
         unshifted,
         shifted,
+        groups,
         field,
         out,
     )
@@ -56,9 +59,10 @@ fn step_after(
     flags: &[u8],
     unshifted: &[u8],
     shifted: &[u8],
+    groups: &[u8],
     n: u32,
 ) -> StepAnswer
-    ensures { λ r. ⌜ r ≡ stepC (now (numbers .entry)) (now (chars .entry)) (now (attrs .entry)) (now (words .entry)) (now (flags .entry)) (now (unshifted .entry)) (now (shifted .entry)) n ⌝ }
+    ensures { λ r. ⌜ r ≡ stepC (now (numbers .entry)) (now (chars .entry)) (now (attrs .entry)) (now (words .entry)) (now (flags .entry)) (now (unshifted .entry)) (now (shifted .entry)) (now (groups .entry)) n ⌝ }
 {
     let made = feldrime::feldrime_board_of(numbers);
     let start = made.board;
@@ -70,11 +74,21 @@ fn step_after(
         flags,
         unshifted,
         shifted,
+        groups,
         0,
         n,
     );
     let board = reached.board;
-    let s = feldrime::step_numbers(board, chars, attrs, words, flags, unshifted, shifted);
+    let s = feldrime::step_numbers(
+        board,
+        chars,
+        attrs,
+        words,
+        flags,
+        unshifted,
+        shifted,
+        groups,
+    );
     s.answer
 }
 
@@ -88,14 +102,35 @@ pub fn moved_step(
     flags: &[u8],
     unshifted: &[u8],
     shifted: &[u8],
+    groups: &[u8],
     n: u32,
 ) -> StepAnswer
-    ensures { λ r. ⌜ r ≡ stepC (now (numbers .entry)) (now (chars .entry)) (now (attrs .entry)) (now (words .entry)) (now (flags .entry)) (now (unshifted .entry)) (now (shifted .entry)) n ⌝ }
+    ensures { λ r. ⌜ r ≡ stepC (now (numbers .entry)) (now (chars .entry)) (now (attrs .entry)) (now (words .entry)) (now (flags .entry)) (now (unshifted .entry)) (now (shifted .entry)) (now (groups .entry)) n ⌝ }
 {
     if there {
         feldrime::feldrime_to_table(numbers, chars);
-        return step_after(numbers, chars, attrs, words, flags, unshifted, shifted, n);
+        return step_after(
+            numbers,
+            chars,
+            attrs,
+            words,
+            flags,
+            unshifted,
+            shifted,
+            groups,
+            n,
+        );
     }
     feldrime::feldrime_to_sheet(numbers, chars);
-    step_after(numbers, chars, attrs, words, flags, unshifted, shifted, n)
+    step_after(
+        numbers,
+        chars,
+        attrs,
+        words,
+        flags,
+        unshifted,
+        shifted,
+        groups,
+        n,
+    )
 }

@@ -12,11 +12,12 @@ pub fn line_over_picture(
     flags: &[u8],
     unshifted: &[u8],
     shifted: &[u8],
+    groups: &[u8],
     line: u32,
     field: u8,
     out: &mut [u8],
 ) -> Answer
-    ensures { λ r. ⌜ DrawsPictureFor (now (numbers .entry)) (now (chars .entry)) (now (attrs .entry)) (lentFont words flags unshifted shifted)
+    ensures { λ r. ⌜ DrawsPictureFor (now (numbers .entry)) (now (chars .entry)) (now (attrs .entry)) (lentFont words flags unshifted shifted groups)
         field (now (out .entry)) r (now (out .exit)) ⌝ }
 {
     let drawn = feldrime::feldrime_picture_draw(
@@ -27,6 +28,7 @@ pub fn line_over_picture(
         flags,
         unshifted,
         shifted,
+        groups,
         field,
         out,
     );
@@ -44,6 +46,7 @@ pub fn line_over_picture(
             flags,
             unshifted,
             shifted,
+            groups,
             line,
             field,
             &mut out[a..],

@@ -15,12 +15,13 @@ pub fn stepped_to(
     flags: &[u8],
     unshifted: &[u8],
     shifted: &[u8],
+    groups: &[u8],
     from: u32,
     steps: u32,
 ) -> BoardAnswer
-    ensures { λ r. ⌜ r ≡ steppedTo b (now (chars .entry)) (now (attrs .entry)) (lentFont words flags unshifted shifted) (from + steps) ⌝ }
+    ensures { λ r. ⌜ r ≡ steppedTo b (now (chars .entry)) (now (attrs .entry)) (lentFont words flags unshifted shifted groups) (from + steps) ⌝ }
 {
-    let tried = feldrime::step_numbers(b, chars, attrs, words, flags, unshifted, shifted);
+    let tried = feldrime::step_numbers(b, chars, attrs, words, flags, unshifted, shifted, groups);
     let refused = tried.answer.refusal;
     if refused != 0 {
         return BoardAnswer {
@@ -33,7 +34,7 @@ pub fn stepped_to(
     let mut at = asked.board;
     let mut i = 0;
     while i < steps {
-        let s = feldrime::step_numbers(at, chars, attrs, words, flags, unshifted, shifted);
+        let s = feldrime::step_numbers(at, chars, attrs, words, flags, unshifted, shifted, groups);
         at = s.board;
         i += 1;
     }

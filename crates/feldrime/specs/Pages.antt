@@ -1,26 +1,28 @@
 -- The calls that take a page's numbers.
 use Rattle.feldrime.specs.declared.Answer.{Answer}
 use Rattle.numbers.specs.Files.{pageReadSize, numbersRead, pageWriteCheck, pageWritten}
-use Rattle.files.specs.FontFile.{fontCheck, fontRead}
+use Rattle.files.specs.FontFile.{groupCount, fontShort, fontCheck, fontRead}
 use Rattle.files.specs.File.{readCheck, charsRead, attrsRead}
-use Rattle.shape.specs.Font.{Font, fontRefused}
+use Rattle.shape.specs.Font.{Font}
 use Rattle.board.specs.declared.Board.{Board}
 use lib.ListN.{length}
 use mathlib.Core.Path.{_≡_}
 use Prim.Native.Nat.{ℕ}
 use mathlib.Core.List.{List}
 use Rattle.lists.specs.Choice.{pick}
+use Rattle.refusal.specs.declared.Refusal.{Refusal}
 use Rattle.refusal.specs.declared.Refusal.the-variants.{Size}
 use Rattle.refusal.specs.Number.{doneOf}
 use Rattle.board.specs.State.{powerOf}
 use Rattle.timing.specs.Check.{sizeOf}
 use Rattle.fetch.specs.Run.{spanOf}
-use Rattle.files.specs.Page.{pageAt}
+use Rattle.files.specs.Page.{versionIn, pageAt}
 use Rattle.numbers.specs.Numbers.{numbersRefused, numbersCheck, numbersBoard, numbersOfCheck, numbersOf}
 use Rattle.feldrime.specs.declared.SizeAnswer.{SizeAnswer}
+use Rattle.feldrime.specs.declared.FontAnswer.{FontAnswer}
 use Rattle.feldrime.specs.declared.RunAnswer.{RunAnswer}
 use Rattle.feldrime.specs.declared.BoardAnswer.{BoardAnswer}
-use Rattle.feldrime.specs.Answers.{sizeAnswer, runAnswer, boardAnswer, answerOf}
+use Rattle.feldrime.specs.Answers.{sizeAnswer, fontAnswer, runAnswer, boardAnswer, answerOf}
 
 unfoldable pub sizeFor : List ℕ → SizeAnswer
 sizeFor numbers =
@@ -50,8 +52,15 @@ abbrev pub WritesPageFor : (numbers chars attrs out : List ℕ) → Answer → (
 WritesPageFor numbers chars attrs out r left =
     (r ≡ answerOf (pageWriteCheck numbers (length chars) (length attrs) (length out))) × (left ≡ pageWritten numbers chars attrs out)
 
-abbrev pub ReadsFontFor : (file : List ℕ) → Font → Answer → (left : Font) → Type 0
-ReadsFontFor file f r left = (r ≡ answerOf (fontCheck file (fontRefused f))) × (left ≡ fontRead file f)
+-- how many groups the file has, none on a refusal
+abbrev pub groupsRead : Refusal → (file : List ℕ) → ℕ
+groupsRead r file = pick (doneOf r) (groupCount (versionIn file)) 0
+
+abbrev pub fontFor : (file : List ℕ) → Font → FontAnswer
+fontFor file f = fontAnswer (fontCheck file (fontShort file f)) (groupsRead (fontCheck file (fontShort file f)) file)
+
+abbrev pub ReadsFontFor : (file : List ℕ) → Font → FontAnswer → (left : Font) → Type 0
+ReadsFontFor file f r left = (r ≡ fontFor file f) × (left ≡ fontRead file f)
 
 abbrev pub GivesNumbersFor : Board → (numbers : List ℕ) → Answer → (left : List ℕ) → Type 0
 GivesNumbersFor b numbers r left = (r ≡ answerOf (numbersOfCheck b (length numbers))) × (left ≡ numbersOf b numbers)

@@ -26,14 +26,14 @@ numbered s = record {
 }
 
 -- [dots step]
-abbrev pub stepNumbers : Board → (chars attrs words flags unshifted shifted : List ℕ) → StepBy
-stepNumbers b chars attrs words flags unshifted shifted = record {
-  answer = numbered (stepOf b chars attrs (fontOf words flags unshifted shifted));
-  board = stepOf b chars attrs (fontOf words flags unshifted shifted) .board;
+abbrev pub stepNumbers : Board → (chars attrs words flags unshifted shifted groups : List ℕ) → StepBy
+stepNumbers b chars attrs words flags unshifted shifted groups = record {
+  answer = numbered (stepOf b chars attrs (fontOf words flags unshifted shifted groups));
+  board = stepOf b chars attrs (fontOf words flags unshifted shifted groups) .board;
 }
 
 -- the call that alters the board where it stands: the answer, and the board afterwards
-abbrev pub StepsFor : Board → (chars attrs words flags unshifted shifted : List ℕ) → StepAnswer → (left : Board) → Type 0
-StepsFor b chars attrs words flags unshifted shifted r left =
-    (r ≡ stepNumbers b chars attrs words flags unshifted shifted .answer)
-    × (left ≡ stepNumbers b chars attrs words flags unshifted shifted .board)
+abbrev pub StepsFor : Board → (chars attrs words flags unshifted shifted groups : List ℕ) → StepAnswer → (left : Board) → Type 0
+StepsFor b chars attrs words flags unshifted shifted groups r left =
+    (r ≡ stepNumbers b chars attrs words flags unshifted shifted groups .answer)
+    × (left ≡ stepNumbers b chars attrs words flags unshifted shifted groups .board)

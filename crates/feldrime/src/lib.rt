@@ -6,7 +6,7 @@ ghost use Rattle.shape.specs.Font.{lentFont, leftFont};
 ghost use Rattle.records.specs.Records.{phrasesDiffer};
 ghost use Rattle.numbers.specs.Numbers.{numbersCheck};
 ghost use Rattle.feldrime.specs.Answers.{archiveVersion, answerOf, boardAnswer};
-ghost use Rattle.feldrime.specs.Pages.{sizeFor, runFor, boardFor, ReadsPageFor, WritesPageFor, ReadsFontFor, GivesNumbersFor};
+ghost use Rattle.feldrime.specs.Pages.{sizeFor, runFor, boardFor, ReadsPageFor, WritesPageFor, groupsRead, ReadsFontFor, GivesNumbersFor};
 ghost use Rattle.feldrime.specs.LineDraw.{DrawsLineFor};
 ghost use Rattle.feldrime.specs.PictureDraw.{DrawsPictureFor};
 ghost use Rattle.feldrime.specs.RowCells.{GivesCellsFor};
@@ -19,7 +19,7 @@ ghost use Rattle.feldrime.specs.Boards.{setVideoFor, writeFor, readFor, 
 pub extern "C" fn feldrime_version() -> u32
     ensures { λ r. ⌜ r ≡ archiveVersion ⌝ }
 {
-    7
+    8
 }
 
 // The refusal's number, and the number beside it.
@@ -105,7 +105,24 @@ pub extern "C" fn feldrime_page_write(
     answered(refused)
 }
 
-// Reads a font file into the four parts. A refusal leaves them as they were.
+// How many groups a font has, 0 or 16.
+#[repr(C)]
+pub struct FontAnswer {
+    pub refusal: u32,
+    pub beside: u32,
+    pub groups: u32,
+}
+
+fn groups_read(r: refusal::Refusal, file: &[u8]) -> u32
+    ensures { λ n. ⌜ n ≡ groupsRead r (now (file .entry)) ⌝ }
+{
+    if refusal::is_done(r) {
+        return files::groups_in(file) as u32;
+    }
+    0
+}
+
+// Reads a font file into the five parts. A refusal leaves them as they were, and a file without groups the lent groups.
 #[no_mangle]
 pub extern "C" fn feldrime_font_read(
     file: &[u8],
@@ -113,11 +130,16 @@ pub extern "C" fn feldrime_font_read(
     flags: &mut [u8],
     unshifted: &mut [u8],
     shifted: &mut [u8],
-) -> Answer
-    ensures { λ r. ⌜ ReadsFontFor (now (file .entry)) (lentFont words flags unshifted shifted) r (leftFont words flags unshifted shifted) ⌝ }
+    groups: &mut [u8],
+) -> FontAnswer
+    ensures { λ r. ⌜ ReadsFontFor (now (file .entry)) (lentFont words flags unshifted shifted groups) r (leftFont words flags unshifted shifted groups) ⌝ }
 {
-    let refused = files::read_font(file, words, flags, unshifted, shifted);
-    answered(refused)
+    let refused = files::read_font(file, words, flags, unshifted, shifted, groups);
+    FontAnswer {
+        refusal: refusal::number(refused),
+        beside: refusal::beside(refused),
+        groups: groups_read(refused, file),
+    }
 }
 
 // Draws a visible line as it looks in a field, HACT x dots bytes at the front of out.
@@ -130,11 +152,12 @@ pub extern "C" fn feldrime_line_draw(
     flags: &[u8],
     unshifted: &[u8],
     shifted: &[u8],
+    groups: &[u8],
     line: u32,
     field: u8,
     out: &mut [u8],
 ) -> Answer
-    ensures { λ r. ⌜ DrawsLineFor (now (numbers .entry)) (now (chars .entry)) (now (attrs .entry)) (lentFont words flags unshifted shifted)
+    ensures { λ r. ⌜ DrawsLineFor (now (numbers .entry)) (now (chars .entry)) (now (attrs .entry)) (lentFont words flags unshifted shifted groups)
         line field (now (out .entry)) r (now (out .exit)) ⌝ }
 {
     if numbers::numbers_refused(numbers) {
@@ -149,6 +172,7 @@ pub extern "C" fn feldrime_line_draw(
         flags,
         unshifted,
         shifted,
+        groups,
         units::Lines(line),
         field,
         out,
@@ -166,10 +190,11 @@ pub extern "C" fn feldrime_picture_draw(
     flags: &[u8],
     unshifted: &[u8],
     shifted: &[u8],
+    groups: &[u8],
     field: u8,
     out: &mut [u8],
 ) -> Answer
-    ensures { λ r. ⌜ DrawsPictureFor (now (numbers .entry)) (now (chars .entry)) (now (attrs .entry)) (lentFont words flags unshifted shifted)
+    ensures { λ r. ⌜ DrawsPictureFor (now (numbers .entry)) (now (chars .entry)) (now (attrs .entry)) (lentFont words flags unshifted shifted groups)
         field (now (out .entry)) r (now (out .exit)) ⌝ }
 {
     if numbers::numbers_refused(numbers) {
@@ -184,6 +209,7 @@ pub extern "C" fn feldrime_picture_draw(
         flags,
         unshifted,
         shifted,
+        groups,
         field,
         out,
     );
@@ -489,11 +515,12 @@ pub fn step_numbers(
     flags: &[u8],
     unshifted: &[u8],
     shifted: &[u8],
+    groups: &[u8],
 ) -> StepBy
     ensures { λ r. ⌜ r ≡ stepNumbers b (now (chars .entry)) (now (attrs .entry))
-        (now (words .entry)) (now (flags .entry)) (now (unshifted .entry)) (now (shifted .entry)) ⌝ }
+        (now (words .entry)) (now (flags .entry)) (now (unshifted .entry)) (now (shifted .entry)) (now (groups .entry)) ⌝ }
 {
-    let s = step::step(b, chars, attrs, words, flags, unshifted, shifted);
+    let s = step::step(b, chars, attrs, words, flags, unshifted, shifted, groups);
     let next = s.board;
     StepBy {
         answer: number_of(s),
@@ -511,12 +538,13 @@ pub extern "C" fn feldrime_step(
     flags: &[u8],
     unshifted: &[u8],
     shifted: &[u8],
+    groups: &[u8],
 ) -> StepAnswer
     ensures { λ r. ⌜ StepsFor (now (b .entry)) (now (chars .entry)) (now (attrs .entry))
-        (now (words .entry)) (now (flags .entry)) (now (unshifted .entry)) (now (shifted .entry))
+        (now (words .entry)) (now (flags .entry)) (now (unshifted .entry)) (now (shifted .entry)) (now (groups .entry))
         r (now (b .exit)) ⌝ }
 {
-    let s = step_numbers(*b, chars, attrs, words, flags, unshifted, shifted);
+    let s = step_numbers(*b, chars, attrs, words, flags, unshifted, shifted, groups);
     *b = s.board;
     s.answer
 }

@@ -1,21 +1,25 @@
 -- Round trip of a font. Assumes nothing.
 --     font-again     a font file's parts, written again, are the same bytes
 use Prim.Native.Nat.{ℕ, _+_, _*_, _/_, _%_, _<_, _≤_}
-use mathlib.Core.Path.{_≡_, sym, ap, _∙_}
-use mathlib.Core.Bool.{false}
+use mathlib.Core.Path.{_≡_, refl, sym, ap, _∙_}
+use mathlib.Core.Bool.{Bool, true, false}
 use mathlib.Core.List.{List, _++_}
 use mathlib.Core.Logic.{_⊎_, inl, inr}
 use native.Mathlib.Nat.{eq-zero-or-pos}
 use native.Mathlib.Decide.{decLt}
 use native.Mathlib.Omega.{arith}
+use borrow.Author.Tests.{eqb-true, eqb-false}
+use lib.Dec.{eqb}
 use lib.ListN.{length, getD, take, drop, take-append-drop, length-take, length-drop, List·getD-eq-default}
-use lib.Seq.{take-all, ext-getD, getD-drop, getD-take}
+use lib.Seq.{take-take, ext-getD, getD-drop, getD-take}
+use Rattle.lists.specs.Choice.{pick}
 use Rattle.lists.specs.Tab.{length-tab, getD-tab}
-use Rattle.files.specs.Page.{wordAt}
+use Rattle.files.specs.Page.{wordAt, versionIn}
 use Rattle.files.specs.File.{longAt, versionRefused}
-use Rattle.files.specs.FontFile.{wordsOf, byteOf, bytesIn, fontLength, fontSize, fontIn, fontFileOf}
+use Rattle.files.specs.FontFile.{wordsOf, byteOf, bytesIn, fontLength, fontSize, groupCount, fileGroups, fontIn, fontFileOf, fileFont}
 use Rattle.copies.specs.Put.{length-part}
 use Rattle.files.specs.Laws.{version-known}
+use Rattle.files.specs.FontLaws.{font-least, groups-rest}
 use Rattle.files.specs.Round.{Bytes, word-high, word-low, word-kept, front-again, on}
 
 -- ---- words and their bytes
@@ -78,13 +82,33 @@ part-bytes f a n fits i = go (decLt i n)
         let short : length (take n (drop a f)) ≤ i = omega (arith, length-take n (drop a f)) in
         rw (List·getD-eq-default (take n (drop a f)) 0 short) (omega arith)
 
+-- a file without groups, and one with them
+module _ (f : List ℕ) (n : length f ≡ fontSize (versionIn f)) where
+  pub groups-own : (lent : List ℕ) → fileFont f (fontIn f lent) .groups ≡ fileGroups f
+  unfolding fontIn
+  groups-own lent = go (eqb (versionIn f) 2)
+    where
+      go : (t : Bool) → take (pick t 16 0) (pick t (take (pick t 16 0) (drop 2455 f)) lent) ≡ take (pick t 16 0) (drop 2455 f)
+      go true = take-take 16 16 (drop 2455 f) (omega arith)
+      go false = refl
+
+  pub groups-many : length (fileGroups f) ≡ groupCount (versionIn f)
+  groups-many = length-part f 2455 (groupCount (versionIn f)) (omega (arith, n))
+
+  pub version-own : 1 ≤ versionIn f → versionIn f ≤ 2 → pick (eqb (length (fileGroups f)) 0) 1 2 ≡ versionIn f
+  version-own a b = rw groups-many (go (eqb (versionIn f) 2) refl)
+    where
+      go : (t : Bool) → eqb (versionIn f) 2 ≡ t → pick (eqb (pick t 16 0) 0) 1 2 ≡ versionIn f
+      go true e = sym (eqb-true (versionIn f) 2 e)
+      go false e = omega (arith, a, b, eqb-false (versionIn f) 2 e)
+
 -- a font file's parts, written again, are the same bytes
-pub font-again : (f : List ℕ) → Bytes f → length f ≡ fontSize → versionRefused f 1 ≡ false → longAt f 1 ≡ fontLength → fontFileOf (fontIn f) ≡ f
+pub font-again : (f : List ℕ) → Bytes f → length f ≡ fontSize (versionIn f) → versionRefused f 2 ≡ false → longAt f 1 ≡ fontLength (versionIn f)
+    → (lent : List ℕ) → fontFileOf (fileFont f (fontIn f lent)) ≡ f
 unfolding fontFileOf fontIn
-font-again f fits n v e =
-    let k = version-known f 1 v in
-    let one : getD f 0 0 ≡ 1 = omega (arith, k .0, k .1) in
-    let last : take 9 (drop 2446 f) ≡ drop 2446 f = take-all 9 (drop 2446 f) (rw (length-drop 2446 f) (omega (arith, n))) in
-    let words = bytes-again (take 2304 (drop 5 f)) (part-bytes f 5 2304 fits) (length-part f 5 2304 (omega (arith, n))) in
-    rw (words, last, on f 2437 9, on f 2309 128, on f 5 2304)
-    (ap (λ (x : List ℕ). x ++ drop 5 f) (rw one at (sym (front-again f fits fontLength n e))) ∙ take-append-drop 5 f)
+font-again f fits n v e lent =
+    let k = version-known f 2 v in
+    let long : 2455 ≤ length f = font-least f n in
+    let words = bytes-again (take 2304 (drop 5 f)) (part-bytes f 5 2304 fits) (length-part f 5 2304 (omega (arith, long))) in
+    rw (groups-own f n lent, version-own f n (k .0) (k .1), groups-rest f n, words, on f 2446 9, on f 2437 9, on f 2309 128, on f 5 2304)
+    (ap (λ (x : List ℕ). x ++ drop 5 f) (sym (front-again f fits (fontLength (versionIn f)) n e)) ∙ take-append-drop 5 f)

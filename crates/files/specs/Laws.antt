@@ -8,12 +8,13 @@ use borrow.Author.Tests.{eqb-true, leb-true, ltb-false, not-false}
 use lib.Dec.{eqb, leb, ltb}
 use lib.ListN.{length, take, drop, replicate, length-append, length-replicate}
 use lib.Seq.{take-all, length-take-le}
-use Rattle.lists.specs.Choice.{firstOf, both, neither}
+use Rattle.lists.specs.Choice.{pick, firstOf, both, neither}
 use Rattle.refusal.specs.declared.Refusal.{Refusal}
 use Rattle.refusal.specs.declared.Refusal.the-variants.{Done, Version, Length, Size}
 use Rattle.refusal.specs.Number.{doneOf, wrongSize}
 use Rattle.refusal.specs.Laws.{done-is, passed, size-right}
 use Rattle.board.specs.declared.Page.{Page}
+use Rattle.board.specs.declared.Layout.{Layout}
 use Rattle.board.specs.declared.Board.{Board}
 use Rattle.board.specs.State.{powerOf}
 use Rattle.board.specs.Layout.{newestVersion, layoutOf, pageLength, lengthField, charsPlace, attrsPlace, fileSize}
@@ -110,14 +111,27 @@ module _ (file : List ℕ) (size : Bool) (chars attrs : List ℕ) (x : Refusal) 
 
 -- ---- a page's bytes
 
--- today's layouts have nine bytes behind the IRs, and fifteen IRs
-pub rest-is : (version : ℕ) → layoutOf version .rest ≡ 9
+-- the longest page file
+pub file-most : (version : ℕ) → fileSize version ≤ 32798
 unfolding layoutOf
-rest-is version = refl
+file-most version = go (eqb version 3)
+  where
+    go : (t : Bool) → 15 + pick t 10 9 + 32768 + 5 ≤ 32798
+    go true = omega arith
+    go false = omega arith
 
-tail-all : (p : Page) → length (tailOf p) ≡ layoutOf (p .version) .rest
+-- what stands behind the IRs in the longest layout
+pub tail-long : (p : Page) → length (tailOf p) ≡ 10
 unfolding tailOf
-tail-all p = sym (rest-is (p .version))
+tail-long p = refl
+
+pub chip-there : (version : ℕ) → version ≡ 3 → layoutOf version .rest ≡ 10
+unfolding layoutOf
+chip-there version e = rw e
+
+-- as much of it as the version has
+pub tail-all : (p : Page) → length (take (layoutOf (p .version) .rest) (tailOf p)) ≡ layoutOf (p .version) .rest
+tail-all p = length-take-le (layoutOf (p .version) .rest) (tailOf p) (rw (tail-long p) (layout-fits (p .version) .rest-most))
 
 pub irs-whole : (version : ℕ) (irs : List ℕ) → length irs ≡ 15 → irsAt (layoutOf version .irs) irs 0 ≡ irs
 unfolding layoutOf
@@ -142,13 +156,13 @@ pub front-all : (p : Page) → length (p .irs) ≡ 15 → length (take (layoutOf
 front-all p n = length-take-le (layoutOf (p .version) .irs) (p .irs) (omega (arith, n, layout-fits (p .version) .irs-most))
 
 pub bytes-all : (p : Page) → length (p .irs) ≡ 15 → length (pageBytes p) ≡ pageLength (p .version)
-bytes-all p n = length-append (take (layoutOf (p .version) .irs) (p .irs)) (tailOf p) ∙ rw (front-all p n, tail-all p)
+bytes-all p n = length-append (take (layoutOf (p .version) .irs) (p .irs)) (take (layoutOf (p .version) .rest) (tailOf p)) ∙ rw (front-all p n, tail-all p)
 
 -- the IRs and what stands behind them, put one behind the other
-pub bytes-put : (p : Page) → length (p .irs) ≡ 15 → (out : List ℕ) (at : ℕ) → at ≤ length out → (n : ℕ) → n ≡ layoutOf (p .version) .irs
-    → {tail one two : List ℕ} → tail ≡ tailOf p → one ≡ putAt at (take n (p .irs)) out → two ≡ putAt (at + n) tail one → two ≡ putAt at (pageBytes p) out
-bytes-put p all out at room n e t e₁ e₂ =
-    put-both (take (layoutOf (p .version) .irs) (p .irs)) (tailOf p) out at (layoutOf (p .version) .irs) room (front-all p all) (rw e at e₁) (rw (e, t) at e₂)
+pub bytes-put : (p : Page) → length (p .irs) ≡ 15 → (out : List ℕ) (at : ℕ) → at ≤ length out → (l : Layout) → l ≡ layoutOf (p .version)
+    → {tail one two : List ℕ} → tail ≡ tailOf p → one ≡ putAt at (take (l .irs) (p .irs)) out → two ≡ putAt (at + l .irs) (take (l .rest) tail) one → two ≡ putAt at (pageBytes p) out
+bytes-put p all out at room l e t e₁ e₂ =
+    put-both (take (layoutOf (p .version) .irs) (p .irs)) (take (layoutOf (p .version) .rest) (tailOf p)) out at (layoutOf (p .version) .irs) room (front-all p all) (rw e at e₁) (rw (e, t) at e₂)
 
 pub head-all : (p : Page) → length (p .irs) ≡ 15 → length (headOf p) ≡ charsPlace (p .version)
 unfolding headOf
@@ -161,9 +175,9 @@ long-small n l =
     let lower : n % 65536 ≡ n = omega (arith, l) in
     rw (upper, lower)
 
-pub head-is : (p : Page) (n : ℕ) {v h l : ℕ} → n ≡ lengthField (p .version) → n < 65536 → v ≡ versionOf p → h ≡ n / 256 → l ≡ n % 256 → v ∷ 0 ∷ 0 ∷ h ∷ l ∷ [] ≡ pageHead p
-head-is p n e small ev eh el =
-    rw (ev, eh, el) (ap (λ (t : List ℕ). versionOf p ∷ t) (sym (long-small n small)) ∙ ap (λ (k : ℕ). versionOf p ∷ longBytes k) e)
+-- a version and a length in four bytes
+pub head-is : (version n : ℕ) {v m h l : ℕ} → v ≡ version → m ≡ n → m < 65536 → h ≡ m / 256 → l ≡ m % 256 → v ∷ 0 ∷ 0 ∷ h ∷ l ∷ [] ≡ version ∷ longBytes n
+head-is version n {v} {m} ev em small eh el = rw (ev, eh, el) (ap (λ (t : List ℕ). version ∷ t) (sym (long-small m small)) ∙ ap (λ (k : ℕ). version ∷ longBytes k) em)
 
 -- a page file put into a buffer part by part
 pub page-put : (p : Page) → length (p .irs) ≡ 15 → (chars attrs out : List ℕ) → length chars ≡ 16384 → length attrs ≡ 16384

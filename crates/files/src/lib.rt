@@ -4,10 +4,12 @@ ghost use Prim.Native.Nat.{_+_, _*_, _/_, _%_, _≤_, _<_};
 ghost use mathlib.Core.List.{_++_};
 ghost use lib.ListN.{length, take, drop};
 ghost use Rattle.board.specs.Layout.{layoutOf, pageLength, lengthField, charsPlace, attrsPlace, fileSize};
-ghost use Rattle.files.specs.Page.{wordAt, startsAt, videoOf, versionIn, irsAt, pageAt, boardAt, longBytes, tailOf, pageBytes};
+ghost use Rattle.files.specs.Page.{wordAt, startsAt, videoOf, versionIn, chipAt, irsAt, pageAt, boardAt, longBytes, tailOf, pageBytes};
 ghost use Rattle.files.specs.File.{longAt, versionRefused, lengthRefused, fileCheck, readCheck, pageHead, fileOf, writeCheck, ReadsPage, WritesPage};
-ghost use Rattle.files.specs.FontFile.{wordsOf, byteOf, bytesIn, fontSize, fontFileOf, ReadsFont, WritesFont};
+ghost use Rattle.files.specs.FontFile.{wordsOf, byteOf, bytesIn, groupCount, fontSize, fileGroups, fontCheck, fontVersion, fontHead, fontFileOf, fontWriteCheck, ReadsFont, WritesFont};
 ghost use Rattle.copies.specs.Put.{putAt};
+ghost use lib.Dec.{eqb};
+ghost use Rattle.lists.specs.Choice.{pick};
 ghost use Rattle.lists.specs.Tab.{tab};
 ghost use Rattle.refusal.specs.declared.Refusal.{Refusal};
 ghost use Rattle.shape.specs.Font.{fontNow, lentFont, leftFont, Whole};
@@ -53,13 +55,25 @@ fn starts_at(bytes: &[u8], at: usize) -> board::Starts
     }
 }
 
-fn video(dots: u8, strike: u8) -> board::Video
-    ensures { λ r. ⌜ r ≡ videoOf dots strike ⌝ }
+fn video(dots: u8, strike: u8, chip: u8) -> board::Video
+    ensures { λ r. ⌜ r ≡ videoOf dots strike chip ⌝ }
 {
     board::Video {
         dots: units::Dots(dots as u32),
         strike,
+        chip,
     }
+}
+
+// The chip, which stands in a page of version 3 alone.
+fn chip_at(version: u8, bytes: &[u8], at: usize) -> u8
+    requires { ⌜ (version ≡ 3 → at < length (now bytes)) ⌝ }
+    ensures { λ r. ⌜ r ≡ chipAt version (now (bytes .entry)) at ⌝ }
+{
+    if version == 3 {
+        return bytes[at];
+    }
+    0
 }
 
 // The version, which stands first, and the bytes that stand between a page file's length and its character memory.
@@ -75,7 +89,11 @@ pub fn page_at(bytes: &[u8], at: usize) -> board::Page
         irs: irs_at(bytes, at, n),
         starts: starts_at(bytes, rest),
         switches: bytes[rest + 6],
-        video: video(bytes[rest + 7], bytes[rest + 8]),
+        video: video(
+            bytes[rest + 7],
+            bytes[rest + 8],
+            chip_at(version, bytes, rest + 9),
+        ),
     }
 }
 
@@ -207,8 +225,8 @@ fn low(x: u16) -> u8
     (x % 256) as u8
 }
 
-// The nine bytes that stand behind the IRs.
-fn tail_of(p: board::Page) -> [u8; 9]
+// The bytes that stand behind the IRs, the chip last.
+fn tail_of(p: board::Page) -> [u8; 10]
     requires { ⌜ p .video .dots .0 ≤ 12 ⌝ }
     ensures { λ r. ⌜ r ≡ tailOf p ⌝ }
 {
@@ -223,6 +241,7 @@ fn tail_of(p: board::Page) -> [u8; 9]
         p.switches,
         p.video.dots.0 as u8,
         p.video.strike,
+        p.video.chip,
     ]
 }
 
@@ -233,9 +252,11 @@ pub fn put_bytes(p: board::Page, at: usize, out: &mut [u8])
 {
     let irs = p.irs;
     let tail = tail_of(p);
-    let n = board::irs_of(p.version);
+    let layout = board::layout_of(p.version);
+    let n = layout.irs;
+    let rest = layout.rest;
     copies::put(&irs[..n], at, out);
-    copies::put(&tail, at + n, out);
+    copies::put(&tail[..rest], at + n, out);
 }
 
 // The version and the length in four bytes.
@@ -261,10 +282,10 @@ fn put_file(p: board::Page, chars: &[u8], attrs: &[u8], out: &mut [u8])
 }
 
 // How long the longest page file is: an array's length is a constant.
-pub const LONGEST_PAGE: usize = 32797;
+pub const LONGEST_PAGE: usize = 32798;
 
 // How long a page file is.
-fn file_size(version: u8) -> usize
+pub fn file_size(version: u8) -> usize
     ensures { λ r. ⌜ r ≡ fileSize version ⌝ }
 {
     board::page_length(version) + 32773
@@ -322,28 +343,75 @@ fn write_words(src: &[u16], dst: &mut [u8])
     }
 }
 
-// The bytes that follow a font file's length, and the file's size.
-const FONT_LENGTH: u32 = 2450;
+// How many groups a font file has.
+fn group_count(version: u8) -> usize
+    ensures { λ r. ⌜ r ≡ groupCount version ⌝ }
+{
+    if version == 2 {
+        return 16;
+    }
+    0
+}
 
-pub const FONT_SIZE: usize = 2455;
+// How many groups this one has.
+pub fn groups_in(file: &[u8]) -> usize
+    ensures { λ r. ⌜ r ≡ groupCount (versionIn (now (file .entry))) ⌝ }
+{
+    group_count(version_in(file))
+}
 
-// Reads a font file into the four parts. A refusal leaves them as they were.
+// How long the longest font file is.
+pub const LONGEST_FONT: usize = 2471;
+
+// How long a font file is.
+fn font_size(version: u8) -> usize
+    ensures { λ r. ⌜ r ≡ fontSize version ⌝ }
+{
+    2455 + group_count(version)
+}
+
+// 1, 2, 3, then 12; whether a lent part has a wrong size is the caller's to say.
+fn font_check(file: &[u8], size: bool) -> refusal::Refusal
+    ensures { λ r. ⌜ r ≡ fontCheck (now (file .entry)) size ⌝ }
+{
+    let n = font_size(version_in(file)) - 5;
+    let refused = file_check(file, 2, n as u32, size);
+    if refusal::is_done(refused) {
+        return shape::groups_check(&file[2455..]);
+    }
+    refused
+}
+
+// The groups of a file of version 2.
+fn read_groups(file: &[u8], groups: &mut [u8])
+    requires { ⌜ (versionIn (now file) ≡ 2 → (2471 ≤ length (now file)) × (length (now groups) ≡ 16)) ⌝ }
+    ensures { λ _. ⌜ now (groups .exit) ≡ pick (eqb (versionIn (now (file .entry))) 2) (fileGroups (now (file .entry))) (now (groups .entry)) ⌝ }
+{
+    if version_in(file) == 2 {
+        copies::take_from(file, 2455, groups);
+    }
+}
+
+// Reads a font file into the five parts. A refusal leaves them as they were, and a file without groups the lent groups.
 pub fn read_font(
     file: &[u8],
     words: &mut [u16],
     flags: &mut [u8],
     unshifted: &mut [u8],
     shifted: &mut [u8],
+    groups: &mut [u8],
 ) -> refusal::Refusal
-    ensures { λ r. ⌜ ReadsFont (now (file .entry)) (lentFont words flags unshifted shifted) r (leftFont words flags unshifted shifted) ⌝ }
+    ensures { λ r. ⌜ ReadsFont (now (file .entry)) (lentFont words flags unshifted shifted groups) r (leftFont words flags unshifted shifted groups) ⌝ }
 {
-    let size = shape::font_refused(words, flags, unshifted, shifted);
-    let refused = file_check(file, 1, FONT_LENGTH, size);
+    let size = shape::font_refused(words, flags, unshifted, shifted, groups)
+        | ((version_in(file) == 2) & (groups.len() == 0));
+    let refused = font_check(file, size);
     if refusal::is_done(refused) {
         read_words(&file[5..2309], words);
         copies::take_from(file, 2309, flags);
         copies::take_from(file, 2437, unshifted);
         copies::take_from(file, 2446, shifted);
+        read_groups(file, groups);
     }
     refused
 }
@@ -357,17 +425,64 @@ fn put_words(words: &[u16], at: usize, out: &mut [u8])
     write_words(words, &mut out[at..end]);
 }
 
-// A font's file into the front of out; bytes beyond it stay.
-fn put_font(words: &[u16], flags: &[u8], unshifted: &[u8], shifted: &[u8], out: &mut [u8])
-    requires { ⌜ Whole (fontNow words flags unshifted shifted) × (fontSize ≤ length (now out)) ⌝ }
-    ensures { λ _. ⌜ now (out .exit) ≡ fontFileOf (lentFont words flags unshifted shifted) ++ drop fontSize (now (out .entry)) ⌝ }
+// A font with groups is of version 2.
+fn font_version(groups: usize) -> u8
+    ensures { λ r. ⌜ r ≡ pick (eqb groups 0) 1 2 ⌝ }
 {
-    let head = [1, 0, 0, 9, 146];
+    if groups == 0 {
+        return 1;
+    }
+    2
+}
+
+// The version, and the length in four bytes.
+fn font_head(version: u8) -> [u8; 5]
+    ensures { λ r. ⌜ r ≡ fontHead version ⌝ }
+{
+    let n = (font_size(version) - 5) as u16;
+    [version, 0, 0, high(n), low(n)]
+}
+
+// A font's file into the front of out; bytes beyond it stay.
+fn put_font(
+    words: &[u16],
+    flags: &[u8],
+    unshifted: &[u8],
+    shifted: &[u8],
+    groups: &[u8],
+    out: &mut [u8],
+)
+    requires { ⌜ Whole (fontNow words flags unshifted shifted groups)
+        × (fontSize (fontVersion (fontNow words flags unshifted shifted groups)) ≤ length (now out)) ⌝ }
+    ensures { λ _. ⌜ now (out .exit) ≡ fontFileOf (lentFont words flags unshifted shifted groups)
+        ++ drop (fontSize (fontVersion (lentFont words flags unshifted shifted groups))) (now (out .entry)) ⌝ }
+{
+    let head = font_head(font_version(groups.len()));
     copies::put(&head, 0, out);
     put_words(words, 5, out);
     copies::put(flags, 2309, out);
     copies::put(unshifted, 2437, out);
     copies::put(shifted, 2446, out);
+    copies::put(groups, 2455, out);
+}
+
+// 3, then 12.
+fn font_write_check(
+    words: &[u16],
+    flags: &[u8],
+    unshifted: &[u8],
+    shifted: &[u8],
+    groups: &[u8],
+    out: usize,
+) -> refusal::Refusal
+    ensures { λ r. ⌜ r ≡ fontWriteCheck (lentFont words flags unshifted shifted groups) out ⌝ }
+{
+    if shape::font_refused(words, flags, unshifted, shifted, groups)
+        | (out < font_size(font_version(groups.len())))
+    {
+        return refusal::Refusal::Size;
+    }
+    shape::groups_check(groups)
 }
 
 // Writes a font as a font file. A refusal leaves out as it was.
@@ -376,13 +491,14 @@ pub fn write_font(
     flags: &[u8],
     unshifted: &[u8],
     shifted: &[u8],
+    groups: &[u8],
     out: &mut [u8],
 ) -> refusal::Refusal
-    ensures { λ r. ⌜ WritesFont (lentFont words flags unshifted shifted) (now (out .entry)) r (now (out .exit)) ⌝ }
+    ensures { λ r. ⌜ WritesFont (lentFont words flags unshifted shifted groups) (now (out .entry)) r (now (out .exit)) ⌝ }
 {
-    if shape::font_refused(words, flags, unshifted, shifted) | (out.len() < FONT_SIZE) {
-        return refusal::Refusal::Size;
+    let refused = font_write_check(words, flags, unshifted, shifted, groups, out.len());
+    if refusal::is_done(refused) {
+        put_font(words, flags, unshifted, shifted, groups, out);
     }
-    put_font(words, flags, unshifted, shifted, out);
-    refusal::Refusal::Done
+    refused
 }

@@ -45,8 +45,8 @@ use Rattle.video.specs.At.{Content, lentCheck, scanAt, readingOf, countedByte, 
 use Rattle.dots.specs.Stores.{wideOf}
 use Rattle.dots.specs.Width.{shades, length-shades}
 use Rattle.dots.specs.Half.{shownOf, fetchedFor, cells-few, same-shown}
-use Rattle.tables.specs.Tables.{markOf, numberFor, heldBy, cellBy, levelsOf}
-use Rattle.tables.specs.Laws.{shown-lt, gathered, gathered-lt, looked-up, code-of, mark-of, by-word}
+use Rattle.tables.specs.Tables.{markOf, numberFor, heldBy, cellBy, shownWord, levelsOf}
+use Rattle.tables.specs.Laws.{shown-lt, gathered, gathered-lt, looked-up, word-of, mark-of, by-word}
 use Rattle.line.specs.declared.Walk.{Walk}
 use Rattle.line.specs.Line.{rowFor, codeFor, scanFor, columnDots, lineDots, lineLength, lineOver, drawCheck, drawnOf}
 
@@ -56,8 +56,8 @@ walkOf p line = record { line = line; width = p .video .dots }
 -- one cell, from its number
 unfoldable pub dotsFor : Walk → (looks words flags : List ℕ) → (number : ℕ) → List ℕ
 dotsFor w looks words flags x =
-    shades (getD looks (x / 256) 0 % 4) (getD looks (x / 256) 0 / 4) (w .width .0)
-    (wideOf (wordBy words flags (w .line) (x % 256)) (w .width .0))
+    shades (getD looks (x / 512) 0 % 4) (getD looks (x / 512) 0 / 4) (w .width .0)
+    (shownWord words flags (w .line) (w .width .0) (x % 512))
 
 unfoldable pub columnFor : Walk → (row looks words flags : List ℕ) → (c : ℕ) → List ℕ
 columnFor w row looks words flags c = dotsFor w looks words flags (getD row c 0)
@@ -66,7 +66,7 @@ pub record Ready (w : Walk) (row looks words flags : List ℕ) (n : ℕ) : Type 
   pub least : 6 ≤ w .width .0
   pub most : w .width .0 ≤ 12
   pub few : n ≤ length row
-  pub marked : (c : ℕ) → c < n → getD row c 0 < 32768
+  pub marked : (c : ℕ) → c < n → getD row c 0 < 65536
   pub looks-all : length looks ≡ 128
   pub words-all : length words ≡ 1152
   pub flags-all : length flags ≡ 128
@@ -168,9 +168,9 @@ module _ (p : Page) (chars attrs : List ℕ) (r : ℕ) (page : Accepted p) where
   unfolding cellBy heldBy lastSet
   own-cell v h zero m a =
       let k = fetchedContent (readingOf p) chars attrs 0 (rowStart p chars r) in
-      rw first-at (ap (λ (x : ℕ). numberFor (record { code = k .code; attributes = x; here = k .here })) (own-byte (getD attrs (rowStart p chars r) 0) v h a))
+      rw first-at (ap (λ (x : ℕ). numberFor (readingOf p) (record { code = k .code; attributes = x; here = k .here })) (own-byte (getD attrs (rowStart p chars r) 0) v h a))
   own-cell v h (suc i) m a =
-      ap (λ (x : ℕ). numberFor (fetchedContent (readingOf p) chars attrs x (advanceBy (bufferOf p) (suc i) (rowStart p chars r)))) (own-last (λ (j : ℕ). setsOf (fieldMode p) attrs (advanceBy (bufferOf p) j (rowStart p chars r))) v h i (rw (m, first-at) a))
+      ap (λ (x : ℕ). numberFor (readingOf p) (fetchedContent (readingOf p) chars attrs x (advanceBy (bufferOf p) (suc i) (rowStart p chars r)))) (own-last (λ (j : ℕ). setsOf (fieldMode p) attrs (advanceBy (bufferOf p) j (rowStart p chars r))) v h i (rw (m, first-at) a))
 
   pub held-counts : (n : ℕ) → tab n (made (heldFor p chars attrs r (rowStart p chars r))) ≡ tab n (made (heldAt p chars attrs r 0))
   unfolding heldFor
@@ -238,12 +238,12 @@ column-content b chars attrs f line field c h =
     (sym (content-shown (b .page) chars attrs (rowFor b line) c h))
 
 -- the line of which the scan line shows these words of the codes, and a buffer that has it at its front
-unfoldable pub shapedLine : Board → (chars attrs : List ℕ) → (words : ℕ → ℕ) → (line field : ℕ) → List ℕ
+unfoldable pub shapedLine : Board → (chars attrs : List ℕ) → (words : Bool → ℕ → ℕ) → (line field : ℕ) → List ℕ
 shapedLine b chars attrs words line field =
     joined 0 (hactOf (b .page))
     (shownOf (isWide (codeFor b chars line)) (λ i. scanDots b words (scanFor b chars line) field (contentBy (b .page) chars attrs (rowFor b line) i)))
 
-abbrev pub shapedOver : Board → (chars attrs : List ℕ) → (words : ℕ → ℕ) → (line field : ℕ) → (out : List ℕ) → List ℕ
+abbrev pub shapedOver : Board → (chars attrs : List ℕ) → (words : Bool → ℕ → ℕ) → (line field : ℕ) → (out : List ℕ) → List ℕ
 shapedOver b chars attrs words line field out = shapedLine b chars attrs words line field ++ drop (lineLength b) out
 
 -- of a font's words it is the line
@@ -299,7 +299,7 @@ module _ (b : Board) (chars attrs words flags : List ℕ) (font : FontLine) (lin
   abbrev cellOf : ℕ → List ℕ
   cellOf i = scanDots b (wordBy words flags font) scan field (content i)
 
-  numbered : (i : ℕ) → i < fetchedFor wide n → getD row i 0 ≡ numberFor (content i)
+  numbered : (i : ℕ) → i < fetchedFor wide n → getD row i 0 ≡ numberFor (readingOf (b .page)) (content i)
   unfolding fetchAt
   numbered i h = gathered (readingOf (b .page)) chars attrs _ _ _ (fetchedFor wide n) row (q .beyond) (q .row-is) i h
 
@@ -309,7 +309,7 @@ module _ (b : Board) (chars attrs words flags : List ℕ) (font : FontLine) (lin
   same-cell : Accepted (b .page) → (i : ℕ) → i < fetchedFor wide n → columnFor w row looks words flags i ≡ cellOf i
   unfolding columnFor dotsFor walkOf
   same-cell a i h =
-      rw (q .walked, numbered i h, code-of (content i) (byte-code i), mark-of (content i) (byte-code i))
+      rw (q .walked, numbered i h, word-of (readingOf (b .page)) (content i) (byte-code i) words flags font (b .page .video .dots .0), mark-of (readingOf (b .page)) (content i) (byte-code i))
       (by-word b words flags font scan field a (content i) (getD looks (markOf (content i .attributes) (content i .here)) 0)
       (looked-up (sceneOf b scan field) (content i .attributes) (content i .here) looks (q .above) (q .looks-is)))
 

@@ -22,15 +22,16 @@ pub struct Walk {
 
 // Writes the d dots of one cell, from its number, to the front of out.
 fn put(out: &mut [u8], w: Walk, looks: &[u8], words: &[u16], flags: &[u8], number: u16, d: usize)
-    requires { ⌜ (length (now looks) ≡ 128) × (length (now words) ≡ 1152) × (length (now flags) ≡ 128) × (number < 32768) ⌝ }
+    requires { ⌜ (length (now looks) ≡ 128) × (length (now words) ≡ 1152) × (length (now flags) ≡ 128) × (number < 65536) ⌝ }
     requires { ⌜ (d ≡ w .width .0) × (6 ≤ d) × (d ≤ 12) × (d ≤ length (now out)) ⌝ }
     ensures { λ _. ⌜ now (out .exit)
         ≡ dotsFor w (now (looks .entry)) (now (words .entry)) (now (flags .entry)) number ++ drop (w .width .0) (now (out .entry)) ⌝ }
 {
-    let mark = (number / 256) as usize;
+    let mark = (number / 512) as usize;
     let levels = looks[mark];
     let line = w.line;
-    let word = shape::word_by(words, flags, line, (number % 256) as u8);
+    let sign = number % 512;
+    let word = shape::word_by(words, flags, line, 256 <= sign, (sign % 256) as u8);
     dots::write_cell(out, levels % 4, levels / 4, word, d);
 }
 
@@ -202,18 +203,19 @@ pub fn draw_line(
     flags: &[u8],
     unshifted: &[u8],
     shifted: &[u8],
+    groups: &[u8],
     line: units::Lines,
     field: u8,
     out: &mut [u8],
 ) -> refusal::Refusal
-    ensures { λ r. ⌜ DrawsLine b (now (chars .entry)) (now (attrs .entry)) (lentFont words flags unshifted shifted)
+    ensures { λ r. ⌜ DrawsLine b (now (chars .entry)) (now (attrs .entry)) (lentFont words flags unshifted shifted groups)
         (line .0) field (now (out .entry)) r (now (out .exit)) ⌝ }
 {
-    let lent = video::lent_check(chars, attrs, words, flags, unshifted, shifted);
+    let lent = video::lent_check(chars, attrs, words, flags, unshifted, shifted, groups);
     let refused = draw_check(b, lent, line, out.len());
     if refusal::is_done(refused) {
         let scan = scan_for(b, chars, line);
-        let font = shape::font_line(unshifted, shifted, scan);
+        let font = shape::font_line(unshifted, shifted, groups, scan);
         whole_line(out, b, chars, attrs, words, flags, font, scan, line, field);
     }
     refused

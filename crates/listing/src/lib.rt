@@ -122,12 +122,13 @@ pub fn listing_line(
     flags: &[u8],
     unshifted: &[u8],
     shifted: &[u8],
+    groups: &[u8],
     line: units::Lines,
     field: u8,
     out: &mut [u8],
 ) -> Listed
-    ensures { λ r. ⌜ ListsLine b (now (chars .entry)) (now (attrs .entry)) (lentFont words flags unshifted shifted)
-        (line .0) field (now (out .entry)) r (now (out .exit)) ⌝ }
+    ensures { λ r. ⌜ ListsLine b (now (chars .entry)) (now (attrs .entry))
+        (lentFont words flags unshifted shifted groups) (line .0) field (now (out .entry)) r (now (out .exit)) ⌝ }
 {
     let room = room_for_dots(out.len());
     let refused = line::draw_line(
@@ -138,6 +139,7 @@ pub fn listing_line(
         flags,
         unshifted,
         shifted,
+        groups,
         line,
         field,
         &mut out[..room],

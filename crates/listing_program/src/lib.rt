@@ -48,6 +48,23 @@ fn read_input(buf: &mut [u8]) -> Input
     }
 }
 
+// Reads a page file, which is as long as its version byte says.
+fn read_page_file(file: &mut [u8]) -> Input
+    requires { ⌜ 32798 ≤ length (now file) ⌝ }
+    ensures { λ r. ⌜ Counts (r .count) (now (file .exit)) ⌝ }
+{
+    let first = read_input(&mut file[..1]);
+    if first.count == 0 {
+        return first;
+    }
+    let size = files::file_size(file[0]);
+    let rest = read_input(&mut file[1..size]);
+    Input {
+        failed: rest.failed,
+        count: rest.count + 1,
+    }
+}
+
 fn print_refusal(r: refusal::Refusal) -> bool {
     io::write_all(STDOUT_FILENO, b"refused ")
         && io::print_decimal(STDOUT_FILENO, refusal::number(r) as u64)
@@ -71,6 +88,7 @@ fn print_listing(
     flags: &[u8],
     unshifted: &[u8],
     shifted: &[u8],
+    groups: &[u8],
 ) -> bool {
     let page = b.page;
     let mut out = [0u8; 3073];
@@ -89,6 +107,7 @@ fn print_listing(
             flags,
             unshifted,
             shifted,
+            groups,
             line,
             0,
             &mut out,
@@ -112,9 +131,10 @@ fn ending(written: bool) -> u32 {
     if written { WRITTEN } else { UNWRITTEN }
 }
 
-// The page was accepted; now the font. One byte more than a font file has is asked for, so that a longer one shows.
+// The page was accepted; now the font. One byte more than the longest font file has is asked for, so that a longer one
+// shows.
 fn list_page(b: board::Board, chars: &[u8], attrs: &[u8]) -> u32 {
-    let mut file = [0u8; files::FONT_SIZE + 1];
+    let mut file = [0u8; files::LONGEST_FONT + 1];
     let input = read_input(&mut file);
     if input.failed {
         return UNREAD;
@@ -124,17 +144,21 @@ fn list_page(b: board::Board, chars: &[u8], attrs: &[u8]) -> u32 {
     let mut flags = [0u8; 128];
     let mut unshifted = [0u8; 9];
     let mut shifted = [0u8; 9];
+    let mut groups = [0u8; 16];
     let refused = files::read_font(
         &file[..n],
         &mut words,
         &mut flags,
         &mut unshifted,
         &mut shifted,
+        &mut groups,
     );
     if !refusal::is_done(refused) {
         return ending(print_refusal(refused));
     }
-    ending(print_listing(b, chars, attrs, &words, &flags, &unshifted, &shifted))
+    let k = files::groups_in(&file[..n]);
+    let lent = &groups[..k];
+    ending(print_listing(b, chars, attrs, &words, &flags, &unshifted, &shifted, lent))
 }
 
 // No law of one answer: what it reads and prints no contract of the kit can say. It is proved to end and to index nothing
@@ -142,7 +166,7 @@ fn list_page(b: board::Board, chars: &[u8], attrs: &[u8]) -> u32 {
 #[no_mangle]
 pub extern "C" fn feldrime_listing() -> u32 {
     let mut file = [0u8; files::LONGEST_PAGE];
-    let input = read_input(&mut file);
+    let input = read_page_file(&mut file);
     if input.failed {
         return UNREAD;
     }

@@ -14,7 +14,7 @@ use borrow.Author.Tests.{eqb-true, ne-eqb, not-false}
 use lib.Dec.{eqb}
 use lib.ListN.{length, getD, take, drop, replicate, length-append, length-drop, length-replicate, List·getD-append}
 use lib.Seq.{take-append-le, take-take, take-add, drop-cons, drop-drop, drop-at, getD-take, getD-drop}
-use Rattle.lists.specs.Choice.{neither}
+use Rattle.lists.specs.Choice.{pick, neither}
 use Rattle.units.specs.Units.{dots}
 use Rattle.refusal.specs.declared.Refusal.{Refusal}
 use Rattle.refusal.specs.declared.Refusal.the-variants.{Done, Size}
@@ -30,7 +30,7 @@ use Rattle.timing.specs.Check.{pageCheck}
 use Rattle.copies.specs.Put.{length-part, putAt, laid-none, put-on, laid-all, drop-same}
 use Rattle.files.specs.Page.{wordAt, versionIn, irsIn, irsAt, pageAt, pageBytes, keptPage}
 use Rattle.files.specs.File.{versionRefused, readCheck, charsRead, attrsRead}
-use Rattle.files.specs.Laws.{version-known, file-sized, FilePassed, file-passed, bytes-all}
+use Rattle.files.specs.Laws.{version-known, file-sized, FilePassed, file-passed, bytes-all, chip-there}
 use Rattle.files.specs.Round.{Bytes, byte, bytes-again, version-again, written-known, page-kept, kept-same}
 use Rattle.numbers.specs.Numbers.{numbersRefused, numbersCheck, counted, zerosAfter, numbersFront, numbersIn, pageNumbers, pageIn, cleared, numbersOfCheck, numbersOf}
 use Rattle.numbers.specs.Files.{pageReadSize, numbersRead}
@@ -91,6 +91,7 @@ numbers-page file l = λ i. record {
   video = record {
     dots = dots (same (n + 7) (1 + n + 7) (5 + n + 7) (omega (arith, rest)) (omega arith) (omega arith) i);
     strike = same (n + 8) (1 + n + 8) (5 + n + 8) (omega (arith, rest)) (omega arith) (omega arith) i;
+    chip = chip-same (eqb (versionIn file) 3) refl i;
   };
 }
   where
@@ -119,6 +120,10 @@ numbers-page file l = λ i. record {
 
     both : (k j m : ℕ) → k + 1 < size → j ≡ 1 + k → m ≡ 5 + k → getD (numbersIn file) j 0 * 256 + getD (numbersIn file) (j + 1) 0 ≡ getD file m 0 * 256 + getD file (m + 1) 0
     both k j m h q r = rw (same k j m (omega (arith, h)) q r, same (k + 1) (j + 1) (m + 1) h (omega (arith, q)) (omega (arith, r)))
+
+    chip-same : (t : Bool) → eqb (versionIn file) 3 ≡ t → pick t (getD (numbersIn file) (1 + n + 9) 0) 0 ≡ pick t (getD file (5 + n + 9) 0) 0
+    chip-same true e = same (n + 9) (1 + n + 9) (5 + n + 9) (omega (arith, chip-there (versionIn file) (eqb-true _ _ e))) (omega arith) (omega arith)
+    chip-same false e = refl
 
     irs-same : irsAt n (numbersIn file) 1 ≡ irsAt n file 5
     irs-same =
@@ -180,10 +185,10 @@ module _ (numbers : List ℕ) (fine : numbersRefused numbers ≡ false) (p : Pag
       let k = length-drop (counted (p .version)) numbers in
       rw (front-long p n (drop (counted (p .version)) numbers) (omega (arith, k, numbers-all numbers fine, layout-fits (p .version) .page-most))) (written-known p)
 
-  pub put-page : p .version ≡ getD numbers 0 0 → pageAt (pageIn p numbers) 1 ≡ p
-  put-page e =
+  pub put-page : p .version ≡ getD numbers 0 0 → (eqb (p .version) 3 ≡ false → p .video .chip ≡ 0) → pageAt (pageIn p numbers) 1 ≡ p
+  put-page e chip =
       let known = version-known numbers newestVersion (numbers-version numbers fine) in
-      page-kept p (drop (counted (p .version)) numbers) n (pageIn p numbers) 1 refl refl ∙ kept-same p (omega (arith, e, known .0)) (omega (arith, e, known .1))
+      page-kept p (drop (counted (p .version)) numbers) n (pageIn p numbers) 1 refl refl ∙ kept-same p (omega (arith, e, known .0)) (omega (arith, e, known .1)) chip
 
   -- the bytes that are ignored stay
   pub put-rest : drop (counted (p .version)) (pageIn p numbers) ≡ drop (counted (p .version)) numbers

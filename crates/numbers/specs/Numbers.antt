@@ -46,7 +46,7 @@ abbrev pub numbersIn : List ℕ → List ℕ
 numbersIn file = numbersFront (versionIn file) (take (pageLength (versionIn file)) (drop 5 file)) (zerosAfter (versionIn file))
 
 -- [more numbers]
--- those of a page: its version, its IRs, screen start 1, cursor and screen start 2 high byte first, switches, dots, strike line, zeros
+-- those of a page: its version, its IRs, screen start 1, cursor and screen start 2 high byte first, switches, dots, strike line, in version 3 the chip, zeros
 abbrev pub pageNumbers : Page → List ℕ
 pageNumbers p = numbersFront (versionOf p) (pageBytes p) (zerosAfter (p .version))
 

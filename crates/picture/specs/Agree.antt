@@ -31,7 +31,7 @@ use Rattle.dots.specs.Half.{same-shown}
 use Rattle.dots.specs.Stores.{inkOf}
 use Rattle.tables.specs.Tables.{markOf, numberFor, cellBy, shownWord, wordsAt, levelsAt}
 use Rattle.tables.specs.Marks.{mark-lt}
-use Rattle.tables.specs.Laws.{shown-lt, levels-at, levels-few, word-at, code-of, mark-of, by-word}
+use Rattle.tables.specs.Laws.{shown-lt, levels-at, levels-few, word-at, word-of, mark-of, by-word}
 use Rattle.line.specs.Line.{rowFor, codeFor, scanFor, lineLength}
 use Rattle.line.specs.Length.{length-shaped}
 use Rattle.line.specs.Walk.{validBy, contentBy, shapedLine, shaped}
@@ -80,15 +80,15 @@ module _ (b : Board) (chars attrs words flags : List ℕ) (lines : FontLines) (f
 
 -- of a font it is the picture
 pub shaped-picture : (b : Board) (chars attrs : List ℕ) (f : Font) (field : ℕ)
-    → shapedPicture b chars attrs (f .words) (f .flags) (fontLinesOf (f .unshifted) (f .shifted)) field ≡ pictureDots b chars attrs f field
+    → shapedPicture b chars attrs (f .words) (f .flags) (fontLinesOf (f .unshifted) (f .shifted) (f .groups)) field ≡ pictureDots b chars attrs f field
 unfolding shapedPicture pictureDots
 shaped-picture b chars attrs f field =
     same-joined 0 (visibleOf (b .page) .0) _ _ (λ line l u.
-    ap (λ (x : FontLine). shapedLine b chars attrs (wordBy (f .words) (f .flags) x) line field) (line-at (f .unshifted) (f .shifted) (scanFor b chars line) (scan-few b chars line))
+    ap (λ (x : FontLine). shapedLine b chars attrs (wordBy (f .words) (f .flags) x) line field) (line-at (f .unshifted) (f .shifted) (f .groups) (scanFor b chars line) (scan-few b chars line))
     ∙ shaped b chars attrs f line field)
 
 -- so what each scan line takes from the font is enough
-pub as-picture : (b : Board) (chars attrs : List ℕ) (f : Font) (field : ℕ) (lines : FontLines) (out out₀ : List ℕ) → lines ≡ fontLinesOf (f .unshifted) (f .shifted)
+pub as-picture : (b : Board) (chars attrs : List ℕ) (f : Font) (field : ℕ) (lines : FontLines) (out out₀ : List ℕ) → lines ≡ fontLinesOf (f .unshifted) (f .shifted) (f .groups)
     → out ≡ shapedOver b chars attrs (f .words) (f .flags) lines field out₀ → out ≡ pictureOver b chars attrs f field out₀
 as-picture b chars attrs f field lines out out₀ q e =
     (rw q at e) ∙ ap (λ (l : List ℕ). l ++ drop (pictureLength (b .page)) out₀) (shaped-picture b chars attrs f field)
@@ -111,10 +111,10 @@ module _ (b : Board) (chars attrs words flags : List ℕ) (lines : FontLines) (f
   abbrev n : ℕ
   n = linesOf (b .page)
 
-  same-cell : (s : ℕ) (k : Content) → s < scansOf (b .page) → k .code < 256 → cellDotsOf shown looks d s (numberFor k) ≡ scanDots b (wordBy words flags (fontLineAt lines s)) s field k
+  same-cell : (s : ℕ) (k : Content) → s < scansOf (b .page) → k .code < 256 → cellDotsOf shown looks d s (numberFor (readingOf (b .page)) k) ≡ scanDots b (wordBy words flags (fontLineAt lines s)) s field k
   unfolding cellDotsOf shownWord
   same-cell s k h l =
-      rw (code-of k l, mark-of k l, word-at words flags lines d shown (made .beyond) (scansOf (b .page)) s (k .code) (made .shown-is) h l)
+      rw (word-at words flags lines d shown (made .beyond) (scansOf (b .page)) s (numberFor (readingOf (b .page)) k % 512) (made .shown-is) h (omega arith), word-of (readingOf (b .page)) k l words flags (fontLineAt lines s) d, mark-of (readingOf (b .page)) k l)
       (by-word b words flags (fontLineAt lines s) s field page k (getD looks (s * 128 + markOf (k .attributes) (k .here)) 0)
       (levels-at b field looks (made .rest) (scansOf (b .page)) s (markOf (k .attributes) (k .here)) (made .looks-is) h (mark-lt (k .attributes) (k .here))))
 
@@ -154,7 +154,7 @@ module _ (b : Board) (chars attrs words flags : List ℕ) (lines : FontLines) (f
 
 -- what the drawer asks of its tables
 pub sheet-of : (b : Board) (words flags : List ℕ) (lines : FontLines) (field : ℕ) (shown looks inks : List ℕ) → Accepted (b .page) → Made b words flags lines field shown looks
-    → length shown ≡ 4096 → length looks ≡ 2048 → inks ≡ tab 288 inkOf → (p : Plan) → p ≡ planOf (b .page) → TablesFit p shown looks inks
+    → length shown ≡ 8192 → length looks ≡ 2048 → inks ≡ tab 288 inkOf → (p : Plan) → p ≡ planOf (b .page) → TablesFit p shown looks inks
 unfolding planOf
 sheet-of b words flags lines field shown looks inks page made ls lk ink p q = rw q (record {
   least = page .least;

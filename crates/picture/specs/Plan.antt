@@ -32,7 +32,7 @@ use Rattle.picture.specs.declared.Plan.{Plan}
 -- the dots of a cell's number on a scan line
 unfoldable pub cellDotsOf : (shown looks : List ℕ) → (d scan x : ℕ) → List ℕ
 cellDotsOf shown looks d scan x =
-    shades (getD looks (scan * 128 + x / 256) 0 % 4) (getD looks (scan * 128 + x / 256) 0 / 4) d (getD shown (scan * 256 + x % 256) 0)
+    shades (getD looks (scan * 128 + x / 512) 0 % 4) (getD looks (scan * 128 + x / 512) 0 / 4) d (getD shown (scan * 512 + x % 512) 0)
 
 unfoldable pub cellFrom : (cells shown looks : List ℕ) → (d scan i : ℕ) → List ℕ
 cellFrom cells shown looks d scan i = cellDotsOf shown looks d scan (getD cells i 0)
@@ -52,14 +52,14 @@ pub record TablesFit (p : Plan) (shown looks inks : List ℕ) : Type 0 where
   pub width-is : p .width ≡ p .columns .0 * p .dots .0
   pub size-is : p .size ≡ p .lines .0 * p .width
   pub bounded : Bounded (p .buffer)
-  pub shown-all : length shown ≡ 4096
+  pub shown-all : length shown ≡ 8192
   pub looks-all : length looks ≡ 2048
   pub looks-few : (s i : ℕ) → s < p .scans .0 → i < 128 → getD looks (s * 128 + i) 0 < 16
   pub inks-are : inks ≡ tab 288 inkOf
 
 -- the numbers of the cells that a row fetches
 abbrev pub Numbered : (wide : Bool) → Plan → (cells : List ℕ) → Type 0
-Numbered wide p cells = (i : ℕ) → i < fetchedFor wide (p .columns .0) → getD cells i 0 < 32768
+Numbered wide p cells = (i : ℕ) → i < fetchedFor wide (p .columns .0) → getD cells i 0 < 65536
 
 -- a scan line of the row's is shown, whatever its code
 pub scan-lt : (k : Code) (L s : ℕ) → s < L → scanOf k L s < L

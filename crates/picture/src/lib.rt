@@ -42,16 +42,16 @@ fn put(
     number: u16,
     tight: bool,
 )
-    requires { ⌜ TablesFit p (now shown) (now looks) (now inks) × (scan .0 < p .scans .0) × (number < 32768) ⌝ }
+    requires { ⌜ TablesFit p (now shown) (now looks) (now inks) × (scan .0 < p .scans .0) × (number < 65536) ⌝ }
     requires { ⌜ reachOf tight (p .dots .0) ≤ length (now out) ⌝ }
     ensures { λ _. ⌜ now (out .exit)
         ≡ cellDotsOf (now (shown .entry)) (now (looks .entry)) (reachOf tight (p .dots .0)) (scan .0) number
         ++ drop (reachOf tight (p .dots .0)) (now (out .entry)) ⌝ }
 {
     let s = scan.places();
-    let code = s * 256 + (number % 256) as usize;
-    let mark = s * 128 + (number / 256) as usize;
-    dots::put_cell(out, inks, looks[mark], shown[code], p.dots.places(), tight);
+    let sign = s * 512 + (number % 512) as usize;
+    let mark = s * 128 + (number / 512) as usize;
+    dots::put_cell(out, inks, looks[mark], shown[sign], p.dots.places(), tight);
 }
 
 // So many cells of a line. All but the last may be stored with some dots too many, over which the next cell is drawn.
@@ -65,7 +65,7 @@ fn draw_cells(
     scan: units::Lines,
     n: usize,
 )
-    requires { ⌜ TablesFit p (now shown) (now looks) (now inks) × (length (now cells) ≡ 256) × ((i : ℕ) → i < n → getD (now cells) i 0 < 32768) ⌝ }
+    requires { ⌜ TablesFit p (now shown) (now looks) (now inks) × (length (now cells) ≡ 256) × ((i : ℕ) → i < n → getD (now cells) i 0 < 65536) ⌝ }
     requires { ⌜ (scan .0 < p .scans .0) × (0 < n) × (n ≤ 256) × (n * p .dots .0 ≤ length (now out)) ⌝ }
     ensures { λ _. ⌜ now (out .exit)
         ≡ joined 0 n (cellFrom (now (cells .entry)) (now (shown .entry)) (now (looks .entry)) (p .dots .0) (scan .0))
@@ -294,7 +294,7 @@ fn by_rows(
     let page = b.page;
     let scans = p.scans;
     let d = p.dots.places();
-    let mut shown = [0u16; 4096];
+    let mut shown = [0u16; 8192];
     let mut looks = [0u8; 2048];
     let mut inks = [0u64; 288];
     tables::fill_words(&mut shown, words, flags, lines, scans, d);
@@ -376,16 +376,17 @@ pub fn draw_picture(
     flags: &[u8],
     unshifted: &[u8],
     shifted: &[u8],
+    groups: &[u8],
     field: u8,
     out: &mut [u8],
 ) -> refusal::Refusal
-    ensures { λ r. ⌜ DrawsPicture b (now (chars .entry)) (now (attrs .entry)) (lentFont words flags unshifted shifted)
+    ensures { λ r. ⌜ DrawsPicture b (now (chars .entry)) (now (attrs .entry)) (lentFont words flags unshifted shifted groups)
         field (now (out .entry)) r (now (out .exit)) ⌝ }
 {
-    let lent = video::lent_check(chars, attrs, words, flags, unshifted, shifted);
+    let lent = video::lent_check(chars, attrs, words, flags, unshifted, shifted, groups);
     let refused = picture_check(b, lent, out.len());
     if refusal::is_done(refused) {
-        let lines = shape::font_lines(unshifted, shifted);
+        let lines = shape::font_lines(unshifted, shifted, groups);
         whole_picture(out, b, chars, attrs, words, flags, lines, field);
     }
     refused

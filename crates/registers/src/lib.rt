@@ -8,7 +8,7 @@ ghost use Rattle.board.specs.Layout.{lastIr};
 ghost use Rattle.registers.specs.Write.{registerCheck, brokenOf, resetOf, pointedOf, pointOf, nextPointer, loadedOf, lowerOf, upperOf, startsAfter, startedOf, switchesAfter, switchedOf, commandOf, activeOf, inactiveOf, writeOf};
 ghost use Rattle.registers.specs.Read.{shownAt, readAt, readOf};
 ghost use Rattle.registers.specs.Answers.{answer, byteRead};
-ghost use Rattle.registers.specs.Video.{videoCheck, videoSet, setVideoOf};
+ghost use Rattle.registers.specs.Video.{videoCheck, withDots, videoSet, setVideoOf};
 
 pub struct Written {
     pub refusal: refusal::Refusal,
@@ -328,22 +328,30 @@ pub fn read(b: board::Board, a: u8) -> ByteRead
     }
 }
 
-fn video_check(
-    s: board::Starts,
-    version: u8,
-    switches: u8,
-    dots: units::Dots,
-    strike: u8,
-) -> refusal::Refusal
-    ensures { λ r. ⌜ r ≡ videoCheck s version switches dots strike ⌝ }
+fn video_check(p: board::Page) -> refusal::Refusal
+    ensures { λ r. ⌜ r ≡ videoCheck p ⌝ }
 {
-    if board::starts_refused(s) | board::switches_refused(version, switches) | (15 < strike) {
+    if board::address_refused(p) {
         return refusal::Refusal::Address;
     }
-    if timing::width_refused(dots) {
+    if timing::width_refused(p.video.dots) {
         return refusal::Refusal::Width;
     }
     refusal::Refusal::Done
+}
+
+// A page with other dots and another strike line.
+fn with_dots(p: board::Page, dots: units::Dots, strike: u8) -> board::Page
+    ensures { λ r. ⌜ r ≡ withDots p dots strike ⌝ }
+{
+    let video = board::Video {
+        dots: dots,
+        strike: strike,
+        chip: p.video.chip,
+    };
+    let mut n = p;
+    n.video = video;
+    n
 }
 
 fn with_video(
@@ -359,15 +367,11 @@ fn with_video(
     let retrace = choose(rblank, 8, 0);
     let s = b.page.switches;
     let switches = s / 16 * 16 + s % 4 + background + retrace;
-    let video = board::Video {
-        dots: dots,
-        strike: strike,
-    };
     let mut p = b.page;
     p.switches = switches;
-    p.video = video;
+    let page = with_dots(p, dots, strike);
     let mut n = b;
-    n.page = p;
+    n.page = page;
     n
 }
 
@@ -381,8 +385,7 @@ pub fn set_video(
 ) -> Written
     ensures { λ r. ⌜ r ≡ setVideoOf b dots strike bkgnd rblank ⌝ }
 {
-    let s = b.page.starts;
-    let refused = video_check(s, b.page.version, b.page.switches, dots, strike);
+    let refused = video_check(with_dots(b.page, dots, strike));
     if refusal::is_done(refused) {
         return done(with_video(b, dots, strike, bkgnd, rblank));
     }

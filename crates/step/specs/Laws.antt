@@ -18,14 +18,14 @@ use Rattle.board.specs.declared.Board.{Board}
 use Rattle.timing.specs.Check.{pageCheck, stateRefused, callCheck}
 use Rattle.timing.specs.Laws.{Accepted, InRange, ht-bound, vt-bound}
 use Rattle.shape.specs.declared.FontLine.{FontLine}
-use Rattle.shape.specs.Font.{Font, wordOf}
+use Rattle.shape.specs.Font.{Font, groupsCheck, wordOf}
 use Rattle.shape.specs.Laws.{by-small}
 use Rattle.video.specs.declared.Look.{Look}
 use Rattle.video.specs.Scene.{sceneOf, cursorAt}
 use Rattle.video.specs.Look.{blankLook}
 use Rattle.video.specs.Cell.{shadeOf, litBits, cellDots, columnOf}
 use Rattle.video.specs.Twice.{column-plain}
-use Rattle.video.specs.At.{scanDots, dotsAt}
+use Rattle.video.specs.At.{lentBy, scanDots, dotsAt}
 use Rattle.dots.specs.Half.{halfBy, half-column}
 use Rattle.dots.specs.Width.{length-cell}
 use Rattle.place.specs.declared.Carried.{Carried}
@@ -89,7 +89,7 @@ module _ (b : Board) (chars attrs words flags : List ℕ) (line : FontLine) (cod
   shown-small = go (activeAt (b .page) (b .place))
     where
       go : (t : Bool) → (pick t (cellShown b chars attrs words flags line code held a) (blankShown b)) .word < 1024
-      go true = by-small words flags line _
+      go true = by-small words flags line _ _
       go false = omega arith
 
   shown-cursor : shownIn b chars attrs words flags line code held a .cursor ≡ (activeAt (b .page) (b .place) && cursorAt (sceneOf b (scanIn b code) (b .place .field)) a)
@@ -116,7 +116,7 @@ clock-parts b chars attrs words flags line c ec q eq s es g eg d ed = rw (eq, eg
 
 -- its look and word make the dots
 dots-shown : (b : Board) (chars attrs : List ℕ) (f : Font) (code held a : ℕ) → b .page .video .dots .0 ≤ 12
-    → dotsShown b code (shownIn b chars attrs (f .words) (f .flags) (lineIn b (activeAt (b .page) (b .place)) code (f .unshifted) (f .shifted)) code held a)
+    → dotsShown b code (shownIn b chars attrs (f .words) (f .flags) (lineIn b (activeAt (b .page) (b .place)) code (f .unshifted) (f .shifted) (f .groups)) code held a)
     ≡ clockDots b chars attrs f code held a
 unfolding shownIn cellShown blankShown lineIn clockDots dotsAt scanDots sceneOf wordOf
 dots-shown b chars attrs f code held a most = ap (λ (l : List ℕ). padded l d) (go (activeAt (b .page) (b .place)))
@@ -128,7 +128,7 @@ dots-shown b chars attrs f code held a most = ap (λ (l : List ℕ). padded l d)
     x = sceneOf b 0 (b .place .field) .blank
 
     s : Bool → Shown
-    s t = pick t (cellShown b chars attrs (f .words) (f .flags) (lineIn b t code (f .unshifted) (f .shifted)) code held a) (blankShown b)
+    s t = pick t (cellShown b chars attrs (f .words) (f .flags) (lineIn b t code (f .unshifted) (f .shifted) (f .groups)) code held a) (blankShown b)
 
     go : (t : Bool) → columnOf (t && isWide (codeOf code)) (oddIn b) (cellDots (s t .look) (s t .word) d)
         ≡ pick t (columnOf (isWide (codeOf code)) (oddIn b) (dotsAt b chars attrs f (scanIn b code) (b .place .field) (validIn b attrs code held a) a)) (replicate d x)
@@ -138,7 +138,7 @@ dots-shown b chars attrs f code held a most = ap (λ (l : List ℕ). padded l d)
 -- ---- the check
 
 -- nothing refuses a clock
-pub clear-check : (b : Board) (lent : Refusal) → ((doneOf lent && doneOf (pageCheck (b .page))) && not (stateRefused b)) ≡ doneOf (callCheck b lent false false)
+clear-check : (b : Board) (lent : Refusal) → ((doneOf lent && doneOf (pageCheck (b .page))) && not (stateRefused b)) ≡ doneOf (callCheck b lent false false)
 unfolding callCheck
 clear-check b lent = go (doneOf lent) refl (doneOf (pageCheck (b .page))) refl (stateRefused b)
   where
@@ -148,6 +148,36 @@ clear-check b lent = go (doneOf lent) refl (doneOf (pageCheck (b .page))) refl (
     go true e true q true = refl
     go true e true q false = refl
     go true e false q r = sym q
+
+-- judged with the groups last
+module _ (b : Board) (size : Bool) (groups : List ℕ) where
+  abbrev early : Bool
+  early = (size || not (doneOf (pageCheck (b .page)))) || stateRefused b
+
+  order : (s d r g : Bool) → ((pick s false g && d) && not r) ≡ pick ((s || not d) || r) false g
+  order true d r g = refl
+  order false false r true = refl
+  order false false r false = refl
+  order false true true true = refl
+  order false true true false = refl
+  order false true false true = refl
+  order false true false false = refl
+
+  lent-done : (s : Bool) → doneOf (lentBy s groups) ≡ pick s false (doneOf (groupsCheck groups))
+  lent-done true = refl
+  lent-done false = refl
+
+  all : pick early false (doneOf (groupsCheck groups)) ≡ doneOf (callCheck b (lentBy size groups) false false)
+  all =
+      sym (order size (doneOf (pageCheck (b .page))) (stateRefused b) (doneOf (groupsCheck groups)))
+      ∙ ap (λ (g : Bool). (g && doneOf (pageCheck (b .page))) && not (stateRefused b)) (sym (lent-done size))
+      ∙ clear-check b (lentBy size groups)
+
+  pub not-clear : early ≡ true → false ≡ doneOf (callCheck b (lentBy size groups) false false)
+  not-clear e = ap (λ (t : Bool). pick t false (doneOf (groupsCheck groups))) (sym e) ∙ all
+
+  pub clear-but : early ≡ false → doneOf (groupsCheck groups) ≡ doneOf (callCheck b (lentBy size groups) false false)
+  clear-but e = ap (λ (t : Bool). pick t false (doneOf (groupsCheck groups))) (sym e) ∙ all
 
 -- where neither the sizes nor the page refuse it, the state does
 pub range-left : (b : Board) (lent : Refusal) → doneOf (callCheck b lent false false) ≡ false → doneOf lent ≡ true → doneOf (pageCheck (b .page)) ≡ true
@@ -170,13 +200,13 @@ address-lt b chars page state c e = rw e (loaded-lt (b .page) chars page (b .pla
 module _ (b : Board) (chars attrs : List ℕ) (f : Font) where
   -- a clock with the font's line is that of the step
   clocked : b .page .video .dots .0 ≤ 12
-      → clockWith b chars attrs (f .words) (f .flags) (lineIn b (activeAt (b .page) (b .place)) (codeIn b chars) (f .unshifted) (f .shifted))
+      → clockWith b chars attrs (f .words) (f .flags) (lineIn b (activeAt (b .page) (b .place)) (codeIn b chars) (f .unshifted) (f .shifted) (f .groups))
       ≡ clockIn (steppedOf b chars attrs f)
   unfolding steppedOf clockWith
-  clocked most = rw (signals-shown b chars attrs (f .words) (f .flags) (lineIn b (activeAt (b .page) (b .place)) (codeIn b chars) (f .unshifted) (f .shifted)) (codeIn b chars) (heldOf b chars) (addressOf b chars), dots-shown b chars attrs f (codeIn b chars) (heldOf b chars) (addressOf b chars) most)
+  clocked most = rw (signals-shown b chars attrs (f .words) (f .flags) (lineIn b (activeAt (b .page) (b .place)) (codeIn b chars) (f .unshifted) (f .shifted) (f .groups)) (codeIn b chars) (heldOf b chars) (addressOf b chars), dots-shown b chars attrs f (codeIn b chars) (heldOf b chars) (addressOf b chars) most)
 
   pub clock-done : doneOf (stepCheck b chars attrs f) ≡ true → b .page .video .dots .0 ≤ 12 → (c : Carried) → c ≡ loadedIn (b .page) chars (b .place)
-      → (active : Bool) → active ≡ activeAt (b .page) (b .place) → (line : FontLine) → line ≡ lineIn b active (c .beam .code) (f .unshifted) (f .shifted)
+      → (active : Bool) → active ≡ activeAt (b .page) (b .place) → (line : FontLine) → line ≡ lineIn b active (c .beam .code) (f .unshifted) (f .shifted) (f .groups)
       → (r : Clock) → r ≡ clockWith b chars attrs (f .words) (f .flags) line → r ≡ clockIn (stepOf b chars attrs f)
   unfolding stepOf
   clock-done e most c ec active ea line el r h = rw e (h ∙ (rw (el, ea, ec) (clocked most)))

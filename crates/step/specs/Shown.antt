@@ -15,7 +15,7 @@ use Rattle.shape.specs.Font.{fontLineOf, wordBy}
 use Rattle.video.specs.Scene.{displayed, blinkAt, sceneOf, cursorAt}
 use Rattle.video.specs.Look.{blankLook, lookOf}
 use Rattle.video.specs.Cell.{cellDots, columnOf}
-use Rattle.video.specs.At.{shownCode}
+use Rattle.video.specs.At.{readingOf, graphicsBy, shownCode}
 use Rattle.place.specs.Place.{activeAt, nextPlace}
 use Rattle.step.specs.declared.Signals.{Signals}
 use Rattle.step.specs.declared.Shown.{Shown}
@@ -41,7 +41,10 @@ cellShown b chars attrs words flags line k held a = record {
       lookOf (sceneOf b (scanIn b k) (b .place .field))
       (validIn b attrs k held a)
       (cursorAt (sceneOf b (scanIn b k) (b .place .field)) a);
-  word = wordBy words flags line (shownCode (settersHidden (b .page)) (getD chars a 0) (getD attrs a 0));
+  word =
+      wordBy words flags line
+      (graphicsBy (readingOf (b .page)) (validIn b attrs k held a))
+      (shownCode (settersHidden (b .page)) (getD chars a 0) (getD attrs a 0));
 }
 
 -- the blank level is the same on every scan line
@@ -49,8 +52,8 @@ unfoldable pub blankShown : Board → Shown
 blankShown b = record { cursor = false; look = blankLook (sceneOf b 0 (b .place .field) .blank); word = 0 }
 
 -- what a clock's scan line takes from the font
-unfoldable pub lineIn : Board → (active : Bool) → (code : ℕ) → (unshifted shifted : List ℕ) → FontLine
-lineIn b active k unshifted shifted = pick active (fontLineOf unshifted shifted (scanIn b k)) (record { unshifted = 0; shifted = 0 })
+unfoldable pub lineIn : Board → (active : Bool) → (code : ℕ) → (unshifted shifted groups : List ℕ) → FontLine
+lineIn b active k unshifted shifted groups = pick active (fontLineOf unshifted shifted groups (scanIn b k)) (record { unshifted = 0; shifted = 0; group = 0 })
 
 unfoldable pub shownIn : Board → (chars attrs words flags : List ℕ) → FontLine → (code held address : ℕ) → Shown
 shownIn b chars attrs words flags line k held a =

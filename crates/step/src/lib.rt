@@ -8,6 +8,7 @@ ghost use Rattle.units.specs.Units.{lines};
 ghost use Rattle.refusal.specs.Number.{doneOf};
 ghost use Rattle.timing.specs.Check.{callCheck};
 ghost use Rattle.shape.specs.Font.{lentFont};
+ghost use Rattle.video.specs.At.{lentBy};
 ghost use Rattle.video.specs.Lent.{Lent};
 ghost use Rattle.video.specs.Scene.{sceneOf};
 ghost use Rattle.video.specs.Cell.{cellDots, columnOf};
@@ -116,14 +117,15 @@ fn cell_shown(
     let cursor = video::cursor_at(scene, address);
     let byte = attrs[address];
     let again = raster::again_at(raster::code_of(code), b.place.clock);
-    let counted = video::counted_byte(video::reading_of(page), again, byte);
+    let reading = video::reading_of(page);
+    let counted = video::counted_byte(reading, again, byte);
     let valid = raster::latched(counted, held);
-    let hidden = board::setters_hidden(page);
-    let letter = video::shown_code(hidden, chars[address], byte);
+    let letter = video::shown_code(reading.hidden, chars[address], byte);
+    let graphics = video::graphics_by(reading, valid);
     Shown {
         cursor,
         look: video::look_of(scene, valid, cursor),
-        word: shape::word_by(words, flags, line, letter),
+        word: shape::word_by(words, flags, line, graphics, letter),
     }
 }
 
@@ -150,15 +152,17 @@ fn line_in(
     code: u8,
     unshifted: &[u8],
     shifted: &[u8],
+    groups: &[u8],
 ) -> shape::FontLine
-    ensures { λ r. ⌜ r ≡ lineIn b active code (now (unshifted .entry)) (now (shifted .entry)) ⌝ }
+    ensures { λ r. ⌜ r ≡ lineIn b active code (now (unshifted .entry)) (now (shifted .entry)) (now (groups .entry)) ⌝ }
 {
     if active {
-        return shape::font_line(unshifted, shifted, scan_in(b, code));
+        return shape::font_line(unshifted, shifted, groups, scan_in(b, code));
     }
     shape::FontLine {
         unshifted: 0,
         shifted: 0,
+        group: 0,
     }
 }
 
@@ -250,19 +254,24 @@ fn one_clock(
     }
 }
 
-// Whether nothing refuses a clock, without the number. timing::call_check has it all, but is too large to be inlined.
-fn clear(b: board::Board, lent: refusal::Refusal) -> bool
-    ensures { λ r. ⌜ r ≡ doneOf (callCheck b lent false false) ⌝ }
+// Whether nothing refuses a clock, without the number. timing::call_check has it all, but is too large to be inlined. The groups come last, since their
+// loop parts what stands before it from what stands behind.
+fn clear(b: board::Board, size: bool, groups: &[u8]) -> bool
+    ensures { λ r. ⌜ r ≡ doneOf (callCheck b (lentBy size (now (groups .entry))) false false) ⌝ }
 {
     let page = b.page;
-    refusal::is_done(lent) & refusal::is_done(timing::page_check(page)) & !timing::state_refused(b)
+    if size | !refusal::is_done(timing::page_check(page)) | timing::state_refused(b) {
+        return false;
+    }
+    refusal::is_done(shape::groups_check(groups))
 }
 
 // What refuses a clock that something refuses.
-fn refused_by(b: board::Board, lent: refusal::Refusal) -> refusal::Refusal
-    requires { ⌜ doneOf (callCheck b lent false false) ≡ false ⌝ }
-    ensures { λ r. ⌜ r ≡ callCheck b lent false false ⌝ }
+fn refused_by(b: board::Board, size: bool, groups: &[u8]) -> refusal::Refusal
+    requires { ⌜ doneOf (callCheck b (lentBy size (now groups)) false false) ≡ false ⌝ }
+    ensures { λ r. ⌜ r ≡ callCheck b (lentBy size (now (groups .entry))) false false ⌝ }
 {
+    let lent = video::lent_by(size, groups);
     if !refusal::is_done(lent) {
         return lent;
     }
@@ -283,21 +292,22 @@ fn clock_of(
     flags: &[u8],
     unshifted: &[u8],
     shifted: &[u8],
+    groups: &[u8],
 ) -> Clock
-    ensures { λ r. ⌜ r ≡ clockIn (stepOf b (now (chars .entry)) (now (attrs .entry)) (lentFont words flags unshifted shifted)) ⌝ }
+    ensures { λ r. ⌜ r ≡ clockIn (stepOf b (now (chars .entry)) (now (attrs .entry)) (lentFont words flags unshifted shifted groups)) ⌝ }
 {
-    let lent = video::lent_check(chars, attrs, words, flags, unshifted, shifted);
-    if clear(b, lent) {
+    let size = video::lent_refused(chars, attrs, words, flags, unshifted, shifted, groups);
+    if clear(b, size, groups) {
         let page = b.page;
         let at = b.place;
         let c = place::loaded_at(page, chars, at);
         let active = place::active_at(page, at);
-        let line = line_in(b, active, c.beam.code, unshifted, shifted);
+        let line = line_in(b, active, c.beam.code, unshifted, shifted, groups);
         return one_clock(b, c, active, chars, attrs, words, flags, line);
     }
     let place = b.place;
     Clock {
-        refusal: refused_by(b, lent),
+        refusal: refused_by(b, size, groups),
         signals: Signals {
             hsync: false,
             vsync: false,
@@ -321,10 +331,11 @@ pub fn step(
     flags: &[u8],
     unshifted: &[u8],
     shifted: &[u8],
+    groups: &[u8],
 ) -> Stepped
-    ensures { λ r. ⌜ r ≡ stepOf b (now (chars .entry)) (now (attrs .entry)) (lentFont words flags unshifted shifted) ⌝ }
+    ensures { λ r. ⌜ r ≡ stepOf b (now (chars .entry)) (now (attrs .entry)) (lentFont words flags unshifted shifted groups) ⌝ }
 {
-    let c = clock_of(b, chars, attrs, words, flags, unshifted, shifted);
+    let c = clock_of(b, chars, attrs, words, flags, unshifted, shifted, groups);
     let refused = c.refusal;
     let signals = c.signals;
     let dots = c.dots;

@@ -1,11 +1,11 @@
 -- What a drawer makes of a cell's number and the tables is what the scan line makes of the cell. Assumes nothing.
-use Prim.Native.Nat.{ℕ, _+_, _*_, _/_, _%_, _≤_, _<_}
+use Prim.Native.Nat.{ℕ, zero, suc, _+_, _*_, _/_, _%_, _≤_, _<_}
 use mathlib.Core.Path.{_≡_, refl, sym, ap, ap₂, _∙_}
 use mathlib.Core.Bool.{Bool, true, false, _&&_}
 use mathlib.Core.List.{List, _++_}
 use native.Mathlib.Numerals.{add-one}
 use native.Mathlib.Omega.{arith}
-use borrow.Author.Tests.{lt-ltb}
+use borrow.Author.Tests.{eqb-true, eqb-false, lt-ltb, lt-leb, le-leb}
 use lib.Dec.{ltb, leb, eqb}
 use lib.ListN.{length, getD, drop, length-append, length-drop, List·getD-append}
 use lib.Seq.{drop-at, drop-append-add, drop-drop}
@@ -27,15 +27,15 @@ use Rattle.video.specs.declared.Look.{Look}
 use Rattle.video.specs.declared.Reading.{Reading}
 use Rattle.video.specs.Scene.{sceneOf}
 use Rattle.video.specs.Look.{lookOf}
-use Rattle.video.specs.At.{Content, scanDots, fetchedContent}
+use Rattle.video.specs.At.{Content, readingOf, graphicsBy, scanDots, fetchedContent}
 use Rattle.dots.specs.Stores.{wideOf}
 use Rattle.dots.specs.Width.{shades, cell-shades}
-use Rattle.tables.specs.Tables.{markOf, numberFor, heldBy, cellBy, levelsBy, levelsOf, levelsAt, noWord, shownWord, wordsAt}
+use Rattle.tables.specs.Tables.{markOf, signOf, numberFor, heldBy, cellBy, levelsBy, levelsOf, levelsAt, noWord, shownWord, wordsAt}
 use Rattle.tables.specs.Marks.{mark-look, mark-lt, levels-lt, symbol-of, under-of}
 
-pub length-words : (words flags : List ℕ) (lines : FontLines) (d s : ℕ) → length (wordsAt words flags lines d s) ≡ 256
+pub length-words : (words flags : List ℕ) (lines : FontLines) (d s : ℕ) → length (wordsAt words flags lines d s) ≡ 512
 unfolding wordsAt
-length-words words flags lines d s = length-tab 256 _
+length-words words flags lines d s = length-tab 512 _
 
 pub length-levels : (b : Board) (field s : ℕ) → length (levelsAt b field s) ≡ 128
 unfolding levelsAt
@@ -49,7 +49,9 @@ no-bits false = refl
 module _ (words flags : List ℕ) (line : FontLine) (d : ℕ) where
   unshown : (code : ℕ) → code < 128 → noWord code ≡ shownWord words flags line d code
   unfolding noWord shownWord wordBy wideOf
-  unshown code h = rw (lt-ltb code 128 h) (no-bits (ltb 10 d))
+  unshown code h =
+      let same : code % 256 ≡ code = omega arith in
+      rw (lt-leb 256 code (omega arith), same, lt-ltb code 128 h) (no-bits (ltb 10 d))
 
   low-codes : tab 128 noWord ≡ tab 128 (shownWord words flags line d)
   low-codes = same-tab 128 _ _ unshown
@@ -73,16 +75,53 @@ module _ (words flags : List ℕ) (line : FontLine) (d : ℕ) where
         let back : drop 256 t1 ≡ drop 256 t = (rw p (ap (λ (i : ℕ). drop (i + 128) (a ++ drop 128 t)) (sym k)) ∙ drop-append-add a (drop 128 t) 128 ∙ drop-drop 128 128 t) in
         q ∙ rw back
 
+-- a sign has its mode and its code
+module _ (code : ℕ) (h : code < 256) where
+  pub sign-lt : (g : Bool) → signOf g code < 512
+  sign-lt true = omega arith
+  sign-lt false = omega arith
+
+  pub sign-mode : (g : Bool) → leb 256 (signOf g code) ≡ g
+  sign-mode true = le-leb 256 (code + 256) (omega arith)
+  sign-mode false = lt-leb 256 (code + 0) (omega arith)
+
+  pub sign-code : (g : Bool) → signOf g code % 256 ≡ code
+  sign-code true = omega arith
+  sign-code false = omega arith
+
+-- a number once or not at all
+pub bit-times : (b n : ℕ) → b < 2 → b * n ≤ n
+bit-times zero n h = omega arith
+bit-times (suc zero) n h = omega arith
+bit-times (suc (suc b)) n h = absurd (omega arith)
+
+-- and is made of attribute bit 5, which on chip A adds nothing
+pub sign-by : (r : Reading) (attributes code : ℕ) → code + attributes / 32 % 2 * pick (r .graphics) 256 0 ≡ signOf (graphicsBy r attributes) code
+sign-by r attributes code = go (r .graphics) (eqb (attributes / 32 % 2) 1) refl
+  where
+    go : (g t : Bool) → eqb (attributes / 32 % 2) 1 ≡ t → code + attributes / 32 % 2 * pick g 256 0 ≡ code + pick (g && t) 256 0
+    go true true e = omega (arith, eqb-true (attributes / 32 % 2) 1 e)
+    go true false e = omega (arith, eqb-false (attributes / 32 % 2) 1 e)
+    go false t e = omega arith
+
 -- a cell's number taken apart
-module _ (k : Content) (h : k .code < 256) where
-  pub code-of : numberFor k % 256 ≡ k .code
-  code-of = omega arith
+module _ (r : Reading) (k : Content) (h : k .code < 256) where
+  abbrev graphics : Bool
+  graphics = graphicsBy r (k .attributes)
 
-  pub mark-of : numberFor k / 256 ≡ markOf (k .attributes) (k .here)
-  mark-of = omega arith
+  pub sign-of : numberFor r k % 512 ≡ signOf graphics (k .code)
+  sign-of = omega (arith, sign-lt (k .code) h graphics)
 
-  pub number-lt : numberFor k < 32768
-  number-lt = omega (arith, mark-lt (k .attributes) (k .here))
+  pub mark-of : numberFor r k / 512 ≡ markOf (k .attributes) (k .here)
+  mark-of = omega (arith, sign-lt (k .code) h graphics)
+
+  pub number-lt : numberFor r k < 65536
+  number-lt = omega (arith, sign-lt (k .code) h graphics, mark-lt (k .attributes) (k .here))
+
+  -- the word of its sign
+  pub word-of : (words flags : List ℕ) (line : FontLine) (d : ℕ) → shownWord words flags line d (numberFor r k % 512) ≡ wideOf (wordBy words flags line graphics (k .code)) d
+  unfolding shownWord
+  word-of words flags line d = rw (sign-of, sign-mode (k .code) h graphics, sign-code (k .code) h graphics)
 
 -- ---- what the tables hold
 
@@ -95,19 +134,19 @@ shown-lt k chars attrs held a bytes = pick-lt 256 (k .hidden && leb 128 (getD at
 
 -- of a row its cells, of a scan line the levels of a mark
 module _ (k : Reading) (chars attrs : List ℕ) (buffer : Buffer) (held start n : ℕ) (cells rest : List ℕ) (e : cells ≡ tab n (cellBy k chars attrs buffer held start) ++ rest) where
-  pub gathered : (c : ℕ) → c < n → getD cells c 0 ≡ numberFor (fetchedContent k chars attrs (heldBy (k .runs) attrs buffer held start c) (advanceBy buffer c start))
+  pub gathered : (c : ℕ) → c < n → getD cells c 0 ≡ numberFor k (fetchedContent k chars attrs (heldBy (k .runs) attrs buffer held start c) (advanceBy buffer c start))
   unfolding cellBy
   gathered c h = looked _ n cells rest c e h
 
-  pub gathered-lt : ((i : ℕ) → getD chars i 0 < 256) → (c : ℕ) → c < n → getD cells c 0 < 32768
+  pub gathered-lt : ((i : ℕ) → getD chars i 0 < 256) → (c : ℕ) → c < n → getD cells c 0 < 65536
   gathered-lt bytes c h =
       let valid = heldBy (k .runs) attrs buffer held start c in
       let a = advanceBy buffer c start in
-      rw (gathered c h) (number-lt (fetchedContent k chars attrs valid a) (shown-lt k chars attrs valid a bytes))
+      rw (gathered c h) (number-lt k (fetchedContent k chars attrs valid a) (shown-lt k chars attrs valid a bytes))
 
 -- where the walk along the row stands: what is valid before the cell, its number, and what is valid after it
 module _ (k : Reading) (chars attrs : List ℕ) (buffer : Buffer) (held start c : ℕ) (x : Cell) (e : x ≡ cell (advanceBy buffer c start)) (valid : ℕ) (q : valid ≡ heldBy (k .runs) attrs buffer held start c) where
-  pub as-cell : (v : ℕ) → v ≡ numberFor (fetchedContent k chars attrs valid (x .address)) → v ≡ cellBy k chars attrs buffer held start c
+  pub as-cell : (v : ℕ) → v ≡ numberFor k (fetchedContent k chars attrs valid (x .address)) → v ≡ cellBy k chars attrs buffer held start c
   unfolding cellBy
   as-cell v d = rw (e, q) at d
 
@@ -128,11 +167,11 @@ pub levels-at : (b : Board) (field : ℕ) (xs rest : List ℕ) (n s i : ℕ) →
 unfolding levelsAt
 levels-at b field xs rest n s i e h l = join-element (levelsAt b field) 128 (length-levels b field) xs rest n s i e h l ∙ getD-tab 128 _ i l
 
-pub word-at : (words flags : List ℕ) (lines : FontLines) (d : ℕ) (xs rest : List ℕ) (n s i : ℕ) → xs ≡ joined 0 n (wordsAt words flags lines d) ++ rest → s < n → i < 256
-    → getD xs (s * 256 + i) 0 ≡ shownWord words flags (fontLineAt lines s) d i
+pub word-at : (words flags : List ℕ) (lines : FontLines) (d : ℕ) (xs rest : List ℕ) (n s i : ℕ) → xs ≡ joined 0 n (wordsAt words flags lines d) ++ rest → s < n → i < 512
+    → getD xs (s * 512 + i) 0 ≡ shownWord words flags (fontLineAt lines s) d i
 unfolding wordsAt
 word-at words flags lines d xs rest n s i e h l =
-    join-element (wordsAt words flags lines d) 256 (length-words words flags lines d) xs rest n s i e h l ∙ getD-tab 256 _ i l
+    join-element (wordsAt words flags lines d) 512 (length-words words flags lines d) xs rest n s i e h l ∙ getD-tab 512 _ i l
 
 -- the levels of a mark on a scan line are those of one of sixteen looks
 pub levels-few : (b : Board) (field s i : ℕ) → levelsOf (sceneOf b s field) i < 16
@@ -146,7 +185,7 @@ module _ (b : Board) (words flags : List ℕ) (line : FontLine) (scan field : �
   d = b .page .video .dots .0
 
   abbrev word : ℕ
-  word = wordBy words flags line (k .code)
+  word = wordBy words flags line (graphicsBy (readingOf (b .page)) (k .attributes)) (k .code)
 
   abbrev here : Bool
   here = sceneOf b scan field .gate && k .here
@@ -161,4 +200,4 @@ module _ (b : Board) (words flags : List ℕ) (line : FontLine) (scan field : �
   unfolding scanDots
   by-word =
       rw (levelled, symbol-of b scan field (k .attributes) here, under-of b scan field (k .attributes) here)
-      (cell-shades look word d (by-small _ _ _ _) (a .most))
+      (cell-shades look word d (by-small _ _ _ _ _) (a .most))

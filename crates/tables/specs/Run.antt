@@ -30,4 +30,4 @@ module _ (k : Reading) (chars attrs : List ℕ) (buffer : Buffer) (held start n 
 
   pub run-cells : tab n (cellBy k chars attrs whole held start) ≡ tab n (cellBy k chars attrs buffer held start)
   unfolding cellBy
-  run-cells = same-tab n _ _ (λ i l. ap₂ (λ (v a : ℕ). numberFor (fetchedContent k chars attrs v a)) (run-held i (omega arith)) (same-at i l))
+  run-cells = same-tab n _ _ (λ i l. ap₂ (λ (v a : ℕ). numberFor k (fetchedContent k chars attrs v a)) (run-held i (omega arith)) (same-at i l))

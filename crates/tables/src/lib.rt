@@ -1,23 +1,39 @@
-// What lines and pictures are drawn from: cells as numbers, tables by mark and by code.
+// What lines and pictures are drawn from: cells as numbers, tables by mark and by sign.
 ghost use mathlib.Core.Path.{_≡_};
 ghost use mathlib.Core.List.{_++_};
-ghost use Prim.Native.Nat.{_+_, _-_, _*_, _≤_, _<_};
+ghost use Prim.Native.Nat.{_+_, _-_, _*_, _/_, _%_, _≤_, _<_};
 ghost use lib.ListN.{length, drop};
 ghost use Rattle.lists.specs.Choice.{pick};
 ghost use Rattle.lists.specs.Tab.{tab};
 ghost use Rattle.raster.specs.Moves.{Bounded};
 ghost use Rattle.tables.specs.Run.{whole};
-ghost use Rattle.tables.specs.Tables.{cellNumber, levelsFor, noWord, shownWord, Gathers, looksPut, looksFilled, wordsFilled};
+ghost use Rattle.tables.specs.Tables.{cellNumber, levelsFor, noWord, shownWord, pairWord, Gathers, looksPut, looksFilled, wordsFilled};
 
-// A cell's code, and 256 times its mark: the six attributes, and 64 where the cursor's address is the cell's.
-fn cell_number(code: u8, attributes: u8, here: bool) -> u16
-    ensures { λ r. ⌜ r ≡ cellNumber code attributes here ⌝ }
+// What attribute bit 5 adds to a code: 256 if it means graphics. A number, since a test in the loop would keep the compiler from making vectors.
+fn graphics_step(graphics: bool) -> u16
+    ensures { λ r. ⌜ r ≡ pick graphics 256 0 ⌝ }
 {
-    let six = 256 * (attributes % 64) as u16;
+    if graphics { 256 } else { 0 }
+}
+
+// A code, and 256 in graphics mode.
+fn sign_of(step: u16, attributes: u8, code: u8) -> u16
+    requires { ⌜ step ≤ 256 ⌝ }
+    ensures { λ r. ⌜ (r ≡ code + attributes / 32 % 2 * step) × (r < 512) ⌝ }
+{
+    code as u16 + (attributes / 32 % 2) as u16 * step
+}
+
+// A cell's sign, and 512 times its mark: the six attributes, and 64 where the cursor's address is the cell's.
+fn cell_number(sign: u16, attributes: u8, here: bool) -> u16
+    requires { ⌜ sign < 512 ⌝ }
+    ensures { λ r. ⌜ r ≡ cellNumber sign attributes here ⌝ }
+{
+    let six = 512 * (attributes % 64) as u16;
     if here {
-        return code as u16 + six + 0x4000;
+        return sign + six + 0x8000;
     }
-    code as u16 + six
+    sign + six
 }
 
 // What is valid after a cell: in field mode what is valid at it, else what was before.
@@ -27,7 +43,7 @@ fn run_on(runs: bool, valid: u8, held: u8) -> u8
     if runs { valid } else { held }
 }
 
-// The cells of a row that are one run. The compiler makes vectors of it unless attributes run on.
+// The cells of a row that are one run. The compiler makes vectors of it unless attributes run on. All in them has sixteen bits, the cell's address too.
 fn gather_run(
     cells: &mut [u16],
     chars: &[u8],
@@ -41,7 +57,8 @@ fn gather_run(
     ensures { λ r. ⌜ Gathers k (now (chars .entry)) (now (attrs .entry)) whole held from n
         (now (cells .entry)) r (now (cells .exit)) ⌝ }
 {
-    let cursor = k.cursor as usize;
+    let first = from as u16;
+    let step = graphics_step(k.graphics);
     let mut valid = held;
     let mut c = 0;
     while c < n {
@@ -49,7 +66,8 @@ fn gather_run(
         let byte = attrs[at];
         let code = video::shown_code(k.hidden, chars[at], byte);
         let attributes = raster::latched(byte, valid);
-        cells[c] = cell_number(code, attributes, at == cursor);
+        let sign = sign_of(step, attributes, code);
+        cells[c] = cell_number(sign, attributes, first + c as u16 == k.cursor);
         valid = run_on(k.runs, attributes, valid);
         c += 1;
     }
@@ -71,6 +89,7 @@ fn gather_round(
     ensures { λ r. ⌜ Gathers k (now (chars .entry)) (now (attrs .entry)) buffer held (start .address) n
         (now (cells .entry)) r (now (cells .exit)) ⌝ }
 {
+    let step = graphics_step(k.graphics);
     let mut cell = start;
     let mut valid = held;
     let mut c = 0;
@@ -80,7 +99,8 @@ fn gather_round(
         let byte = attrs[at];
         let code = video::shown_code(k.hidden, chars[at], byte);
         let attributes = raster::latched(byte, valid);
-        cells[c] = cell_number(code, attributes, address == k.cursor);
+        let sign = sign_of(step, attributes, code);
+        cells[c] = cell_number(sign, attributes, address == k.cursor);
         valid = run_on(k.runs, attributes, valid);
         cell = raster::advance_one(buffer, cell);
         c += 1;
@@ -167,8 +187,8 @@ fn no_words(table: &mut [u16])
     }
 }
 
-// A scan line's table by code: a number whose low bits are the dots.
-fn shown_words(table: &mut [u16], words: &[u16], flags: &[u8], line: shape::FontLine, d: usize)
+// A scan line's table by code, in character mode: a number whose low bits are the dots.
+fn letter_words(table: &mut [u16], words: &[u16], flags: &[u8], line: shape::FontLine, d: usize)
     requires { ⌜ (length (now words) ≡ 1152) × (length (now flags) ≡ 128) × (256 ≤ length (now table)) ⌝ }
     ensures { λ _. ⌜ now (table .exit)
         ≡ tab 256 (shownWord (now (words .entry)) (now (flags .entry)) line d) ++ drop 256 (now (table .entry)) ⌝ }
@@ -176,10 +196,32 @@ fn shown_words(table: &mut [u16], words: &[u16], flags: &[u8], line: shape::Font
     no_words(table);
     let mut i: usize = 128;
     while i < 256 {
-        let word = shape::word_by(words, flags, line, i as u8);
+        let word = shape::word_by(words, flags, line, false, i as u8);
         table[i] = dots::wide(word, d);
         i += 1;
     }
+}
+
+// The same in graphics mode.
+fn pair_words(table: &mut [u16], group: u8, d: usize)
+    requires { ⌜ 256 ≤ length (now table) ⌝ }
+    ensures { λ _. ⌜ now (table .exit) ≡ tab 256 (pairWord group d) ++ drop 256 (now (table .entry)) ⌝ }
+{
+    let mut i: usize = 0;
+    while i < 256 {
+        table[i] = dots::wide(shape::graphics_word(group, i as u8), d);
+        i += 1;
+    }
+}
+
+// A scan line's table by sign.
+fn shown_words(table: &mut [u16], words: &[u16], flags: &[u8], line: shape::FontLine, d: usize)
+    requires { ⌜ (length (now words) ≡ 1152) × (length (now flags) ≡ 128) × (512 ≤ length (now table)) ⌝ }
+    ensures { λ _. ⌜ now (table .exit)
+        ≡ tab 512 (shownWord (now (words .entry)) (now (flags .entry)) line d) ++ drop 512 (now (table .entry)) ⌝ }
+{
+    letter_words(table, words, flags, line, d);
+    pair_words(&mut table[256..], line.group, d);
 }
 
 // Those of n scan lines, end to end.
@@ -191,14 +233,14 @@ pub fn fill_words(
     n: units::Lines,
     d: usize,
 )
-    requires { ⌜ (length (now words) ≡ 1152) × (length (now flags) ≡ 128) × (n .0 ≤ 16) × (n .0 * 256 ≤ length (now table)) ⌝ }
+    requires { ⌜ (length (now words) ≡ 1152) × (length (now flags) ≡ 128) × (n .0 ≤ 16) × (n .0 * 512 ≤ length (now table)) ⌝ }
     ensures { λ _. ⌜ now (table .exit) ≡ wordsFilled (now (words .entry)) (now (flags .entry)) lines (n .0) d (now (table .entry)) ⌝ }
 {
     let count = n.places();
     let mut s: usize = 0;
     while s < count {
         let line = shape::font_line_at(lines, units::Lines(s as u32));
-        let a = s * 256;
+        let a = s * 512;
         shown_words(&mut table[a..], words, flags, line, d);
         s += 1;
     }

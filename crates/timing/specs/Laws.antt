@@ -20,7 +20,7 @@ use Rattle.raster.specs.Raster.{Good}
 use Rattle.board.specs.declared.Page.{Page}
 use Rattle.board.specs.declared.Board.{Board}
 use Rattle.board.specs.Layout.{lastIr}
-use Rattle.board.specs.Range.{startsRefused, switchesRefused, addressRefused, cellsRefused, pointerRefused}
+use Rattle.board.specs.Range.{startsRefused, switchesRefused, videoRefused, addressRefused, cellsRefused, pointerRefused}
 use Rattle.timing.specs.Fields.{ir, codedOf, scansOf, linesOf, tableOf, hbpOf, blinkOf, rowsOf, hactOf, cursorOf, htOf, hfpOf, vsyncBy, vsyncOf, visibleOf, vtOf, bufferOf, countsOf}
 use Rattle.timing.specs.Check.{reservedRefused, backPorchRefused, lineShort, frontPorchRefused, missing, widthRefused, pageCheck, sized, sizeOf, stateRefused, callCheck}
 
@@ -127,7 +127,7 @@ accepted p e =
     let f = passed (frontPorchRefused p) (FrontPorch (missing p)) _ refl (l .1) in
     let w = passed (widthRefused (p .video .dots)) Width _ refl (f .1) in
     let known = switchesRefused (p .version) (p .switches) in
-    let a4 = neither (startsRefused s || known) (ltb 15 (p .video .strike)) (a .0) in
+    let a4 = neither (startsRefused s || known) (videoRefused (p .version) (p .video)) (a .0) in
     let a3 = neither (startsRefused s) known (a4 .0) in
     let a2 = neither (ltb 16383 (s .start1) || ltb 16383 (s .cursor)) (ltb 16383 (s .start2)) (a3 .0) in
     let a1 = neither (ltb 16383 (s .start1)) (ltb 16383 (s .cursor)) (a2 .0) in
@@ -138,7 +138,7 @@ accepted p e =
       cursor = ltb-false _ _ (a1 .1);
       start2 = ltb-false _ _ (a2 .1);
       switches = ltb-false _ _ (neither (ltb 63 (p .switches)) _ (a3 .1) .0);
-      strike = ltb-false _ _ (a4 .1);
+      strike = ltb-false _ _ (neither (ltb 15 (p .video .strike)) _ (a4 .1) .0);
       straight = eqb-false _ _ (b1 .0);
       coded = λ off. no-code (codedOf p) (tableOf p) (b1 .1) off;
       hbp = eqb-false _ _ (c .0);

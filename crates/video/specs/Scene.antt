@@ -4,6 +4,7 @@ use mathlib.Core.Bool.{Bool, _&&_, _||_, not}
 use lib.Dec.{eqb, ltb, leb}
 use Rattle.lists.specs.Choice.{hasBit}
 use Rattle.board.specs.declared.Board.{Board}
+use Rattle.board.specs.Modes.{chipB}
 use Rattle.timing.specs.declared.CursorLook.{CursorLook}
 use Rattle.timing.specs.Fields.{cursorOf, underlineOf, blinkOf}
 use Rattle.video.specs.declared.Scene.{Scene}
@@ -25,6 +26,7 @@ abbrev pub cursorGate : CursorLook → Bool → (scan field : ℕ) → Bool
 cursorGate k on scan field =
     on && leb (k .first .0) scan && leb scan (k .last .0) && (not (k .blinks) || ltb (field % k .period) (k .period / 2))
 
+-- [R-7 strike] bit 5 of the attribute byte means graphics on the 2677B, and there is no strike
 unfoldable pub sceneOf : Board → (scan field : ℕ) → Scene
 sceneOf b scan field = record {
   shown = displayed b;
@@ -32,7 +34,7 @@ sceneOf b scan field = record {
   bkgnd = hasBit (b .page .switches) 4;
   blink = blinkAt (blinkOf (b .page)) field;
   underline = eqb scan (underlineOf (b .page) .0);
-  strike = eqb scan (b .page .video .strike);
+  strike = not (chipB (b .page)) && eqb scan (b .page .video .strike);
   gate = cursorGate (cursorOf (b .page)) (hasBit (b .page .switches) 2) scan field;
   cursor = b .page .starts .cursor;
 }

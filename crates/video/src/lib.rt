@@ -9,7 +9,7 @@ ghost use Rattle.video.specs.Table.{line, ofTwo, ofEight, decided};
 ghost use Rattle.video.specs.Scene.{blinkAt, cursorGate, sceneOf, cursorAt};
 ghost use Rattle.video.specs.Look.{lookOf};
 ghost use Rattle.shape.specs.Font.{lentFont};
-ghost use Rattle.video.specs.At.{lentCheck, readingOf, scanOf, scanAt, countedByte, shownCode};
+ghost use Rattle.video.specs.At.{lentRefused, lentBy, lentCheck, readingOf, graphicsBy, scanOf, scanAt, countedByte, shownCode};
 
 // What is the same for all cells of a scan line: whether the picture is shown, the blank level, BKGND, BLINK, whether this is the
 // underline line and the strike line, whether the cursor gate opens on this line, and at which address.
@@ -24,11 +24,13 @@ pub struct Scene {
     pub cursor: u16,
 }
 
-// How a page's cells are read: where the cursor is, whether attributes run on, and whether a cell that sets them has zero dots.
+// How a page's cells are read: where the cursor is, whether attributes run on, whether a cell that sets them has zero dots, and whether bit 5 of
+// them means graphics.
 pub struct Reading {
     pub cursor: u16,
     pub runs: bool,
     pub hidden: bool,
+    pub graphics: bool,
 }
 
 // A cell's two levels, and whether a line lights all its dots.
@@ -215,7 +217,7 @@ pub fn scene_of(b: board::Board, scan: units::Lines, field: u8) -> Scene
         bkgnd: bkgnd,
         blink: blink_at(timing::blink_of(page), field),
         underline: scan.same(timing::underline_of(page)),
-        strike: scan.same(strike),
+        strike: !board::chip_b(page) & scan.same(strike),
         gate: cursor_gate(timing::cursor_of(page), has(s, 2), scan, field),
         cursor: b.page.starts.cursor,
     }
@@ -235,7 +237,15 @@ pub fn reading_of(p: board::Page) -> Reading
         cursor: p.starts.cursor,
         runs: board::field_mode(p),
         hidden: board::setters_hidden(p),
+        graphics: board::chip_b(p),
     }
+}
+
+// Whether a cell with these attributes is a graphics cell.
+pub fn graphics_by(k: Reading, attributes: u8) -> bool
+    ensures { λ r. ⌜ r ≡ graphicsBy k attributes ⌝ }
+{
+    k.graphics & has(attributes, 32)
 }
 
 // The scan line that a line of a row shows, of so many lines.
@@ -310,6 +320,32 @@ pub fn look_of(s: Scene, attributes: u8, cursor: bool) -> Look
 }
 
 // 3, for the memories and the font.
+pub fn lent_refused(
+    chars: &[u8],
+    attrs: &[u8],
+    words: &[u16],
+    flags: &[u8],
+    unshifted: &[u8],
+    shifted: &[u8],
+    groups: &[u8],
+) -> bool
+    ensures { λ r. ⌜ r ≡ lentRefused (now (chars .entry)) (now (attrs .entry)) (lentFont words flags unshifted shifted groups) ⌝ }
+{
+    board::memories_refused(chars.len(), attrs.len())
+        | shape::font_refused(words, flags, unshifted, shifted, groups)
+}
+
+// Then 12, for the groups.
+pub fn lent_by(size: bool, groups: &[u8]) -> refusal::Refusal
+    ensures { λ r. ⌜ r ≡ lentBy size (now (groups .entry)) ⌝ }
+{
+    if size {
+        return refusal::Refusal::Size;
+    }
+    shape::groups_check(groups)
+}
+
+// Both.
 pub fn lent_check(
     chars: &[u8],
     attrs: &[u8],
@@ -317,10 +353,10 @@ pub fn lent_check(
     flags: &[u8],
     unshifted: &[u8],
     shifted: &[u8],
+    groups: &[u8],
 ) -> refusal::Refusal
-    ensures { λ r. ⌜ r ≡ lentCheck (now (chars .entry)) (now (attrs .entry)) (lentFont words flags unshifted shifted) ⌝ }
+    ensures { λ r. ⌜ r ≡ lentCheck (now (chars .entry)) (now (attrs .entry)) (lentFont words flags unshifted shifted groups) ⌝ }
 {
-    let size = board::memories_refused(chars.len(), attrs.len())
-        | shape::font_refused(words, flags, unshifted, shifted);
-    refusal::wrong_size(size)
+    let size = lent_refused(chars, attrs, words, flags, unshifted, shifted, groups);
+    lent_by(size, groups)
 }

@@ -2,8 +2,9 @@
 
 use std::io::{BufRead, Write};
 
-use crate::board::{Board, Page, Place};
-use crate::calls;
+use crate::bit5::Bit5;
+use crate::board::{Board, Lent, Page, Place};
+use crate::calls::{self, FontRoom};
 use crate::files::{page_of_head, page_of_numbers};
 use crate::judge::Refusal;
 use crate::machine::Shown;
@@ -15,7 +16,7 @@ use crate::sheet;
 /// "a frame at most 826,752 clocks"
 const LONGEST_FRAME: u32 = 826_752;
 
-const FONT_AND_MEMORIES: [&str; 6] = ["chars", "attrs", "words", "flags", "unshifted", "shifted"];
+const FONT_AND_MEMORIES: [&str; 7] = ["chars", "attrs", "words", "flags", "unshifted", "shifted", "groups"];
 
 pub fn answer(input: &mut dyn BufRead, output: &mut dyn Write) -> Result<(), String> {
     let mut desk = Desk::new(output);
@@ -57,13 +58,15 @@ impl Handed {
 }
 
 fn mode(page: Page) -> &'static str {
-    match (page.rows_have_codes(), page.row_table_on(), page.field_mode()) {
-        (true, false, _) => "no-table",
-        (true, true, false) => "character+codes",
-        (true, true, true) => "field+codes",
-        (false, _, false) => "character",
-        (false, _, true) => "field",
+    let modes = [
+        ["character", "character+graphics", "character+codes", "character+codes+graphics"],
+        ["field", "field+graphics", "field+codes", "field+codes+graphics"],
+    ];
+    if page.rows_have_codes() && !page.row_table_on() {
+        return "no-table";
     }
+    let (field, codes, graphics) = (page.field_mode(), page.rows_have_codes(), page.is_chip_b());
+    modes[usize::from(field)][2 * usize::from(codes) + usize::from(graphics)]
 }
 
 /// WHERE a run of steps begins, by the board handed over.
@@ -93,6 +96,13 @@ fn shown_text(shown: &Shown) -> String {
         shown.address,
         hex(&shown.dots)
     )
+}
+
+/// A file's version byte and length field, as far as it has them.
+fn head_text(file: &[u8]) -> String {
+    let version = file.first().map_or("-".to_string(), u8::to_string);
+    let field = file.get(1..5).map(|b| u32::from_be_bytes([b[0], b[1], b[2], b[3]]));
+    format!("head {} {}", version, field.map_or("-".to_string(), |length| length.to_string()))
 }
 
 struct Desk<'a> {
@@ -137,17 +147,20 @@ struct Counts {
     wrapped: [u32; 4],
     cursor: [u32; 4],
     latched: [u32; 4],
+    bit5: Bit5,
 }
 
 impl Counts {
     /// A step that began at a place of a line that shows a row.
-    fn step(&mut self, lines: u32, before: Place, shown: &Shown, after: Place) {
+    fn step(&mut self, page: &Page, lent: &Lent, before: Place, shown: &Shown, after: Place) {
+        let lines = page.lines_per_row();
         let code = after.row_code % 4;
         if before.clock == 0 && before.line % lines == 0 {
             self.codes.push(code);
         }
         self.cursor[usize::from(code)] += u32::from(shown.signals.cursor);
         self.latched[usize::from(code)] += u32::from(before.clock != 0 && before.latch != after.latch);
+        self.bit5.step(page, lent, before, shown, after);
     }
 
     fn row(&mut self, row: u32, cells: &[u16]) {
@@ -158,7 +171,9 @@ impl Counts {
     fn text(&self) -> String {
         let rows = [0, 1, 2, 3].map(|code| self.codes.iter().filter(|&&one| one == code).count() as u32);
         let counts = [("rows", rows), ("wrapped", self.wrapped), ("cursor", self.cursor), ("latched", self.latched)];
-        counts.iter().map(|(name, [a, b, c, d])| format!(" {} {} {} {} {}", name, a, b, c, d)).collect()
+        let by_code: String =
+            counts.iter().map(|(name, [a, b, c, d])| format!(" {} {} {} {} {}", name, a, b, c, d)).collect();
+        by_code + &self.bit5.text()
     }
 }
 
@@ -256,6 +271,17 @@ impl<'a> Desk<'a> {
         self.report(call, handed, 1, refusal, &board, lent)
     }
 
+    /// Of a board that the answer does not show.
+    fn chip_text(&self) -> String {
+        format!("version {} chip {}", self.board.page.version, self.board.page.chip)
+    }
+
+    /// Which of the lent groups is the first that is refused.
+    fn above_text(&self) -> String {
+        let place = self.buffers.groups.iter().position(|&group| group > 4);
+        format!("above {}", place.map_or("-".to_string(), |place| place.to_string()))
+    }
+
     /// A call is handed the page of the numbers.
     fn numbers_handed(&self) -> Handed {
         Handed::page(page_of_numbers(&self.buffers.numbers))
@@ -277,7 +303,8 @@ impl<'a> Desk<'a> {
         let b = &mut self.buffers;
         let handed = Handed::page(page_of_head(&b.file));
         let refusal = calls::page_read(&b.file, &mut b.numbers, &mut b.chars, &mut b.attrs);
-        self.report("page_read", handed, 1, refusal, "", &["file", "numbers", "chars", "attrs"])
+        let head = head_text(&b.file);
+        self.report("page_read", handed, 1, refusal, &head, &["file", "numbers", "chars", "attrs"])
     }
 
     fn page_write(&mut self) -> Result<(), String> {
@@ -288,8 +315,17 @@ impl<'a> Desk<'a> {
 
     fn font_read(&mut self) -> Result<(), String> {
         let b = &mut self.buffers;
-        let refusal = calls::font_read(&b.file, &mut b.words, &mut b.flags, &mut b.unshifted, &mut b.shifted);
-        self.report("font_read", Handed::NO_PAGE, 1, refusal, "", &["file", "words", "flags", "unshifted", "shifted"])
+        let room = FontRoom {
+            words: &mut b.words,
+            flags: &mut b.flags,
+            unshifted: &mut b.unshifted,
+            shifted: &mut b.shifted,
+            groups: &mut b.groups,
+        };
+        let (refusal, groups) = calls::font_read(&b.file, room);
+        let results = format!("{} groups {}", head_text(&b.file), groups);
+        let lent = [&["file"], &FONT_AND_MEMORIES[2..]].concat();
+        self.report("font_read", Handed::NO_PAGE, 1, refusal, &results, &lent)
     }
 
     fn draw(&mut self, line: u32, field: u8) -> Refusal {
@@ -301,7 +337,8 @@ impl<'a> Desk<'a> {
 
     fn report_lines(&mut self, count: u32, refusal: Refusal, results: &str) -> Result<(), String> {
         let lent = [&["numbers"], &FONT_AND_MEMORIES[..], &["out"]].concat();
-        self.report("line_draw", self.numbers_handed(), count, refusal, results, &lent)
+        let results = format!("{}{}", results, self.above_text());
+        self.report("line_draw", self.numbers_handed(), count, refusal, &results, &lent)
     }
 
     fn line_draw(&mut self, line: u32, field: u8) -> Result<(), String> {
@@ -314,7 +351,7 @@ impl<'a> Desk<'a> {
         let refusal = calls::picture_draw(&self.buffers.numbers, &self.buffers.lent(), field, &mut out);
         self.buffers.out = out;
         let lent = [&["numbers"], &FONT_AND_MEMORIES[..], &["out"]].concat();
-        self.report("picture_draw", self.numbers_handed(), 1, refusal, "", &lent)?;
+        self.report("picture_draw", self.numbers_handed(), 1, refusal, &self.above_text(), &lent)?;
         Ok(refusal)
     }
 
@@ -392,7 +429,7 @@ impl<'a> Desk<'a> {
 
     fn numbers_of(&mut self) -> Result<(), String> {
         let refusal = calls::numbers_of(&self.board, &mut self.buffers.numbers);
-        self.report("numbers_of", Handed::board(&self.board), 1, refusal, "", &["numbers"])
+        self.report("numbers_of", Handed::board(&self.board), 1, refusal, &self.chip_text(), &["numbers"])
     }
 
     fn set_video(&mut self, dots: u8, strike: u8, bkgnd: u8, rblank: u8) -> Result<(), String> {
@@ -409,7 +446,8 @@ impl<'a> Desk<'a> {
 
     fn read(&mut self, address: u8) -> Result<(), String> {
         let (refusal, byte) = registers::read(&self.board, address);
-        self.report("read", Handed::board(&self.board), 1, refusal, &format!("byte {}", byte), &[])
+        let results = format!("byte {} {}", byte, self.chip_text());
+        self.report("read", Handed::board(&self.board), 1, refusal, &results, &[])
     }
 
     fn state_at(&mut self, n: u32) -> Result<(), String> {
@@ -439,7 +477,8 @@ impl<'a> Desk<'a> {
     fn report_steps(&mut self, steps: &Steps) -> Result<(), String> {
         let (begins, code, sum) = (steps.begins, steps.code, steps.sum.0);
         let (shown, board) = (shown_text(&steps.last), board_text(&self.board));
-        let results = format!("from {} {} sum {:016x} {} board {}", begins, code, sum, shown, board);
+        let above = self.above_text();
+        let results = format!("from {} {} sum {:016x} {} board {} {}", begins, code, sum, shown, board, above);
         let count = if !steps.refusal.refused() { steps.done } else { 1 };
         self.report("step", Handed::board(&self.board), count, steps.refusal, &results, &FONT_AND_MEMORIES)
     }
@@ -486,7 +525,7 @@ impl<'a> Desk<'a> {
                 let at = (place.line * width + place.clock * dots) as usize;
                 picture[at..at + dots as usize].copy_from_slice(&steps.last.dots[..dots as usize]);
                 addresses.push(steps.last.address);
-                counts.step(self.board.page.lines_per_row(), place, &steps.last, self.board.place);
+                counts.step(&self.board.page, &self.buffers.lent(), place, &steps.last, self.board.place);
             }
             if (self.board.place.line, self.board.place.clock) == (0, 0) || steps.done == LONGEST_FRAME {
                 break;
@@ -508,7 +547,7 @@ impl<'a> Desk<'a> {
             }
         }
         let count = if !refusal.refused() { done } else { 1 };
-        self.report_lines(count, refusal, &format!("sum {:016x}", Sum::of(&picture).0))?;
+        self.report_lines(count, refusal, &format!("sum {:016x} ", Sum::of(&picture).0))?;
         Ok(picture)
     }
 

@@ -1,14 +1,16 @@
-//! What a board holds (01 "The board that is built", 02 R-1 and R-4) and what its registers say (01 "Register fields").
-//! Only 01's table of fields is here; both ways of drawing read it and share nothing else.
+//! What a board holds (01 "The board that is built", 02 R-1, R-4 and R-7) and what its registers say (01 "Register
+//! fields"). Only 01's table of fields is here; both ways of drawing read it and share nothing else.
 
 pub const MEMORY: usize = 16384;
 pub const FONT_WORDS: usize = 1152;
 pub const FONT_FLAGS: usize = 128;
 pub const FONT_LIST: usize = 9;
+/// R-7: "sixteen group numbers", where a font has any
+pub const FONT_GROUPS: usize = 16;
 
 #[derive(Clone, Copy, PartialEq, Eq, Debug, Default)]
 pub struct Page {
-    /// In a board any byte; one that is neither 1 nor 2 counts as 1.
+    /// In a board any byte; one that is neither 1, 2 nor 3 counts as 1.
     pub version: u8,
     pub irs: [u8; 15],
     pub start1: u16,
@@ -17,6 +19,8 @@ pub struct Page {
     pub switches: u8,
     pub dots: u32,
     pub strike: u8,
+    /// In a board any byte; it counts in version 3 alone.
+    pub chip: u8,
 }
 
 #[derive(Clone, Copy, PartialEq, Eq, Debug, Default)]
@@ -56,6 +60,8 @@ pub struct Font<'a> {
     pub flags: &'a [u8],
     pub unshifted: &'a [u8],
     pub shifted: &'a [u8],
+    /// Of a version 1 font none, of version 2 one for each scan line.
+    pub groups: &'a [u8],
 }
 
 impl Board {
@@ -179,20 +185,24 @@ impl Page {
     pub fn rblank(&self) -> bool {
         self.switches & 8 != 0
     }
-    /// R-1: "Field mode and ACD are switches 4 and 5 of page file version 2"; version 1 "means character mode".
+    /// R-1: "Field mode and ACD are switches 4 and 5 of page file version 2"; version 1 "means character mode". R-7:
+    /// "version 3 is version 2 with one more byte"
     pub fn field_mode(&self) -> bool {
-        self.known_version() == 2 && self.switches & 16 != 0
+        self.known_version() >= 2 && self.switches & 16 != 0
     }
     pub fn acd(&self) -> bool {
         self.switches & 32 != 0
     }
     /// What the version counts as, and what numbers and files of the page say.
     pub fn known_version(&self) -> u8 {
-        if self.version == 2 {
-            2
-        } else {
-            1
+        match self.version {
+            2 | 3 => self.version,
+            _ => 1,
         }
+    }
+    /// R-7: "0 for A and 1 for B; versions 1 and 2 are still read and mean A"
+    pub fn is_chip_b(&self) -> bool {
+        self.known_version() == 3 && self.chip == 1
     }
 
     /// "clocks per line HT = 2(EC + 2 HSYNC)"

@@ -24,7 +24,7 @@ pub fn page_size(numbers: &[u8]) -> (Refusal, u32, u32) {
 }
 
 pub fn page_read(file: &[u8], numbers: &mut [u8], chars: &mut [u8], attrs: &mut [u8]) -> Refusal {
-    let mut faults = judge::file(file, &files::PAGE_VERSIONS, files::PAGE_LENGTH);
+    let mut faults = judge::file(file, files::page_length);
     faults.extend([fault(3, numbers.len() != files::NUMBERS), judge::memory(chars), judge::memory(attrs)]);
     if judge::first(&faults).refused() {
         return judge::first(&faults);
@@ -46,39 +46,51 @@ pub fn page_write(numbers: &[u8], chars: &[u8], attrs: &[u8], out: &mut [u8]) ->
         None => return Refusal::plain(3),
     };
     let mut faults = judge::page(&page);
+    let size = files::page_file_size(page.version).expect("numbers that are a page have a known version");
     // "or file output below the file's size"
-    faults.extend([judge::memory(chars), judge::memory(attrs), fault(3, out.len() < files::PAGE_FILE)]);
+    faults.extend([judge::memory(chars), judge::memory(attrs), fault(3, out.len() < size)]);
     let refusal = judge::first(&faults);
     if !refusal.refused() {
-        out[..files::PAGE_FILE].copy_from_slice(&files::page_file(&page, chars, attrs));
+        out[..size].copy_from_slice(&files::page_file(&page, chars, attrs));
     }
     refusal
 }
 
-pub fn font_read(
-    file: &[u8],
-    words: &mut [u16],
-    flags: &mut [u8],
-    unshifted: &mut [u8],
-    shifted: &mut [u8],
-) -> Refusal {
-    let mut faults = judge::file(file, &files::FONT_VERSIONS, files::FONT_LENGTH);
-    faults.extend(judge::font(&Font { words, flags, unshifted, shifted }));
-    let refusal = judge::first(&faults);
-    if !refusal.refused() {
-        let font = files::font_parts(file);
-        words.copy_from_slice(&font.words);
-        flags.copy_from_slice(&font.flags);
-        unshifted.copy_from_slice(&font.unshifted);
-        shifted.copy_from_slice(&font.shifted);
+/// The parts of a font for a file to be read into.
+pub struct FontRoom<'a> {
+    pub words: &'a mut [u16],
+    pub flags: &'a mut [u8],
+    pub unshifted: &'a mut [u8],
+    pub shifted: &'a mut [u8],
+    pub groups: &'a mut [u8],
+}
+
+/// The refusal, and how many groups the file has. A version 2 file with no room for its groups is 3; one of version 1
+/// leaves the lent groups, which are not judged, as they were.
+pub fn font_read(file: &[u8], room: FontRoom) -> (Refusal, u32) {
+    let FontRoom { words, flags, unshifted, shifted, groups } = room;
+    let mut faults = judge::file(file, files::font_length);
+    faults.extend(judge::font(&Font { words, flags, unshifted, shifted, groups }));
+    if judge::first(&faults).refused() {
+        return (judge::first(&faults), 0);
     }
-    refusal
+    let font = files::font_parts(file);
+    let refusal = judge::first(&[fault(3, groups.len() < font.groups.len()), judge::groups(&font.groups)]);
+    if refusal.refused() {
+        return (refusal, 0);
+    }
+    words.copy_from_slice(&font.words);
+    flags.copy_from_slice(&font.flags);
+    unshifted.copy_from_slice(&font.unshifted);
+    shifted.copy_from_slice(&font.shifted);
+    groups[..font.groups.len()].copy_from_slice(&font.groups);
+    (Refusal::NONE, font.groups.len() as u32)
 }
 
 /// What drawing and stepping judge of what they are lent.
 fn lent_faults(lent: &Lent) -> Vec<Fault> {
     let mut faults = judge::font(&lent.font);
-    faults.extend([judge::memory(lent.chars), judge::memory(lent.attrs)]);
+    faults.extend([judge::memory(lent.chars), judge::memory(lent.attrs), judge::groups(lent.font.groups)]);
     faults
 }
 
@@ -205,7 +217,8 @@ fn page_to_move(numbers: &[u8], chars: &[u8]) -> Result<Page, Refusal> {
 
 /// The page in the place of the one that the numbers held; the bytes after it stay.
 fn put_page(numbers: &mut [u8], page: &Page) {
-    numbers[1..1 + files::PAGE_BYTES].copy_from_slice(&files::bytes_of(page));
+    let bytes = files::bytes_of(page);
+    numbers[1..1 + bytes.len()].copy_from_slice(&bytes);
 }
 
 /// "The move writes a table [..]; it sets screen start 2 and IR2[7] and nothing else."

@@ -1,5 +1,5 @@
 //! 01 "Numbers on both sides": cases A1 to A10, A2 as R-2 has it, and the listing, in both ways of this program; pages
-//! for, drawn by hand; row tables for R-5 and phrases for R-6, worked out by hand.
+//! for, drawn by hand; row tables for R-5 and phrases for R-6, worked out by hand.
 
 use crate::board::{Board, Font, Lent, Page};
 use crate::dice::in_buffer;
@@ -38,6 +38,7 @@ pub struct OneCell {
     pub chars: Vec<u8>,
     pub attrs: Vec<u8>,
     pub words: Vec<u16>,
+    pub groups: Vec<u8>,
 }
 
 const ZERO_FLAGS: [u8; 128] = [0; 128];
@@ -47,7 +48,8 @@ const ZERO_LIST: [u8; 9] = [0; 9];
 impl OneCell {
     /// "code 81 hex in cell 0, [..] flags 0, unshifted list 0 to 8, font words of 01 starting 041, 07F hex"
     pub fn new(attr: u8) -> OneCell {
-        let mut cell = OneCell { chars: vec![0; 16384], attrs: vec![0; 16384], words: vec![0; 1152] };
+        let (chars, attrs) = (vec![0; 16384], vec![0; 16384]);
+        let mut cell = OneCell { chars, attrs, words: vec![0; 1152], groups: Vec::new() };
         cell.chars[0] = 0x81;
         cell.attrs[0] = attr;
         cell.words[9] = 0x041;
@@ -56,7 +58,8 @@ impl OneCell {
     }
 
     pub fn lent(&self) -> Lent<'_> {
-        let font = Font { words: &self.words, flags: &ZERO_FLAGS, unshifted: &LINES_0_TO_8, shifted: &ZERO_LIST };
+        let (flags, groups) = (&ZERO_FLAGS, &self.groups);
+        let font = Font { words: &self.words, flags, unshifted: &LINES_0_TO_8, shifted: &ZERO_LIST, groups };
         Lent { chars: &self.chars, attrs: &self.attrs, font }
     }
 
@@ -117,6 +120,8 @@ pub fn all() -> Vec<(&'static str, bool)> {
     cases.extend(listing_cases());
     cases.extend(field_cases());
     cases.extend(code_cases());
+    cases.extend(graphics_cases());
+    cases.extend(version_cases());
     cases.extend(there_cases());
     cases.extend(back_cases());
     cases.extend(phrase_cases());
@@ -188,7 +193,8 @@ fn listing_cases() -> Vec<(&'static str, bool)> {
         ("no font byte", listing(&input[..files::PAGE_FILE]) == "refused 1\n"),
         ("a font byte too many", listing(&[&input[..], &[0]].concat()) == "refused 2\n"),
         ("a page of version 0", damaged(&[(0, 0)]) == "refused 1\n"),
-        ("a page of version 3", damaged(&[(0, 3)]) == "refused 1\n"),
+        ("a page of version 4", damaged(&[(0, 4)]) == "refused 1\n"),
+        ("version 2 as version 3", damaged(&[(0, 3)]) == "refused 2\n"),
         ("a page of version 2", damaged(&[(0, 2)]) == whole),
         ("switch 4 in version 1", damaged(&[(page_switches, 0x11)]) == "refused 12\n"),
         ("switch 4 in version 2", damaged(&[(0, 2), (page_switches, 0x11)]) == whole),
@@ -196,7 +202,9 @@ fn listing_cases() -> Vec<(&'static str, bool)> {
         ("switch 5 in version 2", damaged(&[(0, 2), (page_switches, 0x21)]) == whole),
         ("switch 6 in version 2", damaged(&[(0, 2), (page_switches, 0x41)]) == "refused 12\n"),
         ("switch 7 in version 2", damaged(&[(0, 2), (page_switches, 0x81)]) == "refused 12\n"),
-        ("a font of version 2", damaged(&[(font_version, 2)]) == "refused 1\n"),
+        ("a font of version 0", damaged(&[(font_version, 0)]) == "refused 1\n"),
+        ("a font of version 3", damaged(&[(font_version, 3)]) == "refused 1\n"),
+        ("version 1 of a font as version 2", damaged(&[(font_version, 2)]) == "refused 2\n"),
         ("five dots", damaged(&[(page_dots, 5)]) == "refused 6\n"),
         ("page first", damaged(&[(page_dots, 5), (font_version, 2)]) == "refused 6\n"),
     ]
@@ -370,6 +378,92 @@ fn code_cases() -> Vec<(&'static str, bool)> {
         ("R-4 cells fetched", [1, 2, 3, 4, 5].map(|hact| fetches(2, hact).0) == [1, 1, 2, 2, 3]),
         ("R-4 first runs", [1, 2, 3, 4, 5].map(|hact| fetches(3, hact).1) == [1, 1, 2, 2, 3]),
         ("R-4 plain rows", [1, 2, 5].map(|hact| fetches(0, hact)) == [(1, 1), (2, 2), (5, 5)]),
+    ]
+}
+
+/// One cell of six lines on a chip, its strike line 2 and its underline line 5: a version 3 page, 10 dots wide.
+fn six_lines(chip: u8) -> Page {
+    let mut page = Page { version: 3, chip, dots: 10, strike: 2, ..example_page() };
+    page.irs[0] = 5 << 3;
+    page.irs[7] = 5;
+    page
+}
+
+/// The lines of that cell's listing, a blank between two. `None` where steps show others.
+fn cell_listed(page: &Page, code: u8, attr: u8, groups: &[u8]) -> Option<String> {
+    let mut cell = OneCell::new(attr);
+    cell.chars[0] = code;
+    cell.words[9 * 0x65] = 0x041;
+    cell.groups = groups.to_vec();
+    let listed = listing(&cell.listing_input(page));
+    let same = format!("6 {}\n{}", page.dots, frame_text(&mut Board::of_page(*page), &cell.lent())) == listed;
+    let lines = listed.lines().skip(1).collect::<Vec<&str>>().join(" ");
+    Some(lines).filter(|_| same)
+}
+
+/// Lines 0 to 3 show the four pairs; the others are in no group.
+const FOUR_GROUPS: [u8; 16] = [1, 2, 3, 4, 0, 0, 0, 0, 0, 0, 0, 0, 0, 0, 0, 0];
+
+/// 002: "an example where (CA7 thru CA0) = H'65'"
+fn graphics_cases() -> Vec<(&'static str, bool)> {
+    let is = |page: Page, code: u8, attr: u8, lines: &str| {
+        cell_listed(&page, code, attr, &FOUR_GROUPS).as_deref() == Some(lines)
+    };
+    let (a, b) = (six_lines(0), six_lines(1));
+    let field = |upper: u8| Page { switches: 1 | upper, ..b };
+    let no_groups = |page: &Page| cell_listed(page, 0x65, 0xA0, &[]);
+    let none = [".........."; 6].join(" ");
+    let letter = format!("o.....o... {}", [".........."; 5].join(" "));
+    let h65 = "ooooo..... ooooo..... .....ooooo ooooo..... .......... ..........";
+    let h9a = ".....ooooo .....ooooo ooooo..... .....ooooo .......... ..........";
+    let reversed = ".....ooooo .....ooooo ooooo..... .....ooooo oooooooooo oooooooooo";
+    let underlined = "#####..... #####..... .....##### #####..... .......... ##########";
+    let struck = ".......... .......... oooooooooo .......... .......... ..........";
+    let twelve = ".ooooo...... .ooooo...... ......ooooo. .ooooo...... ............ ............";
+    vec![
+        ("R-7 H'65'", is(b, 0x65, 0xA0, h65)),
+        ("R-7 CA7", is(b, 0x9A, 0xA0, h9a)),
+        ("R-7 reverse", is(b, 0x65, 0xA1, reversed)),
+        ("R-7 highlight and underline", is(b, 0x65, 0xB8, underlined)),
+        ("R-7 blank", is(b, 0x65, 0xA2, &none)),
+        ("R-7 twelve dots", is(Page { dots: 12, ..b }, 0x65, 0xA0, twelve)),
+        ("R-7 six dots", is(Page { dots: 6, ..b }, 0x65, 0xA0, "ooooo. ooooo. .....o ooooo. ...... ......")),
+        ("R-7 without AFLG", is(b, 0x65, 0x20, &none) && is(b, 0xE5, 0x20, &letter)),
+        ("R-7 without bit 5", is(b, 0x65, 0x80, &none) && is(b, 0xE5, 0x80, &letter)),
+        ("R-7 chip A strikes", is(a, 0x65, 0xA0, struck)),
+        ("R-7 version 2 strikes", is(Page { version: 2, ..b }, 0x65, 0xA0, struck)),
+        ("R-7 ACD low", is(field(0x10), 0x65, 0xA0, &none)),
+        ("R-7 ACD high", is(field(0x30), 0x65, 0xA0, h65)),
+        ("R-7 no groups", no_groups(&b) == Some(none) && no_groups(&a).as_deref() == Some(struck)),
+    ]
+}
+
+/// A version 3 page and a version 2 font, whole, with one byte that is another, and with bytes too few or too many.
+fn version_cases() -> Vec<(&'static str, bool)> {
+    let mut cell = OneCell::new(0xA0);
+    cell.groups = FOUR_GROUPS.to_vec();
+    let input = cell.listing_input(&six_lines(1));
+    let (page_end, chip, end) = (files::CHIP_PAGE_FILE, 5 + 24, input.len());
+    let with = |at: usize, byte: u8| {
+        let mut bytes = input.clone();
+        bytes[at] = byte;
+        listing(&bytes)
+    };
+    let whole = listing(&input);
+    let moved = |from: usize| listing(&[&input[..from], &input[from + 1..]].concat());
+    let (last_line, refused_2, refused_12) = (end - 1, "refused 2\n", "refused 12\n");
+    vec![
+        ("R-7 sizes", (page_end, end) == (32798, 32798 + 2471) && whole.starts_with("6 10\n")),
+        ("R-7 chip 0", with(chip, 0) != whole && with(chip, 0).starts_with("6 10\n")),
+        ("R-7 chips above 1", with(chip, 2) == refused_12 && with(chip, 255) == refused_12),
+        ("R-7 a group of 4", with(last_line, 4) == whole),
+        ("R-7 groups above 4", with(last_line, 5) == refused_12 && with(end - 16, 255) == refused_12),
+        ("R-7 version 3 as version 2", with(0, 2) == refused_2),
+        ("R-7 version 2 of a font as version 1", with(page_end, 1) == refused_2),
+        ("R-7 a byte less", moved(40) == "refused 1\n" && moved(last_line) == refused_2),
+        ("R-7 a byte more", listing(&[&input[..], &[0]].concat()) == refused_2),
+        ("R-7 part of a page", listing(&input[..page_end - 1]) == refused_2),
+        ("R-7 no font byte", listing(&input[..page_end]) == "refused 1\n"),
     ]
 }
 

@@ -1,9 +1,11 @@
-//! Compares two streams of answers script by script and counts call by answer number by power state and mode, and what was
-//! met of and R-6 (`met`). A case counts only where its whole script was the same on both sides.
+//! Compares two streams of answers script by script and counts call by answer number by power state and mode, and what
+//! was met of and R-6 (`met`) and of R-7 (`chips`). A case counts only where its whole script was the same on
+//! both sides.
 
 use std::collections::BTreeMap;
 use std::io::BufRead;
 
+use crate::chips::Chips;
 use crate::met::Met;
 
 /// "Lowest number first, except that 12 precedes 4", R-2's three in the place of 5, and R-5's and R-6's after these: the table's
@@ -16,11 +18,30 @@ const ACTIVE: &[&str] = &["active"];
 const EVERY_POWER: &[&str] = &["inactive-0", "inactive-1", "active"];
 
 const NO_PAGE: &[&str] = &["-"];
-const ANY: &[&str] = &["character", "field", "character+codes", "field+codes"];
-const PLAIN: &[&str] = &["character", "field"];
-const CODED: &[&str] = &["character+codes", "field+codes"];
+const PLAIN: &[&str] = &["character", "field", "character+graphics", "field+graphics"];
+const CODED: &[&str] = &["character+codes", "field+codes", "character+codes+graphics", "field+codes+graphics"];
 const NO_TABLE: &[&str] = &["no-table"];
-const ANY_AND_NO_TABLE: &[&str] = &["character", "field", "character+codes", "field+codes", "no-table"];
+const ANY: &[&str] = &[
+    "character",
+    "field",
+    "character+graphics",
+    "field+graphics",
+    "character+codes",
+    "field+codes",
+    "character+codes+graphics",
+    "field+codes+graphics",
+];
+const ANY_AND_NO_TABLE: &[&str] = &[
+    "character",
+    "field",
+    "character+graphics",
+    "field+graphics",
+    "character+codes",
+    "field+codes",
+    "character+codes+graphics",
+    "field+codes+graphics",
+    "no-table",
+];
 
 /// Which answers a call may give in a power state and a mode, and 01's words for it, with R-2's numbers, or 02's.
 struct Allowed {
@@ -65,7 +86,7 @@ const ALLOWED: &[Allowed] = &[
     allowed("page_write", NO_BOARD, NO_PAGE, &[3], FILES),
     allowed("page_write", NO_BOARD, ANY, &[0, 3, 12, 4, 13, 14, 15, 6], FILES),
     allowed("page_write", NO_BOARD, NO_TABLE, &[3, 12, 4], RESERVED),
-    allowed("font_read", NO_BOARD, NO_PAGE, &[0, 1, 2, 3], FILES),
+    allowed("font_read", NO_BOARD, NO_PAGE, &[0, 1, 2, 3, 12], "12 also covers a group above 4"),
     allowed("line_draw", NO_BOARD, NO_PAGE, &[3], DRAWING),
     allowed("line_draw", NO_BOARD, ANY, &[0, 3, 12, 4, 13, 14, 15, 6, 7, 8], DRAWING),
     allowed("line_draw", NO_BOARD, NO_TABLE, &[3, 12, 4], RESERVED),
@@ -169,6 +190,7 @@ struct Outcome {
     differing: u64,
     tally: Tally,
     met: Met,
+    chips: Chips,
 }
 
 /// Both streams read to their ends; prints the tables. True where all agreed, `asked` scripts or more were
@@ -187,8 +209,8 @@ pub fn compare(asked: u64, ours: &mut dyn BufRead, theirs: &mut dyn BufRead) -> 
     if !ours.ended || !theirs.ended {
         return Err("a stream breaks off before its end".to_string());
     }
-    let empty = print_table(&outcome.tally) + outcome.met.print();
-    let strange = [strange(&outcome.tally), outcome.met.strange()].concat();
+    let empty = print_table(&outcome.tally) + outcome.met.print() + outcome.chips.print();
+    let strange = [strange(&outcome.tally), outcome.met.strange(), outcome.chips.strange()].concat();
     strange.iter().for_each(|cell| println!("01 allows no such answer: {}", cell));
     println!("{} scripts compared, {} differ, {} allowed cells empty", outcome.compared, outcome.differing, empty);
     Ok(outcome.differing == 0 && outcome.compared >= asked && empty == 0 && strange.is_empty())
@@ -203,6 +225,7 @@ impl Outcome {
                 for line in &ours.lines {
                     count(&mut self.tally, line);
                     self.met.count(line);
+                    self.chips.count(line);
                 }
             }
             Some(what) => {
@@ -248,7 +271,7 @@ fn count(tally: &mut Tally, line: &str) {
 /// Gives how many allowed cells are empty.
 fn print_table(tally: &Tally) -> u64 {
     let mut empty = 0;
-    print!("{:<15}{:<11}{:<16}", "call", "power", "mode");
+    print!("{:<15}{:<11}{:<25}", "call", "power", "mode");
     NUMBERS.iter().for_each(|number| print!("{:>9}", number));
     println!();
     for row in ALLOWED {
@@ -263,7 +286,7 @@ fn print_table(tally: &Tally) -> u64 {
 
 fn print_row(tally: &Tally, row: &Allowed, power: &str, mode: &str) -> u64 {
     let mut empty = 0;
-    print!("{:<15}{:<11}{:<16}", row.call, power, mode);
+    print!("{:<15}{:<11}{:<25}", row.call, power, mode);
     for number in NUMBERS {
         let key = (row.call.to_string(), power.to_string(), mode.to_string(), number);
         let text = match (row.numbers.contains(&number), tally.get(&key)) {

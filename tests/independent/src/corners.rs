@@ -1,13 +1,14 @@
 //! The fixed scripts for 01's corners: each command byte, each width, the smallest and largest pages, its
 //! cases, phrases, wraps, tables at the end of memory, fields past 255, the last clocks, rooms of every size, saved boards,
 //! files, and nothing at all. Those for R-1 are in `latches`, those for R-4 in `headlines`, those for R-5 in `moves`, those
-//! for R-6 in `phrases`.
+//! for R-6 in `phrases`, those for R-7 in `graphics`.
 
 use crate::board::{Board, Page};
 use crate::cases;
 use crate::dice::{in_field_mode, in_version_1, page, Dice, Shape};
 use crate::faults::BUFFERS;
-use crate::files::{bytes_of, page_of, FONT_FILE, PAGE_FILE};
+use crate::files::{bytes_of, page_length, page_of, CHIP_PAGE_FILE, FONT_FILE, GROUPS_FONT_FILE, PAGE_FILE};
+use crate::graphics;
 use crate::headlines;
 use crate::latches;
 use crate::make::{Maker, Script};
@@ -55,8 +56,14 @@ pub fn all() -> Vec<Maker> {
         // [file page] [file beyond]
         named("page-files", |script, dice| page_files(script, dice, in_version_1)),
         // [R-1 version]
-        named("page-files-in-field-mode", |script, dice| page_files(script, dice, |page| in_field_mode(page, false))),
-        // [file font]
+        named("page-files-in-field-mode", |script, dice| {
+            page_files(script, dice, |page| version(in_field_mode(page, false), 2, 0))
+        }),
+        // [R-7 version] [R-7 chip]
+        named("page-files-of-chip-a", |script, dice| page_files(script, dice, |page| version(page, 3, 0))),
+        // [R-7 version] [R-7 chip]
+        named("page-files-of-chip-b", |script, dice| page_files(script, dice, |page| version(page, 3, 1))),
+        // [file font] [R-7 font]
         named("font-files", font_files),
         // [R-2 porches] [R-2 missing] [R-2 accepted]
         named("porches", porches),
@@ -65,6 +72,7 @@ pub fn all() -> Vec<Maker> {
     ]);
     all.extend(latches::boards());
     all.extend(headlines::boards());
+    all.extend(graphics::boards());
     all
 }
 
@@ -98,6 +106,7 @@ pub fn pages() -> Vec<Maker> {
     ]);
     all.extend(latches::pages());
     all.extend(headlines::pages());
+    all.extend(graphics::pages());
     all
 }
 
@@ -366,19 +375,19 @@ fn saved(script: &mut Script, dice: &mut Dice) {
     script.board(&board);
     script.say("none numbers");
     script.say("call numbers_of");
-    for size in [0, 1, 24, 25, 31, 33, 64, 65536, 32] {
+    for size in [0, 1, 24, 25, 26, 31, 33, 64, 65536, 32] {
         script.say(format!("fill numbers {} {}", size, dice.seed()));
         script.say("call numbers_of");
     }
     script.say("call board_of");
     script.say("call numbers_of");
-    for byte in 0..24 {
+    for byte in 0..bytes_of(&page).len() {
         let mut bytes = bytes_of(&page);
         bytes[byte] ^= 1;
         script.board(&Board { resets: (byte % 4) as u8, ..Board::of_page(page_of(page.version, &bytes)) });
         save(script, dice);
     }
-    for version in [0, 1, 2, 3, 255] {
+    for version in [0, 1, 2, 3, 4, 255] {
         for upper in [0, 0x10, 0x20, 0x30, 0x40, 0x80] {
             let switches = page.switches & 0x0F | upper;
             script.board(&Board::of_page(Page { version, switches, ..page }));
@@ -457,6 +466,8 @@ fn resets_in_a_row(script: &mut Script, dice: &mut Dice) {
 /// Whole, cut short at every part, too long, and with wrong heads, in every version; the page's own is read last.
 fn page_files(script: &mut Script, dice: &mut Dice, mode: fn(Page) -> Page) {
     let page = mode(some_page(dice));
+    let length = page_length(page.version).expect("a mode's version is known");
+    let whole = 5 + length as usize;
     let head = |script: &mut Script, version: u8, length: u32, size: usize| {
         let bytes = [&[version][..], &length.to_be_bytes(), &bytes_of(&page)].concat();
         script.say(format!("set file 0 {}", hex(&bytes[..bytes.len().min(size)])));
@@ -464,18 +475,21 @@ fn page_files(script: &mut Script, dice: &mut Dice, mode: fn(Page) -> Page) {
     script.say("fill numbers 32 77");
     script.chars(dice);
     script.attrs(dice);
-    for size in [0, 1, 2, 4, 5, 6, 28, 29, 30, 16413, PAGE_FILE - 1, PAGE_FILE, PAGE_FILE + 1, 65536] {
+    let short = [0, 1, 2, 4, 5, 6, 28, 29, 30, 31, 16413, 16414, PAGE_FILE - 1];
+    for size in short.into_iter().chain([PAGE_FILE, CHIP_PAGE_FILE, CHIP_PAGE_FILE + 1, 65536]) {
         script.say(format!("fill file {} {}", size, dice.seed()));
         script.say("call page_read");
-        for version in [0, 1, 2, 3, 255].iter().filter(|_| size > 0) {
-            head(script, *version, 32792, size);
-            script.say("call page_read");
+        for version in [0, 1, 2, 3, 4, 255].iter().filter(|_| size > 0) {
+            for length in [32792, 32793] {
+                head(script, *version, length, size);
+                script.say("call page_read");
+            }
         }
     }
-    script.say(format!("fill file {} {}", PAGE_FILE, dice.seed()));
-    for length in [32791, 32797, 0, 0x0100_8018, 32792] {
-        for version in [0, 3, 255, 3 - page.version, page.version] {
-            head(script, version, length, PAGE_FILE);
+    script.say(format!("fill file {} {}", whole, dice.seed()));
+    for length in [32791, 32792, 32793, 32794, 32797, 0, 0x0100_8018, length] {
+        for version in [0, 1, 2, 3, 4, 255, page.version] {
+            head(script, version, length, whole);
             script.say("call page_read");
         }
     }
@@ -484,26 +498,44 @@ fn page_files(script: &mut Script, dice: &mut Dice, mode: fn(Page) -> Page) {
     show(script, dice, &page);
     script.say(format!("fill out {} {}", PAGE_FILE + 50, dice.seed()));
     script.say("call page_write");
-    script.say(format!("take file out {}", PAGE_FILE));
+    script.say(format!("take file out {}", whole));
     script.say("fill chars 16384 0");
     script.say("fill attrs 16384 0");
     script.say("call page_read");
 }
 
+/// The page as another version has it, with a chip.
+fn version(page: Page, version: u8, chip: u8) -> Page {
+    Page { version, chip, ..page }
+}
+
+/// Both versions, cut short at every part and too long, with wrong heads and with the other's. Random groups are
+/// refused, so each file is read with groups that are not, too.
 fn font_files(script: &mut Script, dice: &mut Dice) {
     script.font(dice);
-    for size in [0, 1, 4, 5, 6, 2309, 2437, 2446, FONT_FILE - 1, FONT_FILE, FONT_FILE + 1, 32797] {
+    script.groups(&[255; 16]);
+    let short = [0, 1, 4, 5, 6, 2309, 2437, 2446, FONT_FILE - 1, FONT_FILE, FONT_FILE + 1, 2463];
+    for size in short.into_iter().chain([GROUPS_FONT_FILE - 1, GROUPS_FONT_FILE, GROUPS_FONT_FILE + 1, 2487, 32797]) {
         script.say(format!("fill file {} {}", size, dice.seed()));
         script.say("call font_read");
-        if size >= 5 {
-            script.say("set file 0 0100000992");
+        for head in ["0100000992", "02000009a2", "01000009a2", "0200000992"].iter().filter(|_| size >= 5) {
+            script.say(format!("set file 0 {}", head));
             script.say("call font_read");
         }
     }
-    script.say(format!("fill file {} {}", FONT_FILE, dice.seed()));
-    for head in ["0000000992", "0200000992", "0100000991", "0100000997", "0192000992", "0100000992"] {
-        script.say(format!("set file 0 {}", head));
-        script.say("call font_read");
+    for size in [GROUPS_FONT_FILE, FONT_FILE] {
+        script.say(format!("fill file {} {}", size, dice.seed()));
+        if size == GROUPS_FONT_FILE {
+            script.say(format!("set file {} 00010203040403020101020304000401", FONT_FILE));
+        }
+        for head in ["0000000992", "0300000992", "0100000991", "0100000993", "0100000997", "0192000992", "0100000992"] {
+            script.say(format!("set file 0 {}", head));
+            script.say("call font_read");
+        }
+        for head in ["02000009a1", "02000009a3", "02000009a7", "0292000992", "02a20009a2", "0200000992", "02000009a2"] {
+            script.say(format!("set file 0 {}", head));
+            script.say("call font_read");
+        }
     }
     let page = some_page(dice);
     script.chars(dice);

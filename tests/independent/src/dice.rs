@@ -1,6 +1,6 @@
-//! Random numbers from a fixed seed, random pages that a board accepts, and random lists of phrases.
+//! Random numbers from a fixed seed, random pages that a board accepts, random groups, and random lists of phrases.
 
-use crate::board::{Page, Place};
+use crate::board::{Page, Place, FONT_GROUPS};
 use crate::judge;
 use crate::records::Phrase;
 
@@ -68,11 +68,14 @@ pub fn page(dice: &mut Dice, shape: Shape) -> Page {
         page.cursor = dice.between(0, 16383) as u16;
         page.start2 = dice.between(0, 16383) as u16;
         page.switches = 1 | dice.pick(&[0, 2, 2, 2]) | dice.pick(&[0, 4, 8, 12]);
-        page.version = dice.pick(&[1, 2]);
-        if page.version == 2 {
+        page.version = dice.pick(&[1, 2, 3, 3]);
+        page.switches |= match page.version {
+            1 => 0,
             // field mode without and with ACD, seldom character mode
-            page.switches |= dice.pick(&[0x10, 0x10, 0x10, 0x30, 0x30, 0x30, 0x00, 0x20]);
-        }
+            2 => dice.pick(&[0x10, 0x10, 0x10, 0x30, 0x30, 0x30, 0x00, 0x20]),
+            _ => dice.pick(&[0x10, 0x30, 0x00, 0x20]),
+        };
+        page.chip = u8::from(page.version == 3 && !dice.one_in(4));
         page.dots = shape.dots;
         page.strike = dice.between(0, shape.lines.min(15)) as u8;
         if !judge::first(&judge::page(&page)).refused() {
@@ -83,21 +86,42 @@ pub fn page(dice: &mut Dice, shape: Shape) -> Page {
 
 /// The page as version 1 has it.
 pub fn in_version_1(page: Page) -> Page {
-    Page { version: 1, switches: page.switches & 0x0F, ..page }
+    Page { version: 1, switches: page.switches & 0x0F, chip: 0, ..page }
 }
 
+/// In a version that has it.
 pub fn in_field_mode(page: Page, acd: bool) -> Page {
     let switches = page.switches & 0x0F | 0x10 | u8::from(acd) << 5;
-    Page { version: 2, switches, ..page }
+    Page { version: page.version.max(2), switches, ..page }
 }
 
-/// Character mode in both versions, field mode without and with ACD.
-pub const MODES: [fn(Page) -> Page; 4] = [
+/// The page in version 2 or, with chip B, in version 3, with these of switches 4 and 5.
+fn in_mode(page: Page, chip_b: bool, upper: u8) -> Page {
+    let (version, chip) = if chip_b { (3, 1) } else { (2, 0) };
+    Page { version, switches: page.switches & 0x0F | upper, chip, ..page }
+}
+
+/// For each chip character mode, of A in both versions that have it alone, and field mode without and with ACD.
+pub const MODES: [fn(Page) -> Page; 8] = [
     in_version_1,
-    |page| Page { version: 2, switches: page.switches & 0x0F | 0x20, ..page },
-    |page| in_field_mode(page, false),
-    |page| in_field_mode(page, true),
+    |page| in_mode(page, false, 0x20),
+    |page| in_mode(page, false, 0x10),
+    |page| in_mode(page, false, 0x30),
+    |page| in_mode(page, true, 0x00),
+    |page| in_mode(page, true, 0x20),
+    |page| in_mode(page, true, 0x10),
+    |page| in_mode(page, true, 0x30),
 ];
+
+/// Any mode.
+pub fn any_mode(dice: &mut Dice) -> usize {
+    dice.between(0, MODES.len() as u32 - 1) as usize
+}
+
+/// Groups that a font may have, one for each scan line.
+pub fn groups(dice: &mut Dice) -> [u8; FONT_GROUPS] {
+    [0; FONT_GROUPS].map(|_| dice.between(0, 4) as u8)
+}
 
 /// Row table on, and its entries have codes.
 pub fn with_codes(mut page: Page) -> Page {

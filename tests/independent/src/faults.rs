@@ -1,14 +1,28 @@
 //! Every refusal of every call, alone, in pairs and all at once, so that the order of refusals shows.
 
-use crate::board::{Board, Page};
+use crate::board::{Board, Page, FONT_GROUPS};
 use crate::dice::{with_codes, Dice};
-use crate::files::{bytes_of, page_of, FONT_FILE, FONT_LENGTH, PAGE_FILE, PAGE_LENGTH};
+use crate::files::{bytes_of, font_length, page_length, page_of, FONT_FILE};
 use crate::make::{Maker, Script};
 use crate::records::Phrase;
 use crate::script::{board_text, hex, phrases_text};
 
-pub const BUFFERS: [&str; 11] =
-    ["numbers", "chars", "attrs", "words", "flags", "unshifted", "shifted", "file", "out", "cells", "phrases"];
+pub const BUFFERS: [&str; 12] = [
+    "numbers",
+    "chars",
+    "attrs",
+    "words",
+    "flags",
+    "unshifted",
+    "shifted",
+    "groups",
+    "file",
+    "out",
+    "cells",
+    "phrases",
+];
+const FILE: usize = 8;
+const PHRASES: usize = 11;
 
 /// The calls that take no board, and those that do.
 const ALONE: [&str; 14] = [
@@ -36,7 +50,7 @@ pub struct Case {
     board: Board,
     file_length: u32,
     /// Elements of each buffer; `None` is NULL.
-    sizes: [Option<usize>; 11],
+    sizes: [Option<usize>; 12],
     line: u32,
     row: u32,
     address: u8,
@@ -46,22 +60,26 @@ pub struct Case {
     /// For `to_sheet` and `phrase_of_row`, the row table at cell 0.
     entries: [u16; 2],
     phrases: [Phrase; 5],
+    /// Those that are lent, and those of a font file.
+    groups: [u8; FONT_GROUPS],
 }
 
 /// Something wrong, or something that a call does not judge.
 pub type Fault = Box<dyn Fn(&mut Case)>;
 
-/// Which page a case begins with: its version, of which 2 is in field mode, and whether its rows have codes.
+/// Which page a case begins with: its version, of which 3 is of chip B; whether it is in field mode, and its rows have
+/// codes.
 #[derive(Clone, Copy)]
 struct Base {
     version: u8,
+    field: bool,
     codes: bool,
 }
 
 /// HFP 3; 2 rows of 3 lines of 6 cells, 8 dots. It is a sheet, but for `to_sheet`.
-fn base(call: &str, resets: u8, Base { version, codes }: Base) -> Case {
-    let switches = if version == 2 { 0x1B } else { 0x0B };
-    let mut page = Page { version, switches, dots: 8, strike: 1, start1: 1020, ..Page::default() };
+fn base(call: &str, resets: u8, Base { version, field, codes }: Base) -> Case {
+    let (switches, chip) = (if field { 0x1B } else { 0x0B }, u8::from(version == 3));
+    let mut page = Page { version, switches, dots: 8, strike: 1, chip, start1: 1020, ..Page::default() };
     page.irs = [0x10, 2, 0x01, 0, 1, 5, 0x02, 0x42, 0, 0, 9, 9, 9, 9, 9];
     if call == "to_sheet" {
         page.irs[2] |= 0x80;
@@ -70,17 +88,18 @@ fn base(call: &str, resets: u8, Base { version, codes }: Base) -> Case {
         page = with_codes(page);
     }
     assert_eq!(page.hfp(), 3);
-    let font_file = call == "font_read";
-    let file = if font_file { FONT_FILE } else { PAGE_FILE };
+    let length_of = if call == "font_read" { font_length } else { page_length };
+    let file_length = length_of(version).expect("a case begins with a version that is known");
+    let file = 5 + file_length as usize;
     let out = match call {
-        "page_write" => PAGE_FILE,
+        "page_write" => file,
         "picture_draw" => page.picture_dots(),
         _ => page.line_dots(),
     };
-    let sizes = [32, 16384, 16384, 1152, 128, 9, 9, file, out, 256, 5];
+    let sizes = [32, 16384, 16384, 1152, 128, 9, 9, 16, file, out, 256, 5];
     Case {
         board: Board { page, resets, pointer: 3, ..Board::default() },
-        file_length: if font_file { FONT_LENGTH } else { PAGE_LENGTH },
+        file_length,
         sizes: sizes.map(Some),
         line: 5,
         row: 1,
@@ -91,6 +110,7 @@ fn base(call: &str, resets: u8, Base { version, codes }: Base) -> Case {
         // six cells from 1020 on: after 1023 comes 0
         entries: [1020, 2],
         phrases: base_phrases(),
+        groups: [1, 1, 2, 2, 3, 3, 4, 0, 4, 3, 2, 1, 0, 0, 1, 4],
     }
 }
 
@@ -117,9 +137,12 @@ fn numbers_faults() -> Vec<Fault> {
     sizes("numbers", 32).into_iter().chain(version_faults()).collect()
 }
 
-/// Neither 1 nor 2, and these two, which differ in their switches.
+/// Neither 1, 2 nor 3, and these three, which differ in their switches and in the chip.
 fn version_faults() -> Vec<Fault> {
-    [0, 3, 255, 1, 2].iter().map(|&version| fault(move |case: &mut Case| case.board.page.version = version)).collect()
+    [0, 4, 255, 1, 2, 3]
+        .iter()
+        .map(|&version| fault(move |case: &mut Case| case.board.page.version = version))
+        .collect()
 }
 
 fn memory_faults() -> Vec<Fault> {
@@ -127,8 +150,15 @@ fn memory_faults() -> Vec<Fault> {
 }
 
 fn font_faults() -> Vec<Fault> {
-    let parts = [sizes("words", 1152), sizes("flags", 128), sizes("unshifted", 9), sizes("shifted", 9)];
-    parts.into_iter().flatten().collect()
+    let lists = [sizes("words", 1152), sizes("flags", 128), sizes("unshifted", 9), sizes("shifted", 9)];
+    lists.into_iter().chain([sizes("groups", FONT_GROUPS), group_faults()]).flatten().collect()
+}
+
+/// 12 at the first place, in the middle and at the last; and what is not refused: 4 at each of them.
+fn group_faults() -> Vec<Fault> {
+    let group = |at: usize, group: u8| fault(move |case| case.groups[at] = group);
+    let all_4 = fault(|case| [0, 7, 15].iter().for_each(|&at| case.groups[at] = 4));
+    vec![group(0, 5), group(7, 255), group(15, 5), all_4]
 }
 
 /// 12 but for the strike line.
@@ -142,6 +172,11 @@ fn address_faults() -> Vec<Fault> {
         fault(|case| case.board.page.switches |= 0x20),
         fault(|case| case.board.page.switches |= 0x40),
         fault(|case| case.board.page.switches |= 0x80),
+        // in version 3 alone, and the two chips
+        fault(|case| case.board.page.chip = 2),
+        fault(|case| case.board.page.chip = 255),
+        fault(|case| case.board.page.chip = 0),
+        fault(|case| case.board.page.chip = 1),
     ]
 }
 
@@ -227,14 +262,14 @@ fn file_faults() -> Vec<Fault> {
     all.extend([
         fault(|case| case.file_length += 1),
         fault(|case| case.file_length ^= 0x8000_0000),
-        fault(|case| case.sizes[7] = Some(1)),
-        fault(|case| case.sizes[7] = Some(4)),
-        fault(|case| case.sizes[7] = Some(5)),
+        fault(|case| case.sizes[FILE] = Some(1)),
+        fault(|case| case.sizes[FILE] = Some(4)),
+        fault(|case| case.sizes[FILE] = Some(5)),
     ]);
     all.extend([0, 1, 2].map(|how| {
         fault(move |case| {
             let right = 5 + (case.file_length & 0xFFFF) as usize;
-            case.sizes[7] = [None, Some(right - 1), Some(right + 1)][how];
+            case.sizes[FILE] = [None, Some(right - 1), Some(right + 1)][how];
         })
     }));
     all
@@ -242,22 +277,24 @@ fn file_faults() -> Vec<Fault> {
 
 /// What a page file or a font file can have wrong itself.
 pub fn of_file(call: &str) -> Vec<Fault> {
-    let page = if call == "page_read" { page_faults() } else { Vec::new() };
-    file_faults().into_iter().chain(page).collect()
+    let parts = if call == "page_read" { page_faults() } else { group_faults() };
+    file_faults().into_iter().chain(parts).collect()
 }
 
 /// The file with these faults.
 pub fn spoiled(call: &str, file: &[u8], faults: &[&Fault]) -> Vec<u8> {
-    let mut case = base(call, 2, Base { version: file[0], codes: false });
+    let mut case = base(call, 2, Base { version: file[0], field: false, codes: false });
     if call == "page_read" {
         case.board.page = page_of(file[0], &file[5..]);
+    } else if file.len() > FONT_FILE {
+        case.groups.copy_from_slice(&file[FONT_FILE..]);
     }
     faults.iter().for_each(|fault| fault(&mut case));
     let mut spoiled = file.to_vec();
-    spoiled.resize(case.sizes[7].unwrap_or(0), 0);
-    let head = file_head(call, &case);
-    let room = head.len().min(spoiled.len());
-    spoiled[..room].copy_from_slice(&head[..room]);
+    spoiled.resize(case.sizes[FILE].unwrap_or(0), 0);
+    for (at, bytes) in file_parts(call, &case) {
+        spoiled.iter_mut().skip(at).zip(bytes).for_each(|(old, new)| *old = new);
+    }
     spoiled
 }
 
@@ -328,7 +365,7 @@ fn other_rows() -> Vec<Fault> {
 /// of no, one and four records, a row that fewer hold, and two records that differ.
 fn phrase_faults() -> Vec<Fault> {
     let lengths = [None, Some(0), Some(1), Some(4)];
-    let mut all: Vec<Fault> = lengths.map(|size| fault(move |case| case.sizes[10] = size)).into();
+    let mut all: Vec<Fault> = lengths.map(|size| fault(move |case| case.sizes[PHRASES] = size)).into();
     let stretch = |at: usize, first: u32, length: u32| {
         fault(move |case| case.phrases[at] = Phrase { first, length, ..case.phrases[at] })
     };
@@ -350,11 +387,17 @@ fn phrase_faults() -> Vec<Fault> {
     all
 }
 
+/// A file's output: nothing, a byte too few for a version's file, enough, and more.
+fn out_faults() -> Vec<Fault> {
+    let room = |size| fault(move |case: &mut Case| case.sizes[FILE + 1] = size);
+    [None, Some(0), Some(32796), Some(32797), Some(32798), Some(32799), Some(65595)].map(room).into()
+}
+
 fn faults_of(call: &str) -> Vec<Fault> {
     let parts: Vec<Vec<Fault>> = match call {
         "page_check" | "page_size" | "board_of" => vec![numbers_faults(), page_faults()],
         "page_read" => vec![of_file(call), sizes("numbers", 32), memory_faults()],
-        "page_write" => vec![numbers_faults(), memory_faults(), page_faults(), sizes("out", PAGE_FILE)],
+        "page_write" => vec![numbers_faults(), memory_faults(), page_faults(), out_faults()],
         "font_read" => vec![of_file(call), font_faults()],
         "line_draw" => {
             let lent = vec![numbers_faults(), memory_faults(), font_faults()];
@@ -396,14 +439,16 @@ fn lent_to(call: &str) -> &'static [&'static str] {
         "page_check" | "page_size" | "board_of" | "numbers_of" => &BUFFERS[..1],
         "page_read" => &["file", "numbers", "chars", "attrs"],
         "page_write" => &["numbers", "chars", "attrs", "out"],
-        "font_read" => &["file", "words", "flags", "unshifted", "shifted"],
-        "line_draw" | "picture_draw" => &["numbers", "chars", "attrs", "words", "flags", "unshifted", "shifted", "out"],
+        "font_read" => &["file", "words", "flags", "unshifted", "shifted", "groups"],
+        "line_draw" | "picture_draw" => {
+            &["numbers", "chars", "attrs", "words", "flags", "unshifted", "shifted", "groups", "out"]
+        }
         "row_run" | "to_table" | "to_sheet" => &BUFFERS[..2],
         "row_cells" => &["numbers", "chars", "cells"],
         "phrase_of_row" => &["numbers", "chars", "phrases"],
         "phrases_differ" => &["phrases"],
         "state_at" => &BUFFERS[1..3],
-        "step" => &BUFFERS[1..7],
+        "step" => &BUFFERS[1..8],
         _ => &[],
     }
 }
@@ -412,7 +457,7 @@ fn lent_to(call: &str) -> &'static [&'static str] {
 fn written_by(call: &str) -> &'static [&'static str] {
     match call {
         "page_read" => &["numbers", "chars", "attrs"],
-        "font_read" => &["words", "flags", "unshifted", "shifted"],
+        "font_read" => &["words", "flags", "unshifted", "shifted", "groups"],
         "page_write" | "line_draw" | "picture_draw" => &["out"],
         "row_cells" => &["cells"],
         "numbers_of" | "to_sheet" => &["numbers"],
@@ -435,14 +480,16 @@ fn arguments(call: &str, case: &Case) -> String {
     }
 }
 
-/// A file's version and length, and a page file's numbers.
-fn file_head(call: &str, case: &Case) -> Vec<u8> {
+/// A file's version and length, then a page file's numbers, or at its end a font file's groups; each with its place.
+fn file_parts(call: &str, case: &Case) -> Vec<(usize, Vec<u8>)> {
     let head = [vec![case.board.page.version], case.file_length.to_be_bytes().to_vec()].concat();
-    let page = if call == "page_read" { bytes_of(&case.board.page) } else { Vec::new() };
-    [head, page].concat()
+    match call {
+        "page_read" => vec![(0, [head, bytes_of(&case.board.page)].concat())],
+        _ => vec![(0, head), (FONT_FILE, case.groups.to_vec())],
+    }
 }
 
-/// The lines that make one buffer: random elements, and the page's bytes where it holds a page.
+/// The lines that make one buffer: random elements, and the page's bytes where it holds a page, or the groups.
 fn buffer_lines(name: &str, call: &str, case: &Case) -> Vec<String> {
     let index = BUFFERS.iter().position(|&one| one == name).expect("a buffer's name");
     let size = match case.sizes[index] {
@@ -454,20 +501,24 @@ fn buffer_lines(name: &str, call: &str, case: &Case) -> Vec<String> {
         lines.push(format!("set phrases 0 {}", phrases_text(&case.phrases[..size])));
         return lines;
     }
-    let head = match name {
+    let parts = match name {
         // these two only write them
         "numbers" if call != "page_read" && call != "numbers_of" => {
-            [vec![case.board.page.version], bytes_of(&case.board.page)].concat()
+            vec![(0, [vec![case.board.page.version], bytes_of(&case.board.page)].concat())]
         }
         "chars" if ["to_sheet", "phrase_of_row"].contains(&call) => {
-            case.entries.iter().flat_map(|entry| entry.to_le_bytes()).collect()
+            vec![(0, case.entries.iter().flat_map(|entry| entry.to_le_bytes()).collect())]
         }
-        "file" => file_head(call, case),
+        "file" => file_parts(call, case),
+        // a file's groups come in the place of what stood there
+        "groups" if call != "font_read" => vec![(0, case.groups.to_vec())],
         _ => Vec::new(),
     };
-    let room = head.len().min(size);
-    if room > 0 {
-        lines.push(format!("set {} 0 {}", name, hex(&head[..room])));
+    for (at, bytes) in parts {
+        let room = bytes.len().min(size.saturating_sub(at));
+        if room > 0 {
+            lines.push(format!("set {} {} {}", name, at, hex(&bytes[..room])));
+        }
     }
     lines
 }
@@ -513,6 +564,20 @@ fn every_pair(script: &mut Script, call: &'static str, resets: u8, begin: Base) 
     teller.tell(&case);
 }
 
+/// The name of a script begins so; the version, field mode, and codes.
+const BASES: [(&str, u8, bool, bool); 7] = [
+    // [R-1 refusals]
+    ("field-faults-", 2, true, false),
+    ("codes-faults-", 1, false, true),
+    ("field-codes-faults-", 2, true, true),
+    // [R-7 refusals]
+    ("graphics-faults-", 3, false, false),
+    // [R-7 refusals]
+    ("field-graphics-faults-", 3, true, false),
+    ("codes-graphics-faults-", 3, false, true),
+    ("field-codes-graphics-faults-", 3, true, true),
+];
+
 pub fn all() -> Vec<Maker> {
     let mut cases: Vec<(&'static str, u8)> = ALONE.iter().map(|&call| (call, 2)).collect();
     for call in WITH_BOARD {
@@ -525,15 +590,18 @@ pub fn all() -> Vec<Maker> {
     for &(call, resets) in &cases {
         // [demand takes] [register reserved] [register video] [refusal numbers] [refusal order] [refusal kinds]
         // [refusal zeros]
-        all.push(maker(format!("faults-{}-{}", call, resets), call, resets, Base { version: 1, codes: false }));
+        let begin = Base { version: 1, field: false, codes: false };
+        all.push(maker(format!("faults-{}-{}", call, resets), call, resets, begin));
     }
-    // a font file has one version and no codes, and a list of phrases no page
-    // [R-1 refusals]
-    let bases = [("field-faults-", 2, false), ("codes-faults-", 1, true), ("field-codes-faults-", 2, true)];
-    for (name, version, codes) in bases {
-        for &(call, resets) in cases.iter().filter(|(call, _)| !["font_read", "phrases_differ"].contains(call)) {
+    // a font file has two versions and no codes, and a list of phrases no page
+    // [R-7 font] [R-7 refusals]
+    all.push(maker("groups-faults".to_string(), "font_read", 2, Base { version: 2, field: false, codes: false }));
+    let of_a_page: Vec<(&'static str, u8)> =
+        cases.into_iter().filter(|(call, _)| !["font_read", "phrases_differ"].contains(call)).collect();
+    for (name, version, field, codes) in BASES {
+        for &(call, resets) in &of_a_page {
             let name = format!("{}{}-{}", name, call, resets);
-            all.push(maker(name, call, resets, Base { version, codes }));
+            all.push(maker(name, call, resets, Base { version, field, codes }));
         }
     }
     all

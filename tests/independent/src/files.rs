@@ -1,22 +1,50 @@
-//! 01 "Files" and R-1's version 2: a page's numbers, page files and font files as bytes.
+//! 01 "Files", R-1's version 2 and R-7's versions: a page's numbers, page files and font files as bytes.
 
 use crate::board::{Font, Page, FONT_FLAGS, FONT_LIST, FONT_WORDS, MEMORY};
 
-/// "length of what follows it, four bytes big-endian, 32,792"
-pub const PAGE_LENGTH: u32 = 32792;
-/// "Font file: version byte 1; length likewise, 2,450"
-pub const FONT_LENGTH: u32 = 2450;
-pub const PAGE_FILE: usize = 5 + PAGE_LENGTH as usize;
-pub const FONT_FILE: usize = 5 + FONT_LENGTH as usize;
-/// R-1: "version 1 is still read and written"; a font has version 1.
-pub const PAGE_VERSIONS: [u8; 2] = [1, 2];
-pub const FONT_VERSIONS: [u8; 1] = [1];
-/// A page's numbers for C: the version byte, these 24 bytes, then zeros to 32.
+/// "length of what follows it, four bytes big-endian, 32,792"; R-7: "Page file version 3 is version 2 with one more
+/// byte after the strike line". None for a version that is not known.
+pub fn page_length(version: u8) -> Option<u32> {
+    match version {
+        1 | 2 => Some(32792),
+        3 => Some(32793),
+        _ => None,
+    }
+}
+
+/// "Font file: version byte 1; length likewise, 2,450"; R-7: "font file version 2 adds sixteen group numbers"
+pub fn font_length(version: u8) -> Option<u32> {
+    match version {
+        1 => Some(2450),
+        2 => Some(2466),
+        _ => None,
+    }
+}
+
+/// Files of versions 1 and 2, and of version 3; fonts of version 1, and of version 2.
+pub const PAGE_FILE: usize = 32797;
+pub const CHIP_PAGE_FILE: usize = 32798;
+pub const FONT_FILE: usize = 2455;
+pub const GROUPS_FONT_FILE: usize = 2471;
+/// A page's numbers for C: the version byte, 24 bytes or in version 3 one more, then zeros to 32.
 pub const NUMBERS: usize = 32;
-pub const PAGE_BYTES: usize = 24;
+
+/// How many bytes of a page file are its numbers, and stand behind the version in numbers for C.
+pub fn page_bytes(version: u8) -> usize {
+    if version == 3 {
+        25
+    } else {
+        24
+    }
+}
+
+/// "The listing program takes a page's size from its version byte."
+pub fn page_file_size(version: u8) -> Option<usize> {
+    page_length(version).map(|length| 5 + length as usize)
+}
 
 /// "then 15 IRs, screen start 1, cursor, screen start 2 (two bytes big-endian each), switches (..), dots,
-/// strike line"; R-1: "version 2, which is otherwise as version 1"
+/// strike line"; R-1: "version 2, which is otherwise as version 1"; R-7: the chip, of which versions 1 and 2 mean A
 pub fn page_of(version: u8, bytes: &[u8]) -> Page {
     let two = |at: usize| u16::from_be_bytes([bytes[at], bytes[at + 1]]);
     let mut irs = [0; 15];
@@ -30,6 +58,7 @@ pub fn page_of(version: u8, bytes: &[u8]) -> Page {
         switches: bytes[21],
         dots: u32::from(bytes[22]),
         strike: bytes[23],
+        chip: if version == 3 { bytes[24] } else { 0 },
     }
 }
 
@@ -38,7 +67,8 @@ pub fn bytes_of(page: &Page) -> Vec<u8> {
     for address in [page.start1, page.cursor, page.start2] {
         bytes.extend(address.to_be_bytes());
     }
-    bytes.extend([page.switches, page.dots as u8, page.strike]);
+    bytes.extend([page.switches, page.dots as u8, page.strike, page.chip]);
+    bytes.truncate(page_bytes(page.version));
     bytes
 }
 
@@ -51,7 +81,7 @@ pub fn numbers_of(page: &Page) -> Vec<u8> {
 
 /// Another size and an unknown version are no page.
 pub fn page_of_numbers(numbers: &[u8]) -> Option<Page> {
-    if numbers.len() == NUMBERS && PAGE_VERSIONS.contains(&numbers[0]) {
+    if numbers.len() == NUMBERS && page_length(numbers[0]).is_some() {
         Some(page_of(numbers[0], &numbers[1..]))
     } else {
         None
@@ -60,8 +90,8 @@ pub fn page_of_numbers(numbers: &[u8]) -> Option<Page> {
 
 /// The page of a file that has a known version and all of its numbers, whatever else is wrong with it.
 pub fn page_of_head(file: &[u8]) -> Option<Page> {
-    let version = *file.first().filter(|version| PAGE_VERSIONS.contains(version))?;
-    Some(page_of(version, file.get(5..5 + PAGE_BYTES)?))
+    let version = *file.first().filter(|&&version| page_length(version).is_some())?;
+    Some(page_of(version, file.get(5..5 + page_bytes(version))?))
 }
 
 fn with_head(version: u8, length: u32) -> Vec<u8> {
@@ -72,7 +102,8 @@ fn with_head(version: u8, length: u32) -> Vec<u8> {
 
 /// A page file up to its memories.
 pub fn page_head(page: &Page) -> Vec<u8> {
-    let mut head = with_head(page.known_version(), PAGE_LENGTH);
+    let version = page.known_version();
+    let mut head = with_head(version, page_length(version).expect("a version that counts is known"));
     head.extend(bytes_of(page));
     head
 }
@@ -86,18 +117,25 @@ pub fn page_file(page: &Page, chars: &[u8], attrs: &[u8]) -> Vec<u8> {
 
 /// An accepted page file's page, character memory and attribute memory.
 pub fn page_parts(file: &[u8]) -> (Page, &[u8], &[u8]) {
-    let (bytes, memories) = file[5..].split_at(PAGE_BYTES);
+    let (bytes, memories) = file[5..].split_at(page_bytes(file[0]));
     let (chars, attrs) = memories.split_at(MEMORY);
     (page_of(file[0], bytes), chars, attrs)
 }
 
-/// "1,152 words big-endian; 128 flags; unshifted list; shifted list"
+/// The head of a font file with groups, or of one without.
+pub fn font_head(groups: bool) -> Vec<u8> {
+    let version = if groups { 2 } else { 1 };
+    with_head(version, font_length(version).expect("both versions are known"))
+}
+
+/// "1,152 words big-endian; 128 flags; unshifted list; shifted list", and the groups last
 pub fn font_file(font: &Font) -> Vec<u8> {
-    let mut file = with_head(1, FONT_LENGTH);
+    let mut file = font_head(!font.groups.is_empty());
     font.words.iter().for_each(|word| file.extend(word.to_be_bytes()));
     file.extend(font.flags);
     file.extend(font.unshifted);
     file.extend(font.shifted);
+    file.extend(font.groups);
     file
 }
 
@@ -106,17 +144,27 @@ pub struct OwnFont {
     pub flags: Vec<u8>,
     pub unshifted: Vec<u8>,
     pub shifted: Vec<u8>,
+    pub groups: Vec<u8>,
 }
 
-/// An accepted font file's four parts.
+impl OwnFont {
+    pub fn lent(&self) -> Font<'_> {
+        let (words, flags, groups) = (&self.words, &self.flags, &self.groups);
+        Font { words, flags, unshifted: &self.unshifted, shifted: &self.shifted, groups }
+    }
+}
+
+/// The parts of a font file that has a known version and its size.
 pub fn font_parts(file: &[u8]) -> OwnFont {
     let (words, rest) = file[5..].split_at(2 * FONT_WORDS);
-    let (flags, lists) = rest.split_at(FONT_FLAGS);
-    let (unshifted, shifted) = lists.split_at(FONT_LIST);
+    let (flags, rest) = rest.split_at(FONT_FLAGS);
+    let (unshifted, rest) = rest.split_at(FONT_LIST);
+    let (shifted, groups) = rest.split_at(FONT_LIST);
     OwnFont {
         words: words.chunks(2).map(|pair| u16::from_be_bytes([pair[0], pair[1]])).collect(),
         flags: flags.to_vec(),
         unshifted: unshifted.to_vec(),
         shifted: shifted.to_vec(),
+        groups: groups.to_vec(),
     }
 }

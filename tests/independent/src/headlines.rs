@@ -1,9 +1,9 @@
 //! The fixed scripts for R-4: rows of every code in every width and shape, and boards handed over anywhere in them, in the
 //! middle of a cell too, with any byte as their row's code.
 
-use crate::board::{Board, Page, Place};
-use crate::dice::{any_place, in_field_mode, page, with_codes, Dice, Shape, MODES};
-use crate::files::bytes_of;
+use crate::board::{Board, Page, Place, MEMORY};
+use crate::dice::{any_mode, any_place, in_field_mode, page, with_codes, Dice, Shape, MODES};
+use crate::files::page_head;
 use crate::make::{Maker, Script};
 use crate::script::hex;
 use crate::sheet::row_cells;
@@ -152,7 +152,7 @@ fn wraps(script: &mut Script, dice: &mut Dice, hact: u32) {
         for end in [last, 16383] {
             for back in [0, 1, cells.max(2) - 2, cells - 1, cells, cells + 1] {
                 let shape = Shape { hact, rows: 8, lines: 2, dots: dice.between(6, 12) };
-                let mode = dice.between(0, 3) as usize;
+                let mode = any_mode(dice);
                 let mut page = coded(dice, mode, shape);
                 page.irs[8] = (first % 256) as u8;
                 page.irs[9] = ((last / 1024) * 16 + first / 256) as u8;
@@ -212,7 +212,8 @@ fn latches(script: &mut Script, dice: &mut Dice) {
                 lines: dice.between(2, 6),
                 dots: dice.between(6, 12),
             };
-            let mut page = in_field_mode(coded(dice, 2, shape), acd);
+            let mode = dice.pick(&[2, 6]);
+            let mut page = in_field_mode(coded(dice, mode, shape), acd);
             let mut chars = script.chars(dice);
             let apart: Vec<(u16, u8)> = (0..13).map(|row| (100 * row as u16, EVERY_CODE[row])).collect();
             coded_table(script, &page, &mut chars, &apart);
@@ -255,7 +256,7 @@ fn codes_or_none(script: &mut Script, dice: &mut Dice) {
 fn table_at_the_end(script: &mut Script, dice: &mut Dice) {
     for start2 in [16383, 16382, 16381, 16380, 16379] {
         let shape = Shape { hact: dice.between(2, 9), rows: 4, lines: 2, dots: dice.between(6, 12) };
-        let mode = dice.between(0, 3) as usize;
+        let mode = any_mode(dice);
         let page = Page { start2, ..coded(dice, mode, shape) };
         let mut chars = script.chars(dice);
         coded_table(script, &page, &mut chars, &[(300, TOP), (300, BOTTOM), (500, WIDE), (40, PLAIN)]);
@@ -305,7 +306,7 @@ fn places(script: &mut Script, dice: &mut Dice) {
 
 /// Every byte as a row's code, in the middle of a line and to its end and beyond; and at a frame's beginning, where none counts.
 fn every_byte(script: &mut Script, dice: &mut Dice) {
-    for (mode, dots) in [(0, 11), (2, 8)] {
+    for (mode, dots) in [(0, 11), (2, 8), (5, 10), (7, 12)] {
         let page = thirteen(dice, mode, dots);
         let mut chars = script.chars(dice);
         let table = anywhere(dice, &EVERY_CODE);
@@ -363,7 +364,7 @@ fn refused(script: &mut Script, dice: &mut Dice) {
         let chars = script.chars(dice);
         set_up(script, dice, &page, &chars, 2);
         script.say(format!("fill cells 256 {}", dice.seed()));
-        script.say("fill file 32797 5");
+        script.say(format!("fill file {} 5", page_head(&page).len() + 2 * MEMORY));
         for bits in 0..8 {
             let mut page = page;
             (0..3).for_each(|ir| page.irs[ir] = page.irs[ir] & 0x7F | (bits >> ir & 1) << 7);
@@ -373,8 +374,7 @@ fn refused(script: &mut Script, dice: &mut Dice) {
                 script.say(format!("call {}", call));
             }
             script.say("call page_write");
-            let bytes = [&[page.version][..], &32792_u32.to_be_bytes(), &bytes_of(&page)].concat();
-            script.say(format!("set file 0 {}", hex(&bytes)));
+            script.say(format!("set file 0 {}", hex(&page_head(&page))));
             script.say("call page_read");
             script.say("call board_of");
             script.board(&Board::of_page(page));
@@ -390,7 +390,7 @@ fn refused(script: &mut Script, dice: &mut Dice) {
 /// IR0 is written in the middle of rows and cells: their codes go, and come back with the next row.
 fn written(script: &mut Script, dice: &mut Dice) {
     for mode in 0..MODES.len() {
-        let page = thirteen(dice, mode, 7 + mode as u32);
+        let page = thirteen(dice, mode, 6 + mode as u32 % 7);
         let mut chars = script.chars(dice);
         let table = anywhere(dice, &EVERY_CODE);
         coded_table(script, &page, &mut chars, &table);
@@ -411,7 +411,7 @@ fn written(script: &mut Script, dice: &mut Dice) {
 
 /// A board in the middle of a cell is set, written, read and saved: none of it touches the code but a master reset.
 fn saved(script: &mut Script, dice: &mut Dice) {
-    for (mode, row_code) in [(0, 3), (2, 0x42), (3, 0xFF), (1, 4)] {
+    for (mode, row_code) in [(0, 3), (2, 0x42), (3, 0xFF), (1, 4), (4, 2), (7, 0x81)] {
         let page = thirteen(dice, mode, 10);
         let chars = script.chars(dice);
         set_up(script, dice, &page, &chars, 2);
@@ -432,7 +432,7 @@ fn saved(script: &mut Script, dice: &mut Dice) {
 
 /// As long as a row can be, with as many lines, and states far away.
 fn longest_rows(script: &mut Script, dice: &mut Dice) {
-    for mode in [1, 2] {
+    for mode in [1, 2, 6] {
         let shape = Shape { hact: 256, rows: 13, lines: 16, dots: 12 };
         let mut page = coded(dice, mode, shape);
         let mut chars = script.chars(dice);
@@ -452,7 +452,7 @@ fn longest_rows(script: &mut Script, dice: &mut Dice) {
 /// A display that is off, and a board that is not active, fetch and latch all the same: it shows where the display comes on.
 fn off(script: &mut Script, dice: &mut Dice, resets: u8) {
     for mode in 0..MODES.len() {
-        let mut page = thirteen(dice, mode, 7 + mode as u32);
+        let mut page = thirteen(dice, mode, 6 + mode as u32 % 7);
         page.switches &= !1;
         let mut chars = script.chars(dice);
         let table = anywhere(dice, &EVERY_CODE);

@@ -4,35 +4,26 @@
 use crate::corners;
 use crate::dice::Dice;
 use crate::faults::{of_file, spoiled, Fault};
-use crate::files::{font_file, page_file, page_of_numbers, FONT_FILE, PAGE_FILE};
+use crate::files::{font_file, font_parts, page_bytes, page_file, page_of_numbers, page_parts};
 use crate::kinds::{catalogue, screen, sheet, tall, wide, Kind};
+use crate::listing::page_and_font;
 use crate::make::{written, Script};
 use crate::script::Buffers;
 
 const KINDS: [Kind; 8] = [sheet, catalogue, sheet, wide, catalogue, tall, sheet, screen];
 
-/// Where a cut meets the end of a part, or one byte beside it.
-const CUTS: [usize; 14] = [
-    0,
-    1,
-    4,
-    5,
-    28,
-    29,
-    30,
-    PAGE_FILE - 1,
-    PAGE_FILE,
-    PAGE_FILE + 1,
-    PAGE_FILE + 4,
-    PAGE_FILE + 5,
-    PAGE_FILE + 6,
-    PAGE_FILE + FONT_FILE - 1,
-];
-
-/// Where a page file has its switches.
-const SWITCHES: usize = 26;
+/// Where a cut meets the end of a part of the page, of the font's head, and of the font with and without groups, or one
+/// byte beside it.
+const PAGE_CUTS: [usize; 8] = [0, 1, 4, 5, 28, 29, 30, 31];
+const FONT_CUTS: [i32; 7] = [-1, 0, 1, 4, 5, 6, 2454];
+const GROUPS_CUTS: [i32; 4] = [2455, 2456, 2463, 2470];
 
 type Damage = Box<dyn Fn(&[u8]) -> Vec<u8>>;
+
+/// Of a whole input.
+fn page_size(input: &[u8]) -> usize {
+    page_and_font(input).0.len()
+}
 
 pub fn input(seed: u64, number: u64) -> Result<Vec<u8>, String> {
     let mut dice = Dice::new(seed, number);
@@ -88,50 +79,81 @@ fn damaged(dice: &mut Dice, turn: usize) -> Result<Vec<u8>, String> {
     })
 }
 
-/// Every fault of a page file in version 1 and in field mode, every fault of a font file, every cut, and bytes behind the
-/// font.
+/// Every fault of a font file with and without groups, every fault of a page file of chip B, in version 1 and in field
+/// mode, every cut of pages and fonts of both sizes, and bytes behind the font.
 fn fixed() -> Vec<Damage> {
     let mut all: Vec<Damage> = Vec::new();
-    for (version, mode) in [(1, 0), (2, 0x10)] {
+    for groups in [true, false] {
+        for fault in of_file("font_read") {
+            all.push(Box::new(move |input| with_faults(&with_font(input, groups), &[], &[&fault])));
+        }
+    }
+    for (version, mode) in [(3, 0), (1, 0), (2, 0x10)] {
         for fault in of_file("page_read") {
             all.push(Box::new(move |input| with_faults(&in_mode(input, version, mode), &[&fault], &[])));
         }
     }
-    for fault in of_file("font_read") {
-        all.push(Box::new(move |input| with_faults(input, &[], &[&fault])));
+    all.extend(cuts(2, false));
+    all.extend(cuts(3, true));
+    all
+}
+
+/// Of an input with such a page and such a font.
+fn cuts(version: u8, groups: bool) -> Vec<Damage> {
+    let of_version = move |input: &[u8]| with_font(&in_mode(input, version, 0), groups);
+    let mut all: Vec<Damage> = Vec::new();
+    for size in PAGE_CUTS {
+        all.push(Box::new(move |input| of_version(input)[..size].to_vec()));
     }
-    for size in CUTS {
-        all.push(Box::new(move |input| input[..size].to_vec()));
+    for behind in FONT_CUTS.into_iter().chain(GROUPS_CUTS.into_iter().filter(|_| groups)) {
+        all.push(Box::new(move |input| {
+            let mut cut = of_version(input);
+            cut.truncate((page_size(&cut) as i32 + behind) as usize);
+            cut
+        }));
     }
-    for more in [1, 5, FONT_FILE, PAGE_FILE + FONT_FILE] {
-        all.push(Box::new(move |input| [input, &input[..more]].concat()));
+    for more in [1, 5, 16, 2455, 35_000] {
+        all.push(Box::new(move |input| [&of_version(input)[..], &of_version(input)[..more]].concat()));
     }
     all
 }
 
-/// The input with a page of this version, and these of its switches 4 to 7.
+/// The input with a page of this version, of which 3 is of chip B, and these of its switches 4 to 7.
 fn in_mode(input: &[u8], version: u8, mode: u8) -> Vec<u8> {
-    let mut changed = input.to_vec();
-    changed[0] = version;
-    changed[SWITCHES] = input[SWITCHES] & 0x0F | mode;
-    changed
+    let (page, font) = page_and_font(input);
+    let (mut page, chars, attrs) = page_parts(page);
+    page.version = version;
+    page.chip = u8::from(version == 3);
+    page.switches = page.switches & 0x0F | mode;
+    [page_file(&page, chars, attrs), font.to_vec()].concat()
+}
+
+/// The input with a font that has groups, or none.
+fn with_font(input: &[u8], groups: bool) -> Vec<u8> {
+    let (page, font) = page_and_font(input);
+    let mut parts = font_parts(font);
+    let groups = if groups { &[1, 1, 1, 2, 2, 2, 3, 3, 3, 4, 4, 4, 0, 0, 1, 4][..] } else { &[] };
+    parts.groups = groups.to_vec();
+    [page, &font_file(&parts.lent())].concat()
 }
 
 fn with_faults(input: &[u8], of_page: &[&Fault], of_font: &[&Fault]) -> Vec<u8> {
-    let (page, font) = input.split_at(PAGE_FILE);
+    let (page, font) = page_and_font(input);
     [spoiled("page_read", page, of_page), spoiled("font_read", font, of_font)].concat()
 }
 
 fn by_chance(dice: &mut Dice, turn: usize, input: &[u8]) -> Vec<u8> {
     let (page, font) = (of_file("page_read"), of_file("font_read"));
     let upto = |dice: &mut Dice, last: usize| dice.between(0, last as u32) as usize;
+    let page_end = page_size(input);
     let mut damaged = input.to_vec();
     match turn % 8 {
-        // head and numbers of the page, head of the font
-        0 | 1 => damaged[upto(dice, 28)] = dice.byte(),
-        2 => damaged[PAGE_FILE + upto(dice, 4)] = dice.byte(),
-        3 if dice.one_in(2) => damaged.truncate(upto(dice, PAGE_FILE)),
-        3 => damaged.truncate(PAGE_FILE + upto(dice, FONT_FILE - 1)),
+        // head and numbers of the page, head of the font or a group
+        0 | 1 => damaged[upto(dice, 4 + page_bytes(input[0]))] = dice.byte(),
+        2 if dice.one_in(2) => damaged[page_end + upto(dice, 4)] = dice.byte(),
+        2 => damaged[input.len() - 1 - upto(dice, 15)] = dice.byte(),
+        3 if dice.one_in(2) => damaged.truncate(upto(dice, page_end)),
+        3 => damaged.truncate(page_end + upto(dice, input.len() - page_end - 1)),
         4 | 5 => {
             let (a, b) = (upto(dice, page.len() - 1), upto(dice, page.len() - 1));
             damaged = with_faults(input, &[&page[a], &page[b]], &[]);

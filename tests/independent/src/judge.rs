@@ -1,7 +1,7 @@
 //! 01 "Refusal numbers" and what 02 makes of them: what is wrong with what a call was handed. A list of faults has no order of its
 //! own; `first` applies 01's.
 
-use crate::board::{Board, Font, Page, FONT_FLAGS, FONT_LIST, FONT_WORDS, MEMORY};
+use crate::board::{Board, Font, Page, FONT_FLAGS, FONT_GROUPS, FONT_LIST, FONT_WORDS, MEMORY};
 
 /// What a call answers: a refusal number, 0 where all was done, and the number beside it.
 #[derive(Clone, Copy, PartialEq, Eq, Debug, Default)]
@@ -39,11 +39,13 @@ pub fn fault(number: u32, holds: bool) -> Fault {
     (Refusal::plain(number), holds)
 }
 
-/// "1: version byte missing or not 1; 2: length field or bytes present wrong"; R-1 for pages: "1 now means neither 1 nor 2"
-pub fn file(file: &[u8], versions: &[u8], length: u32) -> Vec<Fault> {
-    let known = matches!(file.first(), Some(version) if versions.contains(version));
+/// "1: version byte missing or not 1; 2: length field or bytes present wrong"; R-7: "1 and 2 follow the new versions
+/// and lengths"
+pub fn file(file: &[u8], length_of: fn(u8) -> Option<u32>) -> Vec<Fault> {
+    let length = file.first().and_then(|&version| length_of(version));
     let field = file.get(1..5).map(|b| u32::from_be_bytes([b[0], b[1], b[2], b[3]]));
-    vec![fault(1, !known), fault(2, field != Some(length) || file.len() != 5 + length as usize)]
+    let present = length.map_or(false, |length| file.len() == 5 + length as usize);
+    vec![fault(1, length.is_none()), fault(2, field != length || !present)]
 }
 
 /// "3: a lent memory or font part of wrong size"
@@ -57,18 +59,25 @@ pub fn font(font: &Font) -> Vec<Fault> {
         fault(3, font.flags.len() != FONT_FLAGS),
         fault(3, font.unshifted.len() != FONT_LIST),
         fault(3, font.shifted.len() != FONT_LIST),
+        fault(3, ![0, FONT_GROUPS].contains(&font.groups.len())),
     ]
 }
 
+/// R-7: "12 also covers a chip byte above 1 and a group above 4"
+pub fn groups(groups: &[u8]) -> Fault {
+    fault(12, groups.iter().any(|&group| group > 4))
+}
+
 /// "12: a start or cursor address above 16383, switches 4 to 7, or strike line above 15"; R-1: "in a version 2 file
-/// 12 covers switches 6 and 7 only"
+/// 12 covers switches 6 and 7 only"; R-7: "also [..] a chip byte above 1". All but the strike line.
 pub fn addresses(page: &Page) -> Vec<Fault> {
-    let no_switches = if page.known_version() == 2 { 0xC0 } else { 0xF0 };
+    let no_switches = if page.known_version() == 1 { 0xF0 } else { 0xC0 };
     vec![
         fault(12, page.start1 > 16383),
         fault(12, page.cursor > 16383),
         fault(12, page.start2 > 16383),
         fault(12, page.switches & no_switches != 0),
+        fault(12, page.known_version() == 3 && page.chip > 1),
     ]
 }
 

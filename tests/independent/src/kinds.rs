@@ -1,8 +1,8 @@
 //! The random scripts, one kind after another.
 
-use crate::board::{Board, Page};
-use crate::dice::{any_place, in_buffer, page, phrases_about, place_cells, some_with_codes, Dice, Shape};
-use crate::files::{page_head, FONT_FILE, PAGE_FILE};
+use crate::board::{Board, Page, MEMORY};
+use crate::dice::{any_place, groups, in_buffer, page, phrases_about, place_cells, some_with_codes, Dice, Shape};
+use crate::files::{font_head, page_head, FONT_FILE, GROUPS_FONT_FILE, PAGE_FILE};
 use crate::make::Script;
 use crate::script::hex;
 use crate::stage::{cells, cursor_in_sight, following, index, lines, pictures, set_up, show, states, table};
@@ -194,7 +194,7 @@ fn any_board(dice: &mut Dice) -> Board {
 
 fn disturb(dice: &mut Dice, board: &mut Board) {
     let (wide, address) = (dice.pick(&[0, 1, 5, 13, 255, 256, 2153, u32::MAX]), dice.pick(&[0, 16383, 16384, 65535]));
-    match dice.between(0, 15) {
+    match dice.between(0, 17) {
         0 => board.page.start1 = address,
         1 => board.page.cursor = address,
         2 => board.page.start2 = address,
@@ -206,10 +206,12 @@ fn disturb(dice: &mut Dice, board: &mut Board) {
         8 => board.place.address = address,
         9 => board.place.row_start = address,
         10 => board.pointer = dice.pick(&[14, 15, 16, 255]),
-        11 => board.page.version = dice.pick(&[0, 1, 2, 3, 255]),
+        11 => board.page.version = dice.pick(&[0, 1, 2, 3, 4, 255]),
         12 => board.page.switches ^= dice.pick(&[0x10, 0x20, 0x30, 0x40, 0x80]),
         13 => board.page.version = dice.byte(),
         14 => board.page.irs[dice.pick(&[0, 1, 2])] ^= 0x80,
+        15 => board.page.chip = dice.pick(&[0, 1, 2, 255]),
+        16 => board.page.chip = dice.byte(),
         _ => board.page.irs[dice.between(0, 14) as usize] = dice.byte(),
     }
 }
@@ -229,8 +231,8 @@ fn by_registers(script: &mut Script, dice: &mut Dice) {
     if page.version == 1 {
         script.say("call power");
     } else {
-        // no register write makes a version 2 or sets its switches, so the board comes with them
-        let bare = Page { version: 2, switches: page.switches & 0x30, ..Page::default() };
+        // no register write makes another version or sets its switches and chip, so the board comes with them
+        let bare = Page { version: page.version, switches: page.switches & 0x30, chip: page.chip, ..Page::default() };
         script.board(&Board { page: bare, ..Board::default() });
     }
     script.say(format!("call write 1 {}", dice.pick(&[0, 41, 16])));
@@ -317,21 +319,17 @@ fn files(script: &mut Script, dice: &mut Dice) {
     let mut page = page(dice, shape);
     page = some_with_codes(dice, 3, page);
     place_cells(dice, &mut page);
-    let sizes = [("numbers", 32), ("chars", 16384), ("attrs", 16384), ("words", 1152), ("flags", 128)];
-    for (buffer, size) in sizes.into_iter().chain([("unshifted", 9), ("shifted", 9)]) {
-        script.say(format!("fill {} {} {}", buffer, size, dice.seed()));
-    }
-    let font_size = dice.pick(&[FONT_FILE, FONT_FILE, FONT_FILE, FONT_FILE - 1, FONT_FILE + 1]);
-    script.say(format!("fill file {} {}", font_size, dice.seed()));
-    script.say("set file 0 0100000992");
-    script.say("call font_read");
-    script.say(format!("fill file {} {}", PAGE_FILE, dice.seed()));
+    script.say(format!("fill numbers 32 {}", dice.seed()));
+    script.say(format!("fill chars 16384 {}", dice.seed()));
+    script.say(format!("fill attrs 16384 {}", dice.seed()));
+    font_files(script, dice);
+    script.say(format!("fill file {} {}", page_head(&page).len() + 2 * MEMORY, dice.seed()));
     for _ in 0..6 {
         script.say(format!("set file 0 {}", hex(&page_head(&page))));
-        script.say(format!("set file {} {}", dice.between(0, 28), hex(&[dice.byte()])));
+        script.say(format!("set file {} {}", dice.between(0, 29), hex(&[dice.byte()])));
         script.say("call page_read");
     }
-    for version in [dice.between(0, 3) as u8, 3 - page.version, page.version] {
+    for version in [dice.between(0, 4) as u8, dice.between(1, 3) as u8, page.version] {
         script.say(format!("set file 0 {}", hex(&page_head(&page))));
         script.say(format!("set file 0 {}", hex(&[version])));
         script.say("call page_read");
@@ -340,6 +338,31 @@ fn files(script: &mut Script, dice: &mut Dice) {
     script.frame(&page);
     script.say(format!("fill out {} {}", PAGE_FILE + dice.between(0, 9) as usize, dice.seed()));
     script.say("call page_write");
+}
+
+/// A font file without and with groups, of which one may be refused, a byte too short, right or too long. The groups
+/// that it gives, or none, are lent.
+fn font_files(script: &mut Script, dice: &mut Dice) {
+    for (buffer, size) in [("words", 1152), ("flags", 128), ("unshifted", 9), ("shifted", 9)] {
+        script.say(format!("fill {} {} {}", buffer, size, dice.seed()));
+    }
+    script.groups(&groups(dice));
+    for with_groups in [false, true, dice.one_in(2)] {
+        let head = font_head(with_groups);
+        let right = if with_groups { GROUPS_FONT_FILE } else { FONT_FILE };
+        let size = dice.pick(&[right, right, right, right - 1, right + 1]);
+        script.say(format!("fill file {} {}", size, dice.seed()));
+        script.say(format!("set file 0 {}", hex(&head)));
+        if with_groups {
+            let mut groups = groups(dice);
+            groups[dice.between(0, 15) as usize] = dice.pick(&[0, 1, 2, 3, 4, 4, 5, 255]);
+            script.say(format!("set file {} {}", FONT_FILE, hex(&groups[..16.min(size - FONT_FILE)])));
+        }
+        script.say("call font_read");
+    }
+    if dice.one_in(3) {
+        script.say("none groups");
+    }
 }
 
 /// Right and wrong sizes of everything.
@@ -352,9 +375,10 @@ fn sizes(script: &mut Script, dice: &mut Dice) {
     set_up(script, dice, &page, &chars, board.resets);
     script.frame(&page);
     script.board(&board);
-    let right = [("chars", 16384), ("attrs", 16384), ("words", 1152), ("flags", 128), ("unshifted", 9), ("shifted", 9)];
+    let memories = [("chars", 16384), ("attrs", 16384)];
+    let font = [("words", 1152), ("flags", 128), ("unshifted", 9), ("shifted", 9), ("groups", 16)];
     for _ in 0..8 {
-        let (buffer, size) = dice.pick(&right);
+        let (buffer, size) = dice.pick(&[&memories[..], &font].concat());
         let wrong = dice.pick(&[0, 1, 7, size - 1, size + 1, 2 * size, 4 * size + 1]);
         script.say(format!("fill {} {} {}", buffer, wrong, dice.seed()));
         script.say("call step 2");
@@ -366,6 +390,8 @@ fn sizes(script: &mut Script, dice: &mut Dice) {
         script.say("call to_sheet");
         lines(script, dice, &page);
         pictures(script, dice, &page);
-        script.say(format!("fill {} {} {}", buffer, size, dice.seed()));
+        // random groups are refused 12
+        let seed = if buffer == "groups" { dice.pick(&[0, 0, 0, 1]) } else { dice.seed() };
+        script.say(format!("fill {} {} {}", buffer, size, seed));
     }
 }

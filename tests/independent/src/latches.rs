@@ -156,14 +156,17 @@ fn wraps(script: &mut Script, dice: &mut Dice, acd: bool) {
     }
 }
 
-/// One page in version 1, and in version 2 in character mode and in field mode: only the last differs.
+/// One page in version 1, and in versions 2 and 3 in character mode and in field mode: on one chip these two alone
+/// differ.
 fn modes(script: &mut Script, dice: &mut Dice, acd: bool) {
     let fields = field_page(dice, acd);
     script.chars(dice);
     script.attrs(dice);
     script.font(dice);
     let plain = fields.switches & 0x0F;
-    for (version, upper) in [(1, 0), (2, 0), (2, 0x20), (2, fields.switches & 0x30)] {
+    let field_mode = fields.switches & 0x30;
+    let modes = [(1, 0), (2, 0), (2, 0x20), (2, field_mode), (3, 0), (3, 0x20), (3, field_mode)];
+    for (version, upper) in modes {
         let page = Page { version, switches: plain | upper, ..fields };
         script.numbers(&page);
         script.say("call board_of");
@@ -172,7 +175,8 @@ fn modes(script: &mut Script, dice: &mut Dice, acd: bool) {
 }
 
 /// Versions and switches 4 and 5 of boards that may be handed over.
-const MODES: [(u8, u8); 8] = [(1, 0), (2, 0), (2, 0x20), (2, 0x10), (2, 0x30), (0, 0), (3, 0), (255, 0)];
+const MODES: [(u8, u8); 11] =
+    [(1, 0), (2, 0), (2, 0x20), (2, 0x10), (2, 0x30), (3, 0), (3, 0x10), (3, 0x30), (0, 0), (4, 0), (255, 0)];
 
 /// Where a line, a row, the visible lines and the frame begin and end.
 fn edges(page: &Page) -> Vec<(u32, u32)> {
@@ -299,7 +303,7 @@ fn versions(script: &mut Script, dice: &mut Dice) {
     let chars = script.chars(dice);
     set_up(script, dice, &page, &chars, 2);
     script.say(format!("fill out {} {}", page.picture_dots(), dice.seed()));
-    for version in [0, 1, 2, 3, 255] {
+    for version in [0, 1, 2, 3, 4, 255] {
         for upper in 0..16 {
             let page = Page { version, switches: page.switches & 0x0F | upper << 4, ..page };
             script.numbers(&page);

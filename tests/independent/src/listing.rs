@@ -1,13 +1,19 @@
 //! 01's listing program, and the same page as a picture file.
 
-use crate::calls;
-use crate::files::{NUMBERS, PAGE_FILE};
+use crate::calls::{self, FontRoom};
+use crate::files::{page_file_size, NUMBERS};
 use crate::judge::Refusal;
 use crate::script::Buffers;
 
-/// "The listing program reads a page file (32,797 bytes), then a font file (the rest)"
+/// "The listing program reads a page file [..], then a font file (the rest)"; R-7: it "takes a page's size from its
+/// version byte". Of a version that is not known all is page.
+pub fn page_and_font(input: &[u8]) -> (&[u8], &[u8]) {
+    let size = input.first().and_then(|&version| page_file_size(version));
+    input.split_at(size.map_or(input.len(), |size| size.min(input.len())))
+}
+
 pub fn listing(input: &[u8]) -> String {
-    let (page, font) = input.split_at(PAGE_FILE.min(input.len()));
+    let (page, font) = page_and_font(input);
     let lines = match drawn(page, font, 0) {
         Ok(lines) => lines,
         Err(refusal) => return format!("refused {}\n", refusal),
@@ -42,10 +48,20 @@ fn drawn(page: &[u8], font: &[u8], field: u8) -> Result<Vec<Vec<u8>>, u32> {
         flags: vec![0; 128],
         unshifted: vec![0; 9],
         shifted: vec![0; 9],
+        groups: vec![0; 16],
         ..Buffers::default()
     };
     accepted(calls::page_read(page, &mut b.numbers, &mut b.chars, &mut b.attrs))?;
-    accepted(calls::font_read(font, &mut b.words, &mut b.flags, &mut b.unshifted, &mut b.shifted))?;
+    let room = FontRoom {
+        words: &mut b.words,
+        flags: &mut b.flags,
+        unshifted: &mut b.unshifted,
+        shifted: &mut b.shifted,
+        groups: &mut b.groups,
+    };
+    let (refusal, groups) = calls::font_read(font, room);
+    accepted(refusal)?;
+    b.groups.truncate(groups as usize);
     let (_, lines, dots) = calls::page_size(&b.numbers);
     let draw = |line: u32| {
         let mut out = vec![0; dots as usize];

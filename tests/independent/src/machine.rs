@@ -274,14 +274,16 @@ impl Cell {
         let address = usize::from(board.place.address);
         let sets = has_aflg(lent.attrs[address]);
         // "bit 0 reverse, 1 blank, 2 blink, 3 underline, 4 highlight, 5 strike, 7 AFLG. With AFLG 0 the cell
-        // has none."
+        // has none." R-7: on the B chip "bit 5 of the attribute byte means graphics and there is no strike"
         let own = if sets { lent.attrs[address] } else { 0 };
         let attr = if page.field_mode() { board.place.latch } else { own };
         let has = |bit: u32| attr >> bit & 1 == 1;
         // R-1: "With ACD low the cell that sets them has zero dots, with its own new attributes and lines"
         let suppressed = page.field_mode() && !page.acd() && sets;
         let underline = has(3) && scan_line == page.underline_line();
-        let strike = has(5) && scan_line == u32::from(page.strike);
+        let graphics = has(5) && page.is_chip_b();
+        let strike = has(5) && !page.is_chip_b() && scan_line == u32::from(page.strike);
+        let shape = if graphics { graphics_word } else { font_word };
         // "let E be BKGND xor reverse, and T white if highlighted, else gray"
         let e = page.bkgnd() ^ (has(0) ^ signals.cursor);
         let t = if has(4) { 2 } else { 1 };
@@ -290,7 +292,7 @@ impl Cell {
         // "Non-display is ABLANK, or ABLINK with BLINK"; it "makes the symbol as the surround"
         let non_display = has(1) || has(2) && signals.blink;
         Cell {
-            word: if suppressed { 0 } else { font_word(lent, lent.chars[address], scan_line) },
+            word: if suppressed { 0 } else { shape(lent, lent.chars[address], scan_line) },
             all_lit: underline || strike,
             symbol: if non_display { surround } else { symbol },
             surround,
@@ -324,6 +326,21 @@ fn font_word(lent: &Lent, code: u8, scan_line: u32) -> u16 {
         }
     }
     0
+}
+
+/// 002: "For any particular line address value, two of the CA bits are output: CA0, CA2, CA4 or CA6 is output on D0
+/// thru D4 and CA1, CA3, CA5 or CA7 is output on D5 thru D9."
+fn graphics_word(lent: &Lent, code: u8, scan_line: u32) -> u16 {
+    // R-7: "0 for none, 1 to 4 for the pairs CA0/CA1 up to CA6/CA7"; "A version 1 font has no groups and draws graphics
+    // as zeros."
+    let group = lent.font.groups.get(scan_line as usize).copied().unwrap_or(0);
+    if group == 0 {
+        return 0;
+    }
+    let pair = code >> (2 * (group - 1));
+    let on_d0_to_d4 = if pair & 1 != 0 { 0x01F } else { 0 };
+    let on_d5_to_d9 = if pair & 2 != 0 { 0x3E0 } else { 0 };
+    on_d0_to_d4 | on_d5_to_d9
 }
 
 /// "The field counter has eight bits and goes from 255 to 0 at the end of a frame, otherwise up by one there"

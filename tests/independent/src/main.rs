@@ -1,15 +1,18 @@
-//! A second reading of 01, of 02's R-1, R-2, R-4, R-5 and R-6 and of the papers, for comparing with the library. It shares nothing
-//! with it. Start with `board`, then `machine` (the first way of drawing) and `sheet` (the second).
+//! A second reading of 01, of 02's R-1, R-2, R-4, R-5, R-6 and R-7 and of the papers, for comparing with the library.
+//! It shares nothing with it. Start with `board`, then `machine` (the first way of drawing) and `sheet` (the second).
 
 mod answer;
+mod bit5;
 mod board;
 mod calls;
 mod cases;
 mod cells;
+mod chips;
 mod corners;
 mod dice;
 mod faults;
 mod files;
+mod graphics;
 mod headlines;
 mod input;
 mod judge;
@@ -35,7 +38,7 @@ use std::io::{self, BufReader, BufWriter, Read, Write};
 use std::process::exit;
 
 const USAGE: &str = "usage: independent COMMAND
-  self SEED PAGES            compares its own two ways, 01's cases, and those of R-1, R-2, R-4, R-5 and R-6
+  self SEED PAGES            compares its own two ways, 01's cases, and those of R-1, R-2, R-4, R-5, R-6 and R-7
   make SEED COUNT [FIRST]    prints COUNT scripts, from number FIRST on; without FIRST the whole fixed list at least
   answer < SCRIPTS           prints its own answers
   cells COUNT OURS THEIRS    compares two streams of answers, prints the tables of what was met
@@ -99,9 +102,10 @@ fn compare_own(seed: u64, pages: u64) -> Result<(), String> {
         }
     }
     let compared = twoways::compare(seed, pages)?;
-    println!("{} cases of 01, R-1, R-2, R-4, R-5 and R-6 come out", cases::all().len());
-    let (field, wide) = (compared.in_field_mode, compared.wide_rows);
-    let modes = format!("{} pages, {} of them in field mode, with {} rows of double width", pages, field, wide);
+    println!("{} cases of 01, R-1, R-2, R-4, R-5, R-6 and R-7 come out", cases::all().len());
+    let (field, chip_b, wide) = (compared.in_field_mode, compared.of_chip_b, compared.wide_rows);
+    let modes =
+        format!("{} pages, {} in field mode, {} of chip B, {} rows of double width", pages, field, chip_b, wide);
     println!("{}: {} clocks, {} lines, {} states agree", modes, compared.clocks, compared.lines, compared.states);
     println!("{} sheets moved there and back", compared.moved);
     println!("{} rows that a phrase holds, {} lists in which two differ", compared.held, compared.differing);

@@ -4,8 +4,8 @@
 use std::io::Write;
 
 use crate::board::{Board, Page};
-use crate::dice::Dice;
-use crate::files::numbers_of;
+use crate::dice::{groups, Dice};
+use crate::files::{numbers_of, page_bytes};
 use crate::records::Phrase;
 use crate::script::{board_text, filled, hex, phrases_text};
 use crate::{corners, faults, kinds, moves, phrases};
@@ -68,7 +68,7 @@ impl Script {
 
     pub fn numbers(&mut self, page: &Page) {
         self.say("fill numbers 32 0");
-        self.say(format!("set numbers 0 {}", hex(&numbers_of(page)[..25])));
+        self.say(format!("set numbers 0 {}", hex(&numbers_of(page)[..1 + page_bytes(page.version)])));
     }
 
     pub fn board(&mut self, board: &Board) {
@@ -96,7 +96,8 @@ impl Script {
             .for_each(|&(cell, attribute)| self.say(format!("set attrs {} {}", cell, hex(&[attribute | 0x80]))));
     }
 
-    /// Words with bits that do not count, flags of 0 and not 0, lists with upper halves that do not count.
+    /// Words with bits that do not count, flags of 0 and not 0, lists with upper halves that do not count; groups, or
+    /// none.
     pub fn font(&mut self, dice: &mut Dice) {
         self.say(format!("fill words 1152 {}", dice.seed()));
         self.say(format!("fill flags 128 {}", dice.seed()));
@@ -108,6 +109,19 @@ impl Script {
                 let lines: Vec<u8> = (0..9).map(|line| (from + line) as u8 + dice.pick(&[0, 0x10, 0xF0])).collect();
                 self.say(format!("set {} 0 {}", list, hex(&lines)));
             }
+        }
+        match dice.between(0, 5) {
+            0 => self.say("none groups"),
+            1 => self.say("fill groups 0 1"),
+            _ => self.groups(&groups(dice)),
+        }
+    }
+
+    /// The font's groups.
+    pub fn groups(&mut self, groups: &[u8]) {
+        self.say(format!("fill groups {} 0", groups.len()));
+        if !groups.is_empty() {
+            self.say(format!("set groups 0 {}", hex(groups)));
         }
     }
 

@@ -4,11 +4,11 @@
 
 use std::collections::BTreeMap;
 
-const CODED: [&str; 2] = ["character+codes", "field+codes"];
-const UNCODED: [&str; 2] = ["character", "field"];
+pub const CODED: [&str; 4] = ["character+codes", "field+codes", "character+codes+graphics", "field+codes+graphics"];
+pub const UNCODED: [&str; 4] = ["character", "field", "character+graphics", "field+graphics"];
 
 /// Under which heads the rows of a frame count: each cell width, and what of its shape matters.
-const HEADS: [&str; 16] = [
+const HEADS: [&str; 17] = [
     "dots 6",
     "dots 7",
     "dots 8",
@@ -25,6 +25,7 @@ const HEADS: [&str; 16] = [
     "wrapped",
     "cursor",
     "latched",
+    "bit5",
 ];
 
 /// Places of `from`, and code bytes.
@@ -53,7 +54,7 @@ pub struct Met {
     /// By mode and place, for each kind of code byte.
     begun: BTreeMap<(String, String), [u64; 5]>,
     /// By way and head, for each mode without codes.
-    moved: BTreeMap<(String, String), [u64; 2]>,
+    moved: BTreeMap<(String, String), [u64; 4]>,
     /// By kind of row and mode, and by call and length of the list, for each outcome.
     asked: BTreeMap<(String, String), [u64; 3]>,
 }
@@ -85,9 +86,9 @@ impl Met {
         }
     }
 
-    /// COUNTS are words, each with a number for each code behind it.
+    /// The first of COUNTS are words, each with a number for each code behind it.
     fn frame(&mut self, mode: &str, shape: &[String], counts: &[&str]) {
-        for part in counts.chunks(5) {
+        for part in counts.chunks(5).take_while(|part| part[0] != "shapes") {
             let rows = part[0] == "rows";
             let heads = if rows { shape.to_vec() } else { vec![part[0].to_string()] };
             for head in heads {
@@ -125,7 +126,7 @@ impl Met {
 
     /// Prints four tables and gives how many of their allowed cells are empty.
     pub fn print(&self) -> u64 {
-        println!("\n{:<16}{:<16}{:>12}{:>12}{:>12}{:>12}", "frames: rows", "mode", "00", "01", "10", "11");
+        println!("\n{:<16}{:<25}{:>12}{:>12}{:>12}{:>12}", "frames: rows", "mode", "00", "01", "10", "11");
         let mut empty = 0;
         for mode in CODED {
             for head in HEADS.iter().filter(|&&head| latches(mode, head)) {
@@ -133,7 +134,7 @@ impl Met {
                 empty += print_row(head, mode, &counts, |_| true);
             }
         }
-        print!("\n{:<16}{:<16}", "steps from", "mode");
+        print!("\n{:<16}{:<25}", "steps from", "mode");
         BYTES.iter().for_each(|byte| print!("{:>12}", byte));
         println!();
         for mode in UNCODED.into_iter().chain(CODED) {
@@ -146,20 +147,22 @@ impl Met {
     }
 
     fn print_moved(&self) -> u64 {
-        println!("\n{:<16}{:<16}{:>12}{:>12}", "moves", "table", UNCODED[0], UNCODED[1]);
+        print!("\n{:<16}{:<25}", "moves", "table");
+        UNCODED.iter().for_each(|mode| print!("{:>19}", mode));
+        println!();
         let mut empty = 0;
         for way in WAYS {
             let heads: &[&str] = if way == WAYS[2] { &[] } else { &TABLES };
             for head in ["all"].iter().chain(heads) {
                 let counts = self.moved.get(&(way.to_string(), head.to_string())).copied().unwrap_or_default();
-                empty += print_row(way, head, &counts, |_| true);
+                empty += print_columns(19, way, head, &counts, |_| true);
             }
         }
         empty
     }
 
     fn print_asked(&self) -> u64 {
-        print!("\n{:<16}{:<16}", "phrases for", "");
+        print!("\n{:<16}{:<25}", "phrases for", "");
         FOUND.iter().for_each(|outcome| print!("{:>12}", outcome));
         println!();
         let rows = UNCODED.into_iter().chain(CODED).flat_map(|mode| ROWS.map(|row| (row, mode)));
@@ -212,7 +215,7 @@ fn size(name: &str, number: &str) -> String {
 
 /// Nothing is latched in character mode.
 fn latches(mode: &str, head: &str) -> bool {
-    head != "latched" || mode == "field+codes"
+    head != "latched" || mode.starts_with("field")
 }
 
 /// Without IR0[7] every row is plain; with it a byte's two low bits tell.
@@ -245,9 +248,13 @@ fn may_come(head: &str, of: &str, outcome: usize) -> bool {
     }
 }
 
-fn print_row(head: &str, mode: &str, counts: &[u64], allowed: impl Fn(usize) -> bool) -> u64 {
+pub fn print_row(head: &str, mode: &str, counts: &[u64], allowed: impl Fn(usize) -> bool) -> u64 {
+    print_columns(12, head, mode, counts, allowed)
+}
+
+fn print_columns(width: usize, head: &str, mode: &str, counts: &[u64], allowed: impl Fn(usize) -> bool) -> u64 {
     let mut empty = 0;
-    print!("{:<16}{:<16}", head, mode);
+    print!("{:<16}{:<25}", head, mode);
     for (at, &count) in counts.iter().enumerate() {
         let text = match (allowed(at), count) {
             (true, 0) => "EMPTY".to_string(),
@@ -255,7 +262,7 @@ fn print_row(head: &str, mode: &str, counts: &[u64], allowed: impl Fn(usize) -> 
             (_, count) => count.to_string(),
         };
         empty += u64::from(text == "EMPTY");
-        print!("{:>12}", text);
+        print!("{:>width$}", text, width = width);
     }
     println!();
     empty

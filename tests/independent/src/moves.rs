@@ -4,6 +4,7 @@
 
 use crate::board::Page;
 use crate::dice::{in_buffer, in_field_mode, page, place_cells, Dice, Shape, MODES};
+use crate::files::{page_bytes, NUMBERS};
 use crate::make::{Maker, Script};
 use crate::script::hex;
 use crate::sheet::row_cells;
@@ -125,8 +126,9 @@ pub fn all() -> Vec<Maker> {
 /// The page to its other kind and back by the order, then both ways by calls: a call that comes again finds the page of its
 /// kind. The numbers' unused bytes are not 0.
 fn both_ways(script: &mut Script, dice: &mut Dice, page: &Page) {
-    let unused: Vec<u8> = (0..7).map(|_| dice.byte() | 1).collect();
-    script.say(format!("set numbers 25 {}", hex(&unused)));
+    let from = 1 + page_bytes(page.version);
+    let unused: Vec<u8> = (from..NUMBERS).map(|_| dice.byte() | 1).collect();
+    script.say(format!("set numbers {} {}", from, hex(&unused)));
     script.moves(page);
     for call in ["to_sheet", "to_table", "to_table", "to_sheet", "to_sheet"] {
         script.say(format!("call {}", call));
@@ -146,7 +148,7 @@ fn drawn_both_ways(script: &mut Script, dice: &mut Dice, page: &Page) {
 
 /// A sheet and what it leaves, and the same rows as a table page, whose table stands in cells of its own rows.
 fn leaving(script: &mut Script, dice: &mut Dice, (_, (rows, hact), (first, last, start1), place): Room) {
-    for mode in [dice.between(0, 1) as usize, dice.between(2, 3) as usize] {
+    for mode in one_of_each(dice) {
         let shape = Shape { hact, rows, lines: 1, dots: dice.between(6, 8) };
         let mut page = in_buffer(MODES[mode](page(dice, shape)), first, last, start1);
         let mut chars = script.chars(dice);
@@ -160,6 +162,11 @@ fn leaving(script: &mut Script, dice: &mut Dice, (_, (rows, hact), (first, last,
         script.numbers(&page);
         both_ways(script, dice, &page);
     }
+}
+
+/// A mode of each kind that `moves` tells apart.
+fn one_of_each(dice: &mut Dice) -> [usize; 4] {
+    [0, 2, 4, 6].map(|first| first + dice.between(0, 1) as usize)
 }
 
 /// A page of this mode, large enough to wrap.
@@ -183,7 +190,7 @@ fn so_many_rows(script: &mut Script, dice: &mut Dice, rows: u32) {
     let size = 2 * rows as u16;
     for hact in [1, 2, if rows == 1 { 256 } else { 5 }] {
         for start1 in [0, 1, size - 1, size, size + 1, 16383 - size, 16384 - size, 16383] {
-            for mode in [dice.between(0, 1) as usize, dice.between(2, 3) as usize] {
+            for mode in one_of_each(dice) {
                 let shape = Shape { hact, rows, lines: 1, dots: dice.between(6, 12) };
                 let mut page = in_buffer(MODES[mode](page(dice, shape)), 0, 16383, start1);
                 let chars = script.chars(dice);
@@ -228,7 +235,7 @@ fn back(script: &mut Script, page: &Page) {
 /// from some row on, everywhere, and as if the buffer had no end. The table stands at an even and at an odd place, and over the
 /// end of memory.
 fn apart(script: &mut Script, dice: &mut Dice, rows: u32) {
-    for (mode, start2) in [(0, 9000), (1, 9001), (2, 16383), (3, 16382)] {
+    for (mode, start2) in [(0, 9000), (1, 9001), (2, 16383), (3, 16382), (4, 16381), (7, 9003)] {
         let mut page = in_buffer(some_page(dice, mode, rows), 7, 1023, 1010);
         page.irs[2] |= 0x80;
         page.start2 = start2;
@@ -259,7 +266,7 @@ fn apart(script: &mut Script, dice: &mut Dice, rows: u32) {
 
 /// "whose row 0 entry is anything": where there is no other row, every entry is right.
 fn any_entry(script: &mut Script, dice: &mut Dice) {
-    for (mode, start2) in [(0, 16383), (1, 20), (2, 16382), (3, 77)] {
+    for (mode, start2) in [(0, 16383), (1, 20), (2, 16382), (3, 77), (4, 16383), (6, 78)] {
         let mut page = some_page(dice, mode, 1);
         page.irs[2] |= 0x80;
         page.start2 = start2;
@@ -279,7 +286,8 @@ fn any_entry(script: &mut Script, dice: &mut Dice) {
 fn latch(script: &mut Script, dice: &mut Dice, acd: bool) {
     for way in 0..4 {
         for (first, last, start1) in [(0, 1023, 1010), (4095, 1023, 1020), (0, 16383, 16370), (0, 16383, 300)] {
-            let page = in_buffer(in_field_mode(some_page(dice, 2, 5), acd), first, last, start1);
+            let mode = dice.pick(&[2, 6]);
+            let page = in_buffer(in_field_mode(some_page(dice, mode, 5), acd), first, last, start1);
             let chars = script.chars(dice);
             let cells: Vec<Vec<u16>> = (0..page.rows()).map(|row| row_cells(&page, &chars, row)).collect();
             let any = dice.between(0, page.hact() - 1) as usize;

@@ -3,7 +3,7 @@
 //! differ, in every order.
 
 use crate::board::Page;
-use crate::dice::{in_buffer, page, with_codes, Dice, Shape, MODES};
+use crate::dice::{any_mode, in_buffer, page, with_codes, Dice, Shape, MODES};
 use crate::make::{Maker, Script};
 use crate::records::Phrase;
 use crate::script::phrases_text;
@@ -250,7 +250,7 @@ fn width(script: &mut Script, dice: &mut Dice, hact: u32) {
         } as u16;
         let places = [(0, 16383, 0), (0, 16383, 16384 - cells), (0, 16383, 16385 - cells), (700, 1023, 1025 - cells)];
         for place in places.into_iter().filter(|&(_, _, start)| start < 16384) {
-            let mode = dice.between(0, 3) as usize;
+            let mode = any_mode(dice);
             let (_, row, fetched) = lay_out(script, dice, mode, kind, hact, place);
             assert_eq!(fetched.len(), usize::from(cells));
             ask_about(script, dice, row, &fetched);
@@ -486,7 +486,7 @@ const MASKS: [&str; 4] = [
 fn any_numbers(script: &mut Script, dice: &mut Dice) {
     for mask in MASKS {
         for count in [1, 2, 3, 10, 40, 1000] {
-            let mode = dice.between(0, 3) as usize;
+            let mode = any_mode(dice);
             let (kind, hact, place) = dice.pick(&ROWS);
             let (page, _, _) = lay_out(script, dice, mode, kind, hact, place);
             for _ in 0..5 {

@@ -146,7 +146,7 @@ pub fn board_text(board: &Board) -> String {
     }
     bytes.push(page.switches);
     bytes.extend(page.dots.to_be_bytes());
-    bytes.extend([page.strike, place.field]);
+    bytes.extend([page.strike, page.chip, place.field]);
     bytes.extend(place.line.to_be_bytes());
     bytes.extend(place.clock.to_be_bytes());
     bytes.extend(place.address.to_be_bytes());
@@ -158,8 +158,8 @@ pub fn board_text(board: &Board) -> String {
 
 pub fn board_of_text(text: &str) -> Result<Board, String> {
     let b: Vec<u8> = elements(text)?;
-    if b.len() != 46 {
-        return Err(format!("a board has 92 hex digits: {}", text));
+    if b.len() != 47 {
+        return Err(format!("a board has 94 hex digits: {}", text));
     }
     let two = |at: usize| u16::from_be_bytes([b[at], b[at + 1]]);
     let four = |at: usize| u32::from_be_bytes([b[at], b[at + 1], b[at + 2], b[at + 3]]);
@@ -174,18 +174,19 @@ pub fn board_of_text(text: &str) -> Result<Board, String> {
         switches: b[22],
         dots: four(23),
         strike: b[27],
+        chip: b[28],
     };
     let place = Place {
-        field: b[28],
-        line: four(29),
-        clock: four(33),
-        address: two(37),
-        latch: b[39],
-        row_start: two(40),
-        row_latch: b[42],
-        row_code: b[43],
+        field: b[29],
+        line: four(30),
+        clock: four(34),
+        address: two(38),
+        latch: b[40],
+        row_start: two(41),
+        row_latch: b[43],
+        row_code: b[44],
     };
-    Ok(Board { page, place, pointer: b[44], resets: b[45] })
+    Ok(Board { page, place, pointer: b[45], resets: b[46] })
 }
 
 /// What a script's calls are lent: "none" is an empty buffer here.
@@ -198,6 +199,7 @@ pub struct Buffers {
     pub flags: Vec<u8>,
     pub unshifted: Vec<u8>,
     pub shifted: Vec<u8>,
+    pub groups: Vec<u8>,
     pub file: Vec<u8>,
     pub out: Vec<u8>,
     pub cells: Vec<u16>,
@@ -229,6 +231,7 @@ impl Buffers {
             "flags" => &mut self.flags,
             "unshifted" => &mut self.unshifted,
             "shifted" => &mut self.shifted,
+            "groups" => &mut self.groups,
             "file" => &mut self.file,
             "out" => &mut self.out,
             _ => return Err(format!("no buffer of bytes: {}", name)),
@@ -236,7 +239,8 @@ impl Buffers {
     }
 
     pub fn lent(&self) -> Lent<'_> {
-        let font = Font { words: &self.words, flags: &self.flags, unshifted: &self.unshifted, shifted: &self.shifted };
+        let (words, flags, groups) = (&self.words, &self.flags, &self.groups);
+        let font = Font { words, flags, unshifted: &self.unshifted, shifted: &self.shifted, groups };
         Lent { chars: &self.chars, attrs: &self.attrs, font }
     }
 

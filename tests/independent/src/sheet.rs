@@ -307,13 +307,21 @@ fn cell(page: &Page, lent: &Lent, address: u16, attribute: u8, scan_line: u32, f
     let key = [u8::from(page.bkgnd()), attribute.reverse ^ u8::from(cursor), attribute.highlight, u8::from(hidden)];
     let (_, [symbol, surround]) = TABLE_1.iter().find(|(inputs, _)| *inputs == key).expect("Table 1 has every row");
     let underline = attribute.underline == 1 && scan_line == page.underline_line();
-    let strike = attribute.strike == 1 && scan_line == u32::from(page.strike);
+    // "bit 5 of the attribute byte means graphics and there is no strike"
+    let (strike, graphics) = match (attribute.bit_5, page.is_chip_b()) {
+        (0, _) => (false, false),
+        (_, true) => (false, true),
+        (_, false) => (scan_line == u32::from(page.strike), false),
+    };
+    let code = lent.chars[usize::from(address)];
     let pattern = if underline || strike {
         "1".repeat(page.dots as usize)
     } else if is_control(page, lent.attrs[usize::from(address)]) {
         "0".repeat(page.dots as usize)
+    } else if graphics {
+        pattern(&ten_graphics_dots(lent.font.groups, code, scan_line), page.dots as usize)
     } else {
-        pattern(&ten_dots(lent, lent.chars[usize::from(address)], scan_line), page.dots as usize)
+        pattern(&ten_dots(lent, code, scan_line), page.dots as usize)
     };
     // "each dot comes twice"
     let shown = pattern.chars().flat_map(|dot| [dot, dot].into_iter().take(size.columns() as usize));
@@ -334,7 +342,8 @@ fn blink_high(page: &Page, field: u8) -> bool {
     u32::from(field) * 4 / page.blink_fields() % 4 == 3
 }
 
-/// "Attribute byte: bit 0 reverse, 1 blank, 2 blink, 3 underline, 4 highlight, 5 strike, 7 AFLG."
+/// "Attribute byte: bit 0 reverse, 1 blank, 2 blink, 3 underline, 4 highlight, 5 strike, 7 AFLG." What bit 5 means goes
+/// by the chip.
 #[derive(Default)]
 struct Attribute {
     reverse: u8,
@@ -342,7 +351,7 @@ struct Attribute {
     blink: u8,
     underline: u8,
     highlight: u8,
-    strike: u8,
+    bit_5: u8,
 }
 
 impl Attribute {
@@ -356,7 +365,7 @@ impl Attribute {
             blink: byte / 4 % 2,
             underline: byte / 8 % 2,
             highlight: byte / 16 % 2,
-            strike: byte / 32 % 2,
+            bit_5: byte / 32 % 2,
         }
     }
 }
@@ -382,6 +391,18 @@ fn ten_dots(lent: &Lent, code: u8, scan_line: u32) -> String {
             format!("{:010b}", word).chars().rev().collect()
         }
         None => none,
+    }
+}
+
+/// 002: "When CA0 is output on D0 thru D4, CA1 is output on D5 thru D9 and likewise for CA2-CA3, CA4-CA5 and CA6-CA7."
+const GROUPS: [Option<(usize, usize)>; 5] = [None, Some((0, 1)), Some((2, 3)), Some((4, 5)), Some((6, 7))];
+
+/// D0 to D9 in graphics mode; without groups all are zeros.
+fn ten_graphics_dots(groups: &[u8], code: u8, scan_line: u32) -> String {
+    let ca: Vec<char> = format!("{:08b}", code).chars().rev().collect();
+    match groups.get(scan_line as usize).and_then(|&group| GROUPS[usize::from(group)]) {
+        Some((left, right)) => [[ca[left]; 5], [ca[right]; 5]].concat().into_iter().collect(),
+        None => "0".repeat(10),
     }
 }
 

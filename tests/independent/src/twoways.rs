@@ -2,7 +2,7 @@
 //! handed over anywhere, which the next frame brings back, sheets that are moved there and back, and the phrases of rows.
 
 use crate::board::{Board, Font, Lent, Page, Place};
-use crate::dice::{any_place, page, phrases_about, place_cells, some_with_codes, Dice, Shape};
+use crate::dice::{any_place, groups, page, phrases_about, place_cells, some_with_codes, Dice, Shape};
 use crate::files::{numbers_of, page_of_numbers};
 use crate::judge::Refusal;
 use crate::records::Phrase;
@@ -15,6 +15,7 @@ pub struct Compared {
     pub lines: u64,
     pub states: u64,
     pub in_field_mode: u64,
+    pub of_chip_b: u64,
     /// Of pages whose rows have codes, the rows of double width.
     pub wide_rows: u64,
     /// Sheets.
@@ -45,7 +46,9 @@ fn one_page(dice: &mut Dice, compared: &mut Compared) -> Result<(), String> {
     let words: Vec<u16> = filled(1152, dice.seed());
     let flags: Vec<u8> = (0..128).map(|_| dice.pick(&[0, 1, 128])).collect();
     let lists: Vec<u8> = filled(18, dice.seed());
-    let font = Font { words: &words, flags: &flags, unshifted: &lists[..9], shifted: &lists[9..] };
+    let groups = groups(dice);
+    let groups = if dice.one_in(4) { &[] } else { &groups[..] };
+    let font = Font { words: &words, flags: &flags, unshifted: &lists[..9], shifted: &lists[9..], groups };
     let lent = Lent { chars: &chars, attrs: &attrs, font };
     page.cursor = sheet::row_start(&page, &chars, dice.between(0, page.rows() - 1));
     let board = Board { resets: dice.pick(&[0, 1, 2, 2, 2, 200]), ..Board::of_page(page) };
@@ -53,6 +56,7 @@ fn one_page(dice: &mut Dice, compared: &mut Compared) -> Result<(), String> {
         return Err("numbers there and back".to_string());
     }
     compared.in_field_mode += u64::from(page.field_mode());
+    compared.of_chip_b += u64::from(page.is_chip_b());
     compared.wide_rows += wide_rows(&page, &chars);
     whole_frame(dice, &board, &lent, compared)?;
     far_states(dice, &board, &lent, compared)?;

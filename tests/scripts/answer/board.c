@@ -9,7 +9,7 @@
 #include "orders.h"
 #include "reading.h"
 
-enum { BOARD_BYTES = 46 };
+enum { BOARD_BYTES = 47 };
 
 feldrime_board *board;
 static feldrime_board given;
@@ -50,6 +50,7 @@ static feldrime_board unpacked(const uint8_t *from)
     b.page.switches = (uint8_t)next_bytes(&from, 1);
     b.page.video.dots = next_bytes(&from, 4);
     b.page.video.strike = (uint8_t)next_bytes(&from, 1);
+    b.page.video.chip = (uint8_t)next_bytes(&from, 1);
     b.place.field = (uint8_t)next_bytes(&from, 1);
     b.place.line = next_bytes(&from, 4);
     b.place.clock = next_bytes(&from, 4);
@@ -73,8 +74,8 @@ const char *board_text(void)
         at += sprintf(at, "%02x", (unsigned)board->page.irs[i]);
     at += sprintf(at, "%04x%04x%04x%02x", (unsigned)board->page.starts.start1, (unsigned)board->page.starts.cursor,
                   (unsigned)board->page.starts.start2, (unsigned)board->page.switches);
-    at += sprintf(at, "%08" PRIx32 "%02x%02x", board->page.video.dots, (unsigned)board->page.video.strike,
-                  (unsigned)board->place.field);
+    at += sprintf(at, "%08" PRIx32 "%02x%02x%02x", board->page.video.dots, (unsigned)board->page.video.strike,
+                  (unsigned)board->page.video.chip, (unsigned)board->place.field);
     at += sprintf(at, "%08" PRIx32 "%08" PRIx32, board->place.line, board->place.clock);
     at += sprintf(at, "%04x%02x%04x%02x%02x", (unsigned)board->place.beam.address, (unsigned)board->place.beam.latch,
                   (unsigned)board->place.row.address, (unsigned)board->place.row.latch,
@@ -88,7 +89,7 @@ void do_board(char **word)
     uint8_t packed[BOARD_BYTES];
 
     if (strlen(word[1]) != 2 * BOARD_BYTES)
-        fail("a board has 92 hex digits");
+        fail("a board has 94 hex digits");
     for (size_t i = 0; i < BOARD_BYTES; i++)
         packed[i] = (uint8_t)hex_digits(word[1] + 2 * i, 2);
     given = unpacked(packed);

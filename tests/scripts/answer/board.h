@@ -12,7 +12,7 @@ void lend_board(void);
 /* The board is zeros, and so is the one that was given last. */
 void clear_board(void);
 
-/* Its 92 digits, up to the next call. */
+/* Its 94 digits, up to the next call. */
 const char *board_text(void);
 
 #endif

@@ -37,11 +37,30 @@ void call_page_size(char **word)
     page_size();
 }
 
+/* A file's version byte and length field, as far as it has them. */
+static const char *head_text(void)
+{
+    static char text[40];
+    const uint8_t *file = lent[FILE_BYTES].start;
+    size_t count = lent[FILE_BYTES].bytes;
+
+    if (count == 0)
+        return "head - -";
+    if (count < 5)
+        sprintf(text, "head %u -", (unsigned)file[0]);
+    else
+        sprintf(text, "head %u %" PRIu32, (unsigned)file[0],
+                (uint32_t)file[1] << 24 | (uint32_t)file[2] << 16 | (uint32_t)file[3] << 8 | file[4]);
+    return text;
+}
+
 void call_page_read(char **word)
 {
+    feldrime_answer answer = feldrime_page_read(BYTES(FILE_BYTES), BYTES(NUMBERS), BYTES(CHARS), BYTES(ATTRS));
+
     (void)word;
-    report_answer("page_read", by_file(),
-                  feldrime_page_read(BYTES(FILE_BYTES), BYTES(NUMBERS), BYTES(CHARS), BYTES(ATTRS)), of_page_read);
+    RESULTS(" %s", head_text());
+    report("page_read", by_file(), 1, answer.refusal, answer.beside, of_page_read);
 }
 
 void call_page_write(char **word)
@@ -53,8 +72,11 @@ void call_page_write(char **word)
 
 void call_font_read(char **word)
 {
+    feldrime_font_answer answer = feldrime_font_read(BYTES(FILE_BYTES), FONT);
+
     (void)word;
-    report_answer("font_read", no_page, feldrime_font_read(BYTES(FILE_BYTES), FONT), of_font_read);
+    RESULTS(" %s groups %" PRIu32, head_text(), answer.groups);
+    report("font_read", no_page, 1, answer.refusal, answer.beside, of_font_read);
 }
 
 feldrime_answer line_draw(uint32_t line, uint8_t field)
@@ -64,14 +86,19 @@ feldrime_answer line_draw(uint32_t line, uint8_t field)
 
 void call_line_draw(char **word)
 {
-    report_answer("line_draw", by_numbers(), line_draw(number(word[2]), small(word[3])), of_drawing);
+    feldrime_answer answer = line_draw(number(word[2]), small(word[3]));
+
+    RESULTS("%s", above_text());
+    report("line_draw", by_numbers(), 1, answer.refusal, answer.beside, of_drawing);
 }
 
 void picture_draw(uint8_t field)
 {
-    report_answer("picture_draw", by_numbers(),
-                  feldrime_picture_draw(BYTES(NUMBERS), BYTES(CHARS), BYTES(ATTRS), FONT, field, BYTES(OUT)),
-                  of_drawing);
+    feldrime_answer answer =
+        feldrime_picture_draw(BYTES(NUMBERS), BYTES(CHARS), BYTES(ATTRS), FONT, field, BYTES(OUT));
+
+    RESULTS("%s", above_text());
+    report("picture_draw", by_numbers(), 1, answer.refusal, answer.beside, of_drawing);
 }
 
 void call_picture_draw(char **word)
@@ -198,7 +225,7 @@ void call_numbers_of(char **word)
     feldrime_answer answer = feldrime_numbers_of(*board, BYTES(NUMBERS));
 
     (void)word;
-    RESULTS("%s", "");
+    RESULTS(" version %u chip %u", (unsigned)board->page.version, (unsigned)board->page.video.chip);
     report("numbers_of", by_board(), 1, answer.refusal, answer.beside, of_numbers);
 }
 
@@ -222,7 +249,8 @@ void call_read(char **word)
 {
     feldrime_byte answer = feldrime_register_read(*board, small(word[2]));
 
-    RESULTS(" byte %" PRIu32, answer.byte);
+    RESULTS(" byte %" PRIu32 " version %u chip %u", answer.byte, (unsigned)board->page.version,
+            (unsigned)board->page.video.chip);
     report("read", by_board(), 1, answer.refusal, answer.beside, of_nothing);
 }
 

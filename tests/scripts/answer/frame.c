@@ -5,6 +5,7 @@
 #include <stdlib.h>
 #include <string.h>
 
+#include "bit5.h"
 #include "board.h"
 #include "calls.h"
 #include "fail.h"
@@ -52,6 +53,7 @@ static void frame_by_steps(void)
             memcpy(frame.dots + line * frame.size.dots + clock * dots, steps.last.dots, dots);
             frame.addresses[line * frame.columns + clock] = (uint16_t)steps.last.address;
             count_step(line, clock, latch);
+            count_bit5((uint32_t)line);
         }
     } while ((board->place.line != 0 || board->place.clock != 0) && steps.done != LONGEST_FRAME);
     report_steps();
@@ -72,7 +74,7 @@ static bool frame_by_lines(uint8_t field)
         same = same && memcmp(lent[OUT].start, frame.dots + (size_t)done * dots, dots) == 0;
         done++;
     }
-    RESULTS(" sum %016" PRIx64, sum);
+    RESULTS(" sum %016" PRIx64 "%s", sum, above_text());
     report("line_draw", by_numbers(), answer.refusal == 0 ? done : 1, answer.refusal, answer.beside, of_drawing);
     return same && done == frame.size.lines;
 }
@@ -140,6 +142,7 @@ static void report_frame(bool agree)
     print_counts("wrapped", frame.wrapped);
     print_counts("cursor", frame.cursor);
     print_counts("latched", frame.latched);
+    print_bit5();
     printf("\n");
 }
 
@@ -150,6 +153,7 @@ void do_frame(char **word)
 
     (void)word;
     memset(&frame, 0, sizeof frame);
+    clear_bit5();
     frame.size = page_size();
     if (frame.size.refusal != 0)
         return;

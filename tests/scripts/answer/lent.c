@@ -10,7 +10,8 @@
 #include "sums.h"
 
 const char *const names[ALL] = {
-    "numbers", "chars", "attrs", "words", "flags", "unshifted", "shifted", "file", "out", "cells", "phrases", "board"
+    "numbers", "chars", "attrs", "words", "flags", "unshifted", "shifted", "groups", "file", "out", "cells", "phrases",
+    "board"
 };
 
 struct lent lent[ALL];

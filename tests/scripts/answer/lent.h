@@ -9,7 +9,7 @@
 #include "feldrime.h"
 
 enum {
-    NUMBERS, CHARS, ATTRS, WORDS, FLAGS, UNSHIFTED, SHIFTED, FILE_BYTES, OUT, CELLS, PHRASES,
+    NUMBERS, CHARS, ATTRS, WORDS, FLAGS, UNSHIFTED, SHIFTED, GROUPS, FILE_BYTES, OUT, CELLS, PHRASES,
     BUFFERS, /* how many a script can name */
     BOARD = BUFFERS,
     ALL
@@ -31,7 +31,8 @@ extern enum mode { GUARDED, EXACT, EDGE } mode;
 
 /* Buffers as the calls take them. */
 #define BYTES(which) lent[which].start, lent[which].bytes
-#define FONT (uint16_t *)(void *)lent[WORDS].start, count_of(WORDS), BYTES(FLAGS), BYTES(UNSHIFTED), BYTES(SHIFTED)
+#define FONT (uint16_t *)(void *)lent[WORDS].start, count_of(WORDS), BYTES(FLAGS), BYTES(UNSHIFTED), BYTES(SHIFTED), \
+             BYTES(GROUPS)
 
 /* The bytes of each number of an element. */
 size_t number_size(int which);

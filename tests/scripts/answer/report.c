@@ -9,44 +9,61 @@
 
 const struct handed no_page = { "-", "-" };
 
-static const char *mode_of(uint8_t version, const uint8_t *irs, uint8_t switches)
+static const char *mode_of(uint8_t version, const uint8_t *irs, uint8_t switches, uint8_t chip)
 {
-    bool field = version == 2 && (switches & 16) != 0, codes = (irs[0] & 128) != 0, table = (irs[2] & 128) != 0;
+    static const char *const modes[2][4] = {
+        { "character", "character+graphics", "character+codes", "character+codes+graphics" },
+        { "field", "field+graphics", "field+codes", "field+codes+graphics" },
+    };
+    bool field = (version == 2 || version == 3) && (switches & 16) != 0, graphics = version == 3 && chip == 1;
+    bool codes = (irs[0] & 128) != 0, table = (irs[2] & 128) != 0;
 
-    if (codes && !table)
-        return "no-table";
-    if (codes)
-        return field ? "field+codes" : "character+codes";
-    return field ? "field" : "character";
+    return codes && !table ? "no-table" : modes[field][2 * codes + graphics];
 }
 
 struct handed by_board(void)
 {
     const char *power = board->resets == 0 ? "inactive-0" : board->resets == 1 ? "inactive-1" : "active";
 
-    return (struct handed){ power, mode_of(board->page.version, board->page.irs, board->page.switches) };
+    return (struct handed){ power, mode_of(board->page.version, board->page.irs, board->page.switches,
+                                           board->page.video.chip) };
 }
 
-/* By bytes that begin with a version and have the IRs at this place, and the switches 21 bytes after it. */
-static struct handed by_bytes(const uint8_t *bytes, size_t irs)
+/* By so many bytes that begin with a version and have the IRs at this place, the switches 21 bytes after it, and in
+   version 3 the chip three bytes after these. They need not be more than a page's numbers. */
+static struct handed by_bytes(const uint8_t *bytes, size_t count, size_t irs)
 {
-    if (bytes[0] != 1 && bytes[0] != 2)
+    uint8_t version = count == 0 ? 0 : bytes[0], chip;
+
+    if (version < 1 || version > 3 || count < irs + (version == 3 ? 25 : 24))
         return no_page;
-    return (struct handed){ "-", mode_of(bytes[0], bytes + irs, bytes[irs + 21]) };
+    chip = version == 3 ? bytes[irs + 24] : 0;
+    return (struct handed){ "-", mode_of(version, bytes + irs, bytes[irs + 21], chip) };
 }
 
 struct handed by_numbers(void)
 {
-    return lent[NUMBERS].bytes == FELDRIME_NUMBERS ? by_bytes(lent[NUMBERS].start, 1) : no_page;
+    return lent[NUMBERS].bytes == FELDRIME_NUMBERS ? by_bytes(BYTES(NUMBERS), 1) : no_page;
 }
 
-/* A file need not be whole, but hold all of a page's numbers. */
 struct handed by_file(void)
 {
-    return lent[FILE_BYTES].bytes >= 29 ? by_bytes(lent[FILE_BYTES].start, 5) : no_page;
+    return by_bytes(BYTES(FILE_BYTES), 5);
 }
 
 char results[512];
+
+const char *above_text(void)
+{
+    static char text[40];
+
+    for (size_t i = 0; i < lent[GROUPS].bytes; i++)
+        if (lent[GROUPS].start[i] > 4) {
+            sprintf(text, " above %zu", i);
+            return text;
+        }
+    return " above -";
+}
 
 const int of_nothing[] = { ALL };
 const int of_numbers[] = { NUMBERS, ALL };
@@ -55,11 +72,11 @@ const int of_cells[] = { NUMBERS, CHARS, CELLS, ALL };
 const int of_row_phrase[] = { NUMBERS, CHARS, PHRASES, ALL };
 const int of_phrases[] = { PHRASES, ALL };
 const int of_memories[] = { CHARS, ATTRS, ALL };
-const int of_step[] = { CHARS, ATTRS, WORDS, FLAGS, UNSHIFTED, SHIFTED, ALL };
-const int of_drawing[] = { NUMBERS, CHARS, ATTRS, WORDS, FLAGS, UNSHIFTED, SHIFTED, OUT, ALL };
+const int of_step[] = { CHARS, ATTRS, WORDS, FLAGS, UNSHIFTED, SHIFTED, GROUPS, ALL };
+const int of_drawing[] = { NUMBERS, CHARS, ATTRS, WORDS, FLAGS, UNSHIFTED, SHIFTED, GROUPS, OUT, ALL };
 const int of_page_read[] = { FILE_BYTES, NUMBERS, CHARS, ATTRS, ALL };
 const int of_page_write[] = { NUMBERS, CHARS, ATTRS, OUT, ALL };
-const int of_font_read[] = { FILE_BYTES, WORDS, FLAGS, UNSHIFTED, SHIFTED, ALL };
+const int of_font_read[] = { FILE_BYTES, WORDS, FLAGS, UNSHIFTED, SHIFTED, GROUPS, ALL };
 
 static void check_guards(void)
 {

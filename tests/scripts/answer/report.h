@@ -19,6 +19,9 @@ struct handed by_file(void);
 /* RESULTS of the call that is being reported, "" or beginning with a space. */
 extern char results[512];
 
+/* RESULTS of a call that draws end with it: which of the lent groups is the first that is refused. */
+const char *above_text(void);
+
 #define RESULTS(...) snprintf(results, sizeof results, __VA_ARGS__)
 
 /* The buffers that a call was lent, up to ALL. */

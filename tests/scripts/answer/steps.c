@@ -102,8 +102,8 @@ bool step_once(void)
 
 void report_steps(void)
 {
-    RESULTS(" from %s %u sum %016" PRIx64 " %s board %s", steps.from, (unsigned)steps.code, steps.sum, shown_text(),
-            board_text());
+    RESULTS(" from %s %u sum %016" PRIx64 " %s board %s%s", steps.from, (unsigned)steps.code, steps.sum, shown_text(),
+            board_text(), above_text());
     report("step", by_board(), steps.last.refusal == 0 ? steps.done : 1, steps.last.refusal, steps.last.beside,
            of_step);
 }

@@ -9,7 +9,7 @@ use Rattle.feldrime.proofs.feldrime_line_draw.Tie as tie
 
 -- where the function begins, from the place where the numbers are known
 abbrev begin : tie.After-numbers-refused → tie.Start
-begin c = c .before .before .before .before .before .before .before .before .before
+begin c = c .before .before .before .before .before .before .before .before .before .before
 
 returns : tie.Need-returns
 unfolding lineDrawCheck lineDrawn

@@ -1,11 +1,12 @@
 -- Rests on the definition: each field is read at its place, behind the IRs that the version has.
 use Prim.Native.Nat.{ℕ, _+_}
-use mathlib.Core.Path.{ap, _∙_}
+use mathlib.Core.Path.{_≡_, ap, _∙_}
 use native.Mathlib.Omega.{arith}
 use borrow.Author.Needs.{needs}
 use lib.ListN.{getD}
 use Rattle.board.specs.Laws.{layout-fits}
-use Rattle.files.specs.Page.{startsAt, videoOf, versionIn, irsAt, pageAt}
+use Rattle.files.specs.Page.{startsAt, videoOf, versionIn, irsAt, chipAt, pageAt}
+use Rattle.files.specs.Laws.{chip-there}
 use Rattle.files.proofs.page_at.Statement.{statement}
 use Rattle.files.proofs.page_at.Tie as tie
 
@@ -29,18 +30,24 @@ shared-slice-read-video c = omega (arith, c .before .before .before .before .irs
 shared-slice-read-video-2 : tie.Need-shared-slice-read-video-2
 shared-slice-read-video-2 c = omega (arith, c .before .before .before .before .before .irs-of .ensures, layout-fits (versionIn (c .before .before .before .before .before .before .before .before .args .bytes .now)) .rest-some)
 
+chip-at-requires : tie.Need-chip-at-requires
+chip-at-requires c κs v = omega (arith, c .before .before .before .before .before .irs-of .ensures, chip-there (versionIn (c .before .before .before .before .before .before .before .before .args .bytes .now)) v)
+
 returns : tie.Need-returns
 unfolding pageAt
 returns c =
-    let bytes = c .before .before .before .before .before .before .before .before .before .args .bytes .now in
-    let at = c .before .before .before .before .before .before .before .before .before .args .at in
-    let n = c .before .before .before .before .before .before .irs-of .ensures in
+    let bytes = c .before .before .before .before .before .before .before .before .before .before .args .bytes .now in
+    let at = c .before .before .before .before .before .before .before .before .before .before .args .at in
+    let n = c .before .before .before .before .before .before .before .irs-of .ensures in
     λ i. record {
       version = versionIn bytes;
-      irs = (c .before .before .before .before .before .irs-at .ensures ∙ ap (λ (k : ℕ). irsAt k bytes at) n) i;
-      starts = (c .before .before .before .before .starts-at .ensures ∙ ap (λ (k : ℕ). startsAt bytes (at + k)) n) i;
+      irs = (c .before .before .before .before .before .before .irs-at .ensures ∙ ap (λ (k : ℕ). irsAt k bytes at) n) i;
+      starts = (c .before .before .before .before .before .starts-at .ensures ∙ ap (λ (k : ℕ). startsAt bytes (at + k)) n) i;
       switches = getD bytes (at + n i + 6) 0;
-      video = (c .video .ensures ∙ ap (λ (k : ℕ). videoOf (getD bytes (at + k + 7) 0) (getD bytes (at + k + 8) 0)) n) i;
+      video =
+          (c .video .ensures
+          ∙ ap (videoOf _ _) (c .before .chip-at .ensures)
+          ∙ ap (λ (k : ℕ). videoOf (getD bytes (at + k + 7) 0) (getD bytes (at + k + 8) 0) (chipAt (versionIn bytes) bytes (at + k + 9))) n) i;
     }
 
 pub page-at-spec : {M : Type 1} → statement M
@@ -58,5 +65,7 @@ page-at-spec =
     shared-slice-read-video
     (λ c. search needs)
     shared-slice-read-video-2
+    (λ c. search needs)
+    chip-at-requires
     (λ c κs. search needs)
     returns)

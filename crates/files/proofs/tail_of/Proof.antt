@@ -18,6 +18,7 @@ returns c =
     ∷ p .switches
     ∷ p .video .dots .0
     ∷ p .video .strike
+    ∷ p .video .chip
     ∷ []
 
 pub tail-of-spec : {M : Type 1} → statement M

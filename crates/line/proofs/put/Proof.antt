@@ -1,6 +1,7 @@
 -- Rests on write_cell, and on by-small: a word has ten bits.
 use borrow.Author.Needs.{needs}
 use Rattle.shape.specs.Laws.{by-small}
+use Rattle.tables.specs.Tables.{shownWord}
 use Rattle.line.specs.Walk.{dotsFor}
 use Rattle.line.proofs.put.Statement.{statement}
 use Rattle.line.proofs.put.Tie as tie
@@ -12,10 +13,10 @@ begin c = c .before .before .before .before .before .before .before
 write-cell-requires : tie.Need-write-cell-requires
 write-cell-requires c κs =
     let pre = begin (c .before) .pre in
-    (rw (c .before .word-by .ensures) (by-small _ _ _ _), pre .1 .1, pre .1 .2, pre .1 .3)
+    (rw (c .before .word-by .ensures) (by-small _ _ _ _ _), pre .1 .1, pre .1 .2, pre .1 .3)
 
 returns : tie.Need-returns
-unfolding dotsFor
+unfolding dotsFor shownWord
 returns c =
     let drawn = c .before .before in
     let word = drawn .before .before in

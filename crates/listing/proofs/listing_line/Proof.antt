@@ -14,10 +14,10 @@ slice-aggregate-draw-line c = simp length-take (omega arith)
 
 -- where the function begins, from where the line was drawn
 abbrev begin : tie.After-draw-line → tie.Start
-begin c = c .before .before .before .before .before .before .before .before .before .before
+begin c = c .before .before .before .before .before .before .before .before .before .before .before
 
 abbrev font : tie.After-draw-line → Font
-font c = fontOf (begin c .args .words .now) (begin c .args .flags .now) (begin c .args .unshifted .now) (begin c .args .shifted .now)
+font c = fontOf (begin c .args .words .now) (begin c .args .flags .now) (begin c .args .unshifted .now) (begin c .args .shifted .now) (begin c .args .groups .now)
 
 returns : tie.Need-returns
 returns c =

@@ -15,10 +15,10 @@ use Rattle.listing_program.proofs.print_listing.Statement.{statement}
 use Rattle.listing_program.proofs.print_listing.Tie as tie
 
 abbrev Inv-loop : tie.InvT-loop
-Inv-loop b chars attrs words flags unshifted shifted out₀ shown line₀ out line = length out ≡ 3073
+Inv-loop b chars attrs words flags unshifted shifted groups out₀ shown line₀ out line = length out ≡ 3073
 
 abbrev μ-loop : tie.MeasureT-loop
-μ-loop b chars attrs words flags unshifted shifted out₀ shown line₀ out line = shown .0 - line .0
+μ-loop b chars attrs words flags unshifted shifted groups out₀ shown line₀ out line = shown .0 - line .0
 
 -- the loop's test
 below-means : (a b : Lines) (t : Bool) → t ≡ ltb (a .0) (b .0) → t ≡ true → a .0 < b .0
@@ -28,7 +28,7 @@ print-requires : tie.Need-print-requires Inv-loop μ-loop
 print-requires c κs = let h = c .before .before .listing-head in rw (h .ensures .0, h .kept .1 .0) (head-within _ _)
 
 print-requires-2 : tie.Need-print-requires-2 Inv-loop μ-loop
-print-requires-2 c κs = let l = c .before .before .listing-line in rw (l .ensures .0, l .kept .1 .1 .1 .1 .1 .1 .1 .1 .1 .0) (line-within _ _ _ _ _ _ _ _)
+print-requires-2 c κs = let l = c .before .before .listing-line in rw (l .ensures .0, l .kept .1 .1 .1 .1 .1 .1 .1 .1 .1 .1 .0) (line-within _ _ _ _ _ _ _ _)
 
 plus-requires : tie.Need-plus-requires Inv-loop μ-loop
 plus-requires c κs =

@@ -13,10 +13,10 @@ use Rattle.picture.proofs.draw_picture.Tie as tie
 
 -- where the function begins, from the place where the check is known, and the check as the contract has it
 abbrev begin : tie.After-picture-check → tie.Start
-begin c = c .before .before .before .before .before .before .before .before .before
+begin c = c .before .before .before .before .before .before .before .before .before .before
 
 abbrev font : tie.After-picture-check → Font
-font c = fontOf (begin c .args .words .now) (begin c .args .flags .now) (begin c .args .unshifted .now) (begin c .args .shifted .now)
+font c = fontOf (begin c .args .words .now) (begin c .args .flags .now) (begin c .args .unshifted .now) (begin c .args .shifted .now) (begin c .args .groups .now)
 
 check : (c : tie.After-picture-check)
     → c .picture-check .result ≡ pictureCheck (begin c .args .b) (lentCheck (begin c .args .chars .now) (begin c .args .attrs .now) (font c)) (length (begin c .args .out .now))

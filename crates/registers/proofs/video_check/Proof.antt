@@ -8,29 +8,19 @@ use Rattle.registers.proofs.video_check.Tie as tie
 
 returns : tie.Need-returns
 unfolding videoCheck
-returns c = stop _ (rw (c .before .before .starts-refused .ensures, c .before .switches-refused .ensures) at (c .if1 .taken)) refl
+returns c = stop _ (sym (c .before .address-refused .ensures) ∙ c .if1 .taken) refl
 
 returns-2 : tie.Need-returns-2
 unfolding videoCheck
 returns-2 c =
     let one = c .before .before in
-    pass _ (rw (one .before .before .starts-refused .ensures, one .before .switches-refused .ensures) at (one .if1 .left))
-    (stop _ (sym (c .before .width-refused .ensures) ∙ c .if2 .taken) refl)
+    pass _ (sym (one .before .address-refused .ensures) ∙ one .if1 .left) (stop _ (sym (c .before .width-refused .ensures) ∙ c .if2 .taken) refl)
 
 returns-3 : tie.Need-returns-3
 unfolding videoCheck
 returns-3 c =
     let one = c .before .before in
-    pass _ (rw (one .before .before .starts-refused .ensures, one .before .switches-refused .ensures) at (one .if1 .left))
-    (pass _ (sym (c .before .width-refused .ensures) ∙ c .if2 .left) refl)
+    pass _ (sym (one .before .address-refused .ensures) ∙ one .if1 .left) (pass _ (sym (c .before .width-refused .ensures) ∙ c .if2 .left) refl)
 
 pub video-check-spec : {M : Type 1} → statement M
-video-check-spec =
-    tie.close
-    (tie.spec
-    (λ c κs. search needs)
-    (λ c κs. search needs)
-    returns
-    (λ c κs. search needs)
-    returns-2
-    returns-3)
+video-check-spec = tie.close (tie.spec (λ c κs. search needs) returns (λ c κs. search needs) returns-2 returns-3)

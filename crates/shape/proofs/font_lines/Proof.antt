@@ -5,7 +5,7 @@ use Rattle.shape.proofs.font_lines.Tie as tie
 
 returns : tie.Need-returns
 unfolding fontLinesOf
-returns c = rw (c .positions2 .ensures, c .before .positions .ensures)
+returns c = rw (c .groups-of .ensures, c .before .positions2 .ensures, c .before .before .positions .ensures)
 
 pub font-lines-spec : {M : Type 1} → statement M
-font-lines-spec = tie.close (tie.spec (λ c κs. search needs) (λ c κs. search needs) returns)
+font-lines-spec = tie.close (tie.spec (λ c κs. search needs) (λ c κs. search needs) (λ c κs. search needs) returns)

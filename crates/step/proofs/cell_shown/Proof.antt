@@ -1,4 +1,4 @@
--- Rests on the callees: what is valid, the code that is shown, its word and its look.
+-- Rests on the callees: what is valid, the code that is shown, its mode, its word and its look.
 use Rattle.step.specs.Shown.{cellShown}
 use borrow.Author.Needs.{needs}
 use Rattle.step.proofs.cell_shown.Statement.{statement}
@@ -12,8 +12,8 @@ returns c =
     rw (
       c .word-by .ensures,
       c .before .look-of .ensures,
-      c .before .before .shown-code .ensures,
-      c .before .before .before .before .setters-hidden .ensures,
+      c .before .before .graphics-by .ensures,
+      c .before .before .before .shown-code .ensures,
       valid .latched .ensures,
       valid .before .counted-byte .ensures,
       valid .before .before .reading-of .ensures,
@@ -35,8 +35,8 @@ cell-shown-spec =
     (λ c κs. search needs)
     (λ c κs. search needs)
     (λ c κs. search needs)
-    (λ c κs. search needs)
     (λ c. search needs)
+    (λ c κs. search needs)
     (λ c κs. search needs)
     (λ c κs. search needs)
     (λ c κs. search needs)

@@ -1,12 +1,13 @@
 -- Rests on clock-done and clock-refused, by whether something refuses.
 use mathlib.Core.Path.{_≡_, sym, ap, _∙_}
-use mathlib.Core.Bool.{true, false}
+use mathlib.Core.Bool.{Bool, true, false}
 use Rattle.refusal.specs.declared.Refusal.{Refusal}
 use Rattle.refusal.specs.Laws.{done-is}
 use Rattle.refusal.specs.Number.{doneOf}
 use Rattle.timing.specs.Check.{callCheck}
 use Rattle.step.specs.Step.{stepCheck}
 use Rattle.shape.specs.Font.{Font, fontOf}
+use Rattle.video.specs.At.{lentBy}
 use Rattle.video.specs.Lent.{Lent, lent}
 use Rattle.step.specs.Laws.{clock-done, clock-refused}
 use borrow.Author.Needs.{needs}
@@ -15,16 +16,16 @@ use Rattle.step.proofs.clock_of.Tie as tie
 
 -- where the function begins, from where it is known whether something refuses; and the check as the contract has it
 abbrev begin : tie.After-clear → tie.Start
-begin c = c .before .before .before .before .before .before .before .before
+begin c = c .before .before .before .before .before .before .before .before .before
 
 abbrev font : tie.After-clear → Font
-font c = fontOf (begin c .args .words .now) (begin c .args .flags .now) (begin c .args .unshifted .now) (begin c .args .shifted .now)
+font c = fontOf (begin c .args .words .now) (begin c .args .flags .now) (begin c .args .unshifted .now) (begin c .args .shifted .now) (begin c .args .groups .now)
 
 abbrev asked : tie.After-clear → Refusal
 asked c = stepCheck (begin c .args .b) (begin c .args .chars .now) (begin c .args .attrs .now) (font c)
 
-check : (c : tie.After-clear) → callCheck (begin c .args .b) (c .before .lent-check .result) false false ≡ asked c
-check c = ap (λ (lent : Refusal). callCheck (begin c .args .b) lent false false) (c .before .lent-check .ensures)
+check : (c : tie.After-clear) → callCheck (begin c .args .b) (lentBy (c .before .lent-refused .result) (begin c .args .groups .now)) false false ≡ asked c
+check c = ap (λ (size : Bool). callCheck (begin c .args .b) (lentBy size (begin c .args .groups .now)) false false) (c .before .lent-refused .ensures)
 
 done : (c : tie.After-clear) → doneOf (asked c) ≡ c .clear .result
 done c = ap doneOf (sym (check c)) ∙ sym (c .clear .ensures)

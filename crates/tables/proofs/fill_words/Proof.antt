@@ -14,7 +14,7 @@ use Rattle.tables.proofs.fill_words.Tie as tie
 abbrev Inv-loop : tie.InvT-loop
 Inv-loop table₀ words flags lines d count s₀ table s =
     (s ≤ count)
-    × Filling (joined 0 count (wordsAt words flags lines d) ++ drop (count * 256) table₀) table₀ (count * 256) table (s * 256)
+    × Filling (joined 0 count (wordsAt words flags lines d) ++ drop (count * 512) table₀) table₀ (count * 512) table (s * 512)
     (joined s (count - s) (wordsAt words flags lines d))
 
 abbrev μ-loop : tie.MeasureT-loop
@@ -24,7 +24,7 @@ abbrev start : tie.In-loop Inv-loop μ-loop → tie.Start Inv-loop μ-loop
 start c = c .before .before .before .before .before .before
 
 -- the lines are few, and the table has room for them
-few : (c : tie.In-loop Inv-loop μ-loop) → (c .before .before .places .result ≤ 16) × (c .before .before .places .result * 256 ≤ length (start c .args .table .now))
+few : (c : tie.In-loop Inv-loop μ-loop) → (c .before .before .places .result ≤ 16) × (c .before .before .places .result * 512 ≤ length (start c .args .table .now))
 few c =
     let same = c .before .before .places .ensures in
     (omega (arith, same, start c .pre .2), omega (arith, same, start c .pre .3))

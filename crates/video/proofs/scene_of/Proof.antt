@@ -19,14 +19,15 @@ returns c =
       c .before .has4 .ensures,
       c .before .before .cursor-of .ensures,
       c .before .before .before .same2 .ensures,
-      c .before .before .before .before .same .ensures,
-      c .before .before .before .before .before .underline-of .ensures,
-      c .before .before .before .before .before .before .blink-at .ensures,
-      c .before .before .before .before .before .before .before .blink-of .ensures,
-      c .before .before .before .before .before .before .before .before .blank-level .ensures,
-      c .before .before .before .before .before .before .before .before .before .has3 .ensures,
-      c .before .before .before .before .before .before .before .before .before .before .before .has2 .ensures,
-      c .before .before .before .before .before .before .before .before .before .before .before .before .before .has .ensures,
+      c .before .before .before .before .chip-b .ensures,
+      c .before .before .before .before .before .same .ensures,
+      c .before .before .before .before .before .before .underline-of .ensures,
+      c .before .before .before .before .before .before .before .blink-at .ensures,
+      c .before .before .before .before .before .before .before .before .blink-of .ensures,
+      c .before .before .before .before .before .before .before .before .before .blank-level .ensures,
+      c .before .before .before .before .before .before .before .before .before .before .has3 .ensures,
+      c .before .before .before .before .before .before .before .before .before .before .before .before .has2 .ensures,
+      c .before .before .before .before .before .before .before .before .before .before .before .before .before .before .has .ensures,
     )
 
 pub scene-of-spec : {M : Type 1} → statement M
@@ -40,6 +41,7 @@ scene-of-spec =
     (λ c κs. search needs)
     (λ c κs. search needs)
     blink-at-requires
+    (λ c κs. search needs)
     (λ c κs. search needs)
     (λ c κs. search needs)
     (λ c κs. search needs)

@@ -7,13 +7,13 @@ use Rattle.callers_stepped.proofs.lines.line_by_steps.Tie as tie
 step-line-requires : tie.Need-step-line-requires
 step-line-requires c κs =
     let made = c .before .before in
-    let start = made .before .before .before .before .before .before .before .before .before .before .before .before in
+    let start = made .before .before .before .before .before .before .before .before .before .before .before .before .before in
     steppable _ _ _ _ _ (start .args .out .now) (made .before .before .before .line-answer .ensures) (made .before .if1 .taken) (made .feldrime-board-of .ensures)
 
 returns : tie.Need-returns
 returns c =
     let made = c .before .before .before .before .before in
-    let start = made .before .before .before .before .before .before .before .before .before .before .before .before in
+    let start = made .before .before .before .before .before .before .before .before .before .before .before .before .before in
     stepped _ _ _ _ _ (start .args .out .now) (made .before .before .before .line-answer .ensures) (made .before .if1 .taken) (made .feldrime-board-of .ensures) _ (c .before .before .step-line .ensures)
 
 returns-2 : tie.Need-returns-2

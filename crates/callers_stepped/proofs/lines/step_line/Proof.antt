@@ -18,17 +18,17 @@ use Rattle.callers_stepped.proofs.lines.step_line.Statement.{statement}
 use Rattle.callers_stepped.proofs.lines.step_line.Tie as tie
 
 abbrev Inv-loop : tie.InvT-loop
-Inv-loop out₀ b chars attrs words flags unshifted shifted line field n at₀ c₀ out at c =
-    (c ≤ n) × (at ≡ after b chars attrs (fontOf words flags unshifted shifted) (clockOf b field line c))
-    × Filling (joined 0 n (columnDots b chars attrs (fontOf words flags unshifted shifted) line field) ++ drop (n * b .page .video .dots .0) out₀) out₀
-    (n * b .page .video .dots .0) out (c * b .page .video .dots .0) (joined c (n - c) (columnDots b chars attrs (fontOf words flags unshifted shifted) line field))
+Inv-loop out₀ b chars attrs words flags unshifted shifted groups line field n at₀ c₀ out at c =
+    (c ≤ n) × (at ≡ after b chars attrs (fontOf words flags unshifted shifted groups) (clockOf b field line c))
+    × Filling (joined 0 n (columnDots b chars attrs (fontOf words flags unshifted shifted groups) line field) ++ drop (n * b .page .video .dots .0) out₀) out₀
+    (n * b .page .video .dots .0) out (c * b .page .video .dots .0) (joined c (n - c) (columnDots b chars attrs (fontOf words flags unshifted shifted groups) line field))
 
 abbrev μ-loop : tie.MeasureT-loop
-μ-loop out₀ b chars attrs words flags unshifted shifted line field n at₀ c₀ out at c = n - c
+μ-loop out₀ b chars attrs words flags unshifted shifted groups line field n at₀ c₀ out at c = n - c
 
 -- where the function begins, from the loop
 abbrev start : tie.At-loop Inv-loop μ-loop → tie.Start Inv-loop μ-loop
-start c = c .before .before .before .before .before .before .before .before .before .before .before .before .before .before
+start c = c .before .before .before .before .before .before .before .before .before .before .before .before .before .before .before
 
 abbrev turns : tie.At-loop Inv-loop μ-loop → ℕ
 turns c = c .before .before .before .before .before .timing-of .result .counts .hact .0
@@ -55,14 +55,14 @@ cast-n : tie.Need-cast-n Inv-loop μ-loop
 cast-n c = omega (arith, hact-is _ _ (c .before .timing-of .ensures))
 
 clock-of-requires : tie.Need-clock-of-requires Inv-loop μ-loop
-clock-of-requires c κs = omega (arith, c .before .before .before .before .before .before .before .before .before .before .pre .visible)
+clock-of-requires c κs = omega (arith, c .before .before .before .before .before .before .before .before .before .before .before .pre .visible)
 
 feldrime-state-at-requires : tie.Need-feldrime-state-at-requires Inv-loop μ-loop
 feldrime-state-at-requires c κs = search needs
 
 loop-holds : tie.Need-loop-holds Inv-loop μ-loop
 loop-holds c =
-    let s = c .before .before .before .before .before .before .before .before .before .before .before .before .before in (
+    let s = c .before .before .before .before .before .before .before .before .before .before .before .before .before .before in (
       omega arith,
       line-begins (s .pre) _ (s .fits .field .fits) (c .before .before .clock-of .ensures) (c .before .feldrime-state-at .ensures),
       join-begins _ _ (each (s .pre) _ (s .fits .field .fits)) _ _,

@@ -10,8 +10,8 @@ returns c =
     let back = second .before .before .before .before .before .before in
     let first = back .before .before .before .before .before in
     let there = first .before .before .before .before .before .before .before .before in
-    let start = there .before .before .before .before .before .before .before .before .before .before .before in
-    moved-drawn (start .args .numbers .now) (start .args .chars .now) (start .args .attrs .now) (start .args .words .now) (start .args .flags .now) (start .args .unshifted .now) (start .args .shifted .now)
+    let start = there .before .before .before .before .before .before .before .before .before .before .before .before in
+    moved-drawn (start .args .numbers .now) (start .args .chars .now) (start .args .attrs .now) (start .args .words .now) (start .args .flags .now) (start .args .unshifted .now) (start .args .shifted .now) (start .args .groups .now)
     (start .args .field) (start .args .out .now) (there .feldrime-to-table .ensures .1) (there .feldrime-to-table .ensures .2) (first .feldrime-picture-draw .ensures .1)
     (back .feldrime-to-sheet .ensures .1) (second .feldrime-picture-draw2 .ensures .0) (second .feldrime-picture-draw2 .ensures .1)
 

@@ -7,7 +7,7 @@ returns : tie.Need-returns
 returns c =
     let step = c .before in
     let reached = step .before .before in
-    stepped-after _ _ _ _ _ _ _ _ (reached .before .before .feldrime-board-of .ensures) (reached .stepped-to .ensures) (step .step-numbers .ensures)
+    stepped-after _ _ _ _ _ _ _ _ _ (reached .before .before .feldrime-board-of .ensures) (reached .stepped-to .ensures) (step .step-numbers .ensures)
 
 pub step-after-spec : {M : Type 1} → statement M
 step-after-spec =

@@ -16,22 +16,22 @@ use Rattle.callers_stepped.proofs.pictures.line_over_picture.Tie as tie
 
 -- where the function begins, from the place where the line is drawn, and what is known there
 abbrev begin : tie.Then2 → tie.Start
-begin c = c .before .before .before .before .before .before .before .before .before .before .before .before .before .before .before .before .before
+begin c = c .before .before .before .before .before .before .before .before .before .before .before .before .before .before .before .before .before .before
 
 abbrev font : tie.Then2 → Font
-font c = fontOf (begin c .args .words .now) (begin c .args .flags .now) (begin c .args .unshifted .now) (begin c .args .shifted .now)
+font c = fontOf (begin c .args .words .now) (begin c .args .flags .now) (begin c .args .unshifted .now) (begin c .args .shifted .now) (begin c .args .groups .now)
 
 drawn : (c : tie.Then2) → answerOf (pictureDrawCheck (begin c .args .numbers .now) (begin c .args .chars .now) (begin c .args .attrs .now) (font c) (length (begin c .args .out .now))) .refusal ≡ 0
 drawn c = sym (ap (λ (a : Answer). a .refusal) (c .before .before .before .before .before .before .before .feldrime-picture-draw .ensures .0)) ∙ c .before .before .before .if1 .left
 
 inside : (c : tie.Then2)
     → begin c .args .line * c .before .before .feldrime-page-size .result .dots + lineLength (numbersBoard (begin c .args .numbers .now)) ≤ length (begin c .args .out .now)
-inside c = place-in _ _ _ _ _ _ _ (begin c .args .field) (begin c .args .out .now) (drawn c) _ (c .before .before .feldrime-page-size .ensures) _ (c .if2 .taken)
+inside c = place-in _ _ _ _ _ _ _ _ (begin c .args .field) (begin c .args .out .now) (drawn c) _ (c .before .before .feldrime-page-size .ensures) _ (c .if2 .taken)
 
 mul-a : tie.Need-mul-a
 mul-a c =
     let then = c .before in
-    omega (arith, place-small _ _ _ _ _ _ _ (begin then .args .field) (begin then .args .out .now) (drawn then) _ (then .before .before .feldrime-page-size .ensures) _ (then .if2 .taken))
+    omega (arith, place-small _ _ _ _ _ _ _ _ (begin then .args .field) (begin then .args .out .now) (drawn then) _ (then .before .before .feldrime-page-size .ensures) _ (then .if2 .taken))
 
 sub-feldrime-line-draw : tie.Need-sub-feldrime-line-draw
 sub-feldrime-line-draw c = omega (arith, inside (c .before))
@@ -45,7 +45,7 @@ returns-2 c =
     let then = line .before .before .before in
     let picture = then .before .before .before .before .before .before .before .feldrime-picture-draw in (
       picture .ensures .0,
-      stays _ _ _ _ _ _ _ (begin then .args .field) (begin then .args .out .now) (drawn then) _ (then .before .before .feldrime-page-size .ensures) _ (then .if2 .taken) _ _ (picture .ensures .1) (line .feldrime-line-draw .ensures .1),
+      stays _ _ _ _ _ _ _ _ (begin then .args .field) (begin then .args .out .now) (drawn then) _ (then .before .before .feldrime-page-size .ensures) _ (then .if2 .taken) _ _ (picture .ensures .1) (line .feldrime-line-draw .ensures .1),
     )
 
 pub line-over-picture-spec : {M : Type 1} → statement M
