@@ -17,32 +17,32 @@ use borrow.Author.Tests.{not-true, not-false, eqb-true, eqb-false, eq-eqb, ne_eq
 use Rattle.std.proofs.Math.ListN.{length-set, get_or-append}
 use Rattle.std.proofs.lemmas.List.{set-get_or}
 use Rattle.std.proofs.Math.Seq.{get_or-set_same}
-use Rattle.lists.specs.Tab.{tab, length-tab, getD-tab}
-use Rattle.lists.specs.Search.{anyBelow, none_of, any_none, any_some, first-is}
+use Rattle.lists.specs.Tab.{tab, length-tab, get_or-tab}
+use Rattle.lists.specs.Search.{any_below, none_of, any_none, any_some, first-is}
 use Rattle.raster.specs.declared.Buffer.{Buffer}
-use Rattle.raster.specs.Moves.{advanceBy, advanceBy-zero, advanceBy-add}
+use Rattle.raster.specs.Moves.{advance_by, advance_by-zero, advance_by-add}
 use Rattle.refusal.specs.declared.Refusal.TheVariants.{Done}
-use Rattle.refusal.specs.Number.{wrongSize}
+use Rattle.refusal.specs.Number.{wrong_size}
 use Rattle.board.specs.declared.Page.{Page}
 use Rattle.board.specs.declared.Board.{Board}
-use Rattle.board.specs.Range.{memoryRefused}
-use Rattle.timing.specs.Check.{pageCheck}
-use Rattle.timing.specs.Fields.{ir, codedOf, rows_of, hactOf, table_of, bufferOf}
+use Rattle.board.specs.Range.{memory_refused}
+use Rattle.timing.specs.Check.{page_check}
+use Rattle.timing.specs.Fields.{ir, coded_of, rows_of, hact_of, table_of, buffer_of}
 use Rattle.timing.specs.Laws.{call-passed, buffer-bounded, range-ok, call_ok, call-page}
-use Rattle.fetch.specs.Rows.{byte_at, entry_of, rowStart, cell_at, fetchedOf}
+use Rattle.fetch.specs.Rows.{byte_at, entry_of, row_start, cell_at, fetched_of}
 use Rattle.fetch.specs.Laws.{no-codes, entry_lt, row-start-lt, start-table, start-sheet, cell-shown}
-use Rattle.board.specs.Parts.{withIrs, withStarts, withPage}
-use Rattle.catalogue.specs.ToTable.{fetchesCell, tableSize, tablePlaces, unfetchedAt, tablePlace, tableByte, asTablePage, asTableChars, ownCheck, asTableCheck, moved_to, as_table, asTableLeft}
-use Rattle.catalogue.specs.ToSheet.{followsRow, rowsApart, asSheetPage, asSheetCheck, asSheet}
+use Rattle.board.specs.Parts.{with_irs, with_starts, with_page}
+use Rattle.catalogue.specs.ToTable.{fetches_cell, table_size, table_places, unfetched_at, table_place, table_byte, as_table_page, as_table_chars, own_check, as_table_check, moved_to, as_table, as_table_left}
+use Rattle.catalogue.specs.ToSheet.{follows_row, rows_apart, as_sheet_page, as_sheet_check, as_sheet}
 use Rattle.catalogue.specs.Marks.{Movable, Returnable, as-table-passed, as-sheet-passed}
 use Rattle.alike.specs.Pages.{Same, same_coded, same-buffer, same-hact, same_rows, same-accepted, video-passed, same-state}
 use Rattle.alike.specs.Views.{view_of, Alike}
 use Rattle.alike.specs.Shown.{Shows, shows-on, alike-shows}
-use Rattle.agreement.specs.Rows.{nthCell, cell_in}
+use Rattle.agreement.specs.Rows.{nth_cell, cell_in}
 
 -- a page with other registers and screen starts
 abbrev pub changed : Page → (irs : List ℕ) → (start1 start2 : ℕ) → Page
-changed p irs s t = withStarts (withIrs p irs) (record { start1 = s; cursor = p.starts.cursor; start2 = t })
+changed p irs s t = with_starts (with_irs p irs) (record { start1 = s; cursor = p.starts.cursor; start2 = t })
 
 -- as `alike` has it, if of the registers IR2 alone is another and keeps its seven low bits
 kept-page : (p : Page) (x s t : ℕ) → 2 < length p.irs → x % 128 ≡ ir p 2 % 128 → Same p (changed p (set p.irs 2 x) s t)
@@ -112,7 +112,7 @@ module _ (b : Board) (chars : List ℕ) (m : Movable b chars) (registers : 2 < l
   p = b.page
 
   abbrev place : ℕ
-  place = tablePlace p chars
+  place = table_place p chars
 
   abbrev irs' : List ℕ
   irs' = set p.irs 2 (ir p 2 % 128 + 128)
@@ -121,7 +121,7 @@ module _ (b : Board) (chars : List ℕ) (m : Movable b chars) (registers : 2 < l
   q = changed p irs' p.starts.start1 place
 
   abbrev chars' : List ℕ
-  chars' = asTableChars p chars place
+  chars' = as_table_chars p chars place
 
   same-page : Same p q
   same-page = kept-page p (ir p 2 % 128 + 128) p.starts.start1 place registers (omega arith)
@@ -132,26 +132,26 @@ module _ (b : Board) (chars : List ℕ) (m : Movable b chars) (registers : 2 < l
       let e = get_or-set_same p.irs 2 (ir p 2 % 128 + 128) 0 registers in
       eq-eqb (ir q 2 / 128 % 2) 1 (omega (arith, e))
 
-  plain : codedOf q ≡ false
+  plain : coded_of q ≡ false
   plain = sym (same_coded same-page) ∙ m.page.coded m.off
 
-  room : place + tableSize p ≤ length chars
+  room : place + table_size p ≤ length chars
   room = omega (arith, m.found, m.whole)
 
-  bytes-long : length (tab (tableSize p) (tableByte p chars)) ≡ tableSize p
-  bytes-long = length-tab (tableSize p) (tableByte p chars)
+  bytes-long : length (tab (table_size p) (table_byte p chars)) ≡ table_size p
+  bytes-long = length-tab (table_size p) (table_byte p chars)
 
   -- the table's bytes
-  byte-tabled : (i : ℕ) → i < tableSize p → byte_at chars' (place + i) ≡ tableByte p chars i
-  unfolding asTableChars
+  byte-tabled : (i : ℕ) → i < table_size p → byte_at chars' (place + i) ≡ table_byte p chars i
+  unfolding as_table_chars
   byte-tabled i h =
       let e : (place + i) % 16384 ≡ place + i = omega (arith, h, m.found) in
-      rw e (put_in chars (tab (tableSize p) (tableByte p chars)) place (tableSize p) bytes-long room i h ∙ getD-tab (tableSize p) (tableByte p chars) i h)
+      rw e (put_in chars (tab (table_size p) (table_byte p chars)) place (table_size p) bytes-long room i h ∙ get_or-tab (table_size p) (table_byte p chars) i h)
 
-  entry-tabled : (r : ℕ) → r < rows_of p → entry_of q chars' r ≡ rowStart p chars r
-  unfolding entry_of tableByte
+  entry-tabled : (r : ℕ) → r < rows_of p → entry_of q chars' r ≡ row_start p chars r
+  unfolding entry_of table_byte
   entry-tabled r h =
-      let x = rowStart p chars r in
+      let x = row_start p chars r in
       let lt = row-start-lt p chars m.page r in
       let low = byte-tabled (2 * r) (omega (arith, h)) in
       let high = byte-tabled (2 * r + 1) (omega (arith, h)) in
@@ -162,28 +162,28 @@ module _ (b : Board) (chars : List ℕ) (m : Movable b chars) (registers : 2 < l
       let half-too : (2 * r + 1) / 2 ≡ r = omega arith in
       rw (at_high, low, high, even, odd, half, half-too) (omega (arith, lt))
 
-  fetches : (r c : ℕ) → r < rows_of p → c < hactOf p → fetchesCell p chars (cell_at p chars r c) ≡ true
-  unfolding fetchesCell
+  fetches : (r c : ℕ) → r < rows_of p → c < hact_of p → fetches_cell p chars (cell_at p chars r c) ≡ true
+  unfolding fetches_cell
   fetches r c h l =
       any_some _ (rows_of p) r h
-      (any_some _ (fetchedOf p chars r) (nthCell b chars r c) (cell_in b chars r c l) (eq-eqb _ _ (cell-shown p chars r c l)))
+      (any_some _ (fetched_of p chars r) (nth_cell b chars r c) (cell_in b chars r c l) (eq-eqb _ _ (cell-shown p chars r c l)))
 
   -- no row fetches a cell of the table
-  not-in-table : (r c : ℕ) → r < rows_of p → c < hactOf p → place ≤ cell_at p chars r c → cell_at p chars r c < place + tableSize p → ⊥
-  unfolding tablePlace unfetchedAt
+  not-in-table : (r c : ℕ) → r < rows_of p → c < hact_of p → place ≤ cell_at p chars r c → cell_at p chars r c < place + table_size p → ⊥
+  unfolding table_place unfetched_at
   not-in-table r c h l low high =
       let x = cell_at p chars r c in
-      let free : anyBelow (λ i. fetchesCell p chars (place + i)) (tableSize p) ≡ false = not-true _ (first-is (unfetchedAt p chars) (tablePlaces p) m.found).0 in
+      let free : any_below (λ i. fetches_cell p chars (place + i)) (table_size p) ≡ false = not-true _ (first-is (unfetched_at p chars) (table_places p) m.found).0 in
       let e : place + (x - place) ≡ x = omega (arith, low) in
-      let none = none_of (λ i. fetchesCell p chars (place + i)) (tableSize p) free (x - place) (omega (arith, low, high)) in
-      true≢false (sym (fetches r c h l) ∙ ap (fetchesCell p chars) (sym e) ∙ none)
+      let none = none_of (λ i. fetches_cell p chars (place + i)) (table_size p) free (x - place) (omega (arith, low, high)) in
+      true≢false (sym (fetches r c h l) ∙ ap (fetches_cell p chars) (sym e) ∙ none)
 
   -- of memory nothing but the table's cells has changed
-  pub kept-cells : (x : ℕ) → (place ≤ x → x < place + tableSize p → ⊥) → get_or chars' x 0 ≡ get_or chars x 0
-  unfolding asTableChars
-  kept-cells x f = put-out chars (tab (tableSize p) (tableByte p chars)) place (tableSize p) bytes-long room x f
+  pub kept-cells : (x : ℕ) → (place ≤ x → x < place + table_size p → ⊥) → get_or chars' x 0 ≡ get_or chars x 0
+  unfolding as_table_chars
+  kept-cells x f = put-out chars (tab (table_size p) (table_byte p chars)) place (table_size p) bytes-long room x f
 
-  pub as-table-alike : (attrs : List ℕ) → Alike (view_of b chars attrs) (view_of (withPage b q) chars' attrs)
+  pub as-table-alike : (attrs : List ℕ) → Alike (view_of b chars attrs) (view_of (with_page b q) chars' attrs)
   as-table-alike attrs = record {
     board = refl;
     page = same-page;
@@ -192,63 +192,63 @@ module _ (b : Board) (chars : List ℕ) (m : Movable b chars) (registers : 2 < l
     bytes = λ r c h l. (sym (kept-cells (cell_at p chars r c) (not-in-table r c h l)), refl);
   }
 
-  page-ok : pageCheck p ≡ Done
-  unfolding ownCheck
-  page-ok = call-page b (wrongSize (memoryRefused (length chars))) false false m.own
+  page-ok : page_check p ≡ Done
+  unfolding own_check
+  page-ok = call-page b (wrong_size (memory_refused (length chars))) false false m.own
 
   -- the moved page is accepted
-  pub as-table-accepted : pageCheck (asTablePage p place) ≡ Done
-  unfolding asTablePage
+  pub as-table-accepted : page_check (as_table_page p place) ≡ Done
+  unfolding as_table_page
   as-table-accepted = same-accepted same-page page-ok m.page.start1 (omega (arith, m.found)) (video-passed p page-ok) (rw plain)
 
   chars-whole : length chars' ≡ length chars
-  unfolding asTableChars
-  chars-whole = length-put chars (tab (tableSize p) (tableByte p chars)) place (tableSize p) bytes-long room
+  unfolding as_table_chars
+  chars-whole = length-put chars (tab (table_size p) (table_byte p chars)) place (table_size p) bytes-long room
 
   -- so it shows the same
-  pub as-table-shown : ShowsSame b chars (withPage b (asTablePage p place)) chars'
-  unfolding asTablePage
+  pub as-table-shown : ShowsSame b chars (with_page b (as_table_page p place)) chars'
+  unfolding as_table_page
   as-table-shown attrs = alike-shows (as-table-alike attrs) (sym chars-whole) refl page-ok as-table-accepted
 
   -- ---- there and back
 
-  row_zero : rowStart p chars 0 ≡ p.starts.start1
+  row_zero : row_start p chars 0 ≡ p.starts.start1
   row_zero =
       sym (start-sheet p chars 0 m.off)
-      ∙ ap (λ (k : ℕ). advanceBy (bufferOf p) k p.starts.start1) (zero-mul (hactOf p))
-      ∙ advanceBy-zero (bufferOf p) p.starts.start1 (omega (arith, m.page.start1))
+      ∙ ap (λ (k : ℕ). advance_by (buffer_of p) k p.starts.start1) (zero-mul (hact_of p))
+      ∙ advance_by-zero (buffer_of p) p.starts.start1 (omega (arith, m.page.start1))
 
-  row_next : (r : ℕ) → rowStart p chars (r + 1) ≡ advanceBy (bufferOf p) (hactOf p) (rowStart p chars r)
+  row_next : (r : ℕ) → row_start p chars (r + 1) ≡ advance_by (buffer_of p) (hact_of p) (row_start p chars r)
   row_next r =
-      let B = bufferOf p in
-      let H = hactOf p in
+      let B = buffer_of p in
+      let H = hact_of p in
       let more : (r + 1) * H ≡ H + r * H = omega (arith, suc-mul r H, ap (λ (k : ℕ). k * H) (add-one r)) in
       sym (start-sheet p chars (r + 1) m.off)
-      ∙ ap (λ (k : ℕ). advanceBy B k p.starts.start1) more
-      ∙ advanceBy-add B (buffer-bounded p) H (r * H) p.starts.start1 (omega (arith, m.page.start1))
-      ∙ ap (advanceBy B H) (start-sheet p chars r m.off)
+      ∙ ap (λ (k : ℕ). advance_by B k p.starts.start1) more
+      ∙ advance_by-add B (buffer-bounded p) H (r * H) p.starts.start1 (omega (arith, m.page.start1))
+      ∙ ap (advance_by B H) (start-sheet p chars r m.off)
 
   -- nothing refuses the way back
-  rows-follow : rowsApart q chars' ≡ false
-  unfolding rowsApart followsRow
+  rows-follow : rows_apart q chars' ≡ false
+  unfolding rows_apart follows_row
   rows-follow =
       any_none _ (rows_of q - 1) (λ r h.
       let rows = same_rows same-page in
       let here = entry-tabled r (omega (arith, h, rows)) in
       let next = entry-tabled (r + 1) (omega (arith, h, rows)) in
-      ap not (eq-eqb _ _ (next ∙ row_next r ∙ ap₂ (λ (u : Buffer) (w : ℕ). advanceBy u w (rowStart p chars r)) (same-buffer same-page) (same-hact same-page)
-      ∙ ap (advanceBy (bufferOf q) (hactOf q)) (sym here))))
+      ap not (eq-eqb _ _ (next ∙ row_next r ∙ ap₂ (λ (u : Buffer) (w : ℕ). advance_by u w (row_start p chars r)) (same-buffer same-page) (same-hact same-page)
+      ∙ ap (advance_by (buffer_of q) (hact_of q)) (sym here))))
 
-  own-as-table : ownCheck (withPage b q) (length chars') ≡ Done
-  unfolding ownCheck asTablePage
+  own-as-table : own_check (with_page b q) (length chars') ≡ Done
+  unfolding own_check as_table_page
   own-as-table =
-      let all = call-passed b (wrongSize (memoryRefused (length chars))) false false m.own in
+      let all = call-passed b (wrong_size (memory_refused (length chars))) false false m.own in
       let state = sym (same-state b q same-page) ∙ range-ok b all.state in
-      let sized : wrongSize (memoryRefused (length chars')) ≡ Done = rw chars-whole all.lent-fine in
-      call_ok (withPage b q) (wrongSize (memoryRefused (length chars'))) sized as-table-accepted state
+      let sized : wrong_size (memory_refused (length chars')) ≡ Done = rw chars-whole all.lent-fine in
+      call_ok (with_page b q) (wrong_size (memory_refused (length chars'))) sized as-table-accepted state
 
-  as-sheet-done : asSheetCheck (withPage b q) chars' ≡ Done
-  unfolding asSheetCheck
+  as-sheet-done : as_sheet_check (with_page b q) chars' ≡ Done
+  unfolding as_sheet_check
   as-sheet-done = rw (own-as-table, table_on, plain, rows-follow)
 
   -- a register is a byte
@@ -264,23 +264,23 @@ module _ (b : Board) (chars : List ℕ) (m : Movable b chars) (registers : 2 < l
     registers-back = set_twice p.irs 2 (ir p 2 % 128 + 128) (ir q 2 % 128) ∙ ap (set p.irs 2) low_bits ∙ set-get_or p.irs 2 0
 
     -- there and back: nothing but screen start 2 has changed
-    pub returned : asSheet (withPage b q) chars' ≡ moved_to Done (withPage b (changed p p.irs p.starts.start1 place))
-    unfolding asSheet asSheetPage
+    pub returned : as_sheet (with_page b q) chars' ≡ moved_to Done (with_page b (changed p p.irs p.starts.start1 place))
+    unfolding as_sheet as_sheet_page
     returned =
         let start = entry-tabled 0 (omega arith) ∙ row_zero in
-        rw as-sheet-done (ap₂ (λ (l : List ℕ) (x : ℕ). moved_to Done (withPage b (changed p l x place))) registers-back start)
+        rw as-sheet-done (ap₂ (λ (l : List ℕ) (x : ℕ). moved_to Done (with_page b (changed p l x place))) registers-back start)
 
 -- ---- moving back
 
 module _ (b : Board) (chars : List ℕ) (m : Returnable b chars) (registers : 2 < length b.page.irs) where
-  abbrev sheetIrs : List ℕ
-  sheetIrs = set b.page.irs 2 (ir b.page 2 % 128)
+  abbrev sheet_irs : List ℕ
+  sheet_irs = set b.page.irs 2 (ir b.page 2 % 128)
 
   abbrev first : ℕ
   first = entry_of b.page chars 0
 
   abbrev sheet : Page
-  sheet = changed b.page sheetIrs first b.page.starts.start2
+  sheet = changed b.page sheet_irs first b.page.starts.start2
 
   sheet-same : Same b.page sheet
   sheet-same = kept-page b.page (ir b.page 2 % 128) first b.page.starts.start2 registers (omega arith)
@@ -291,27 +291,27 @@ module _ (b : Board) (chars : List ℕ) (m : Returnable b chars) (registers : 2 
       let e = get_or-set_same b.page.irs 2 (ir b.page 2 % 128) 0 registers in
       ne_eqb (ir sheet 2 / 128 % 2) 1 (λ z. omega (arith, e, z))
 
-  sheet-plain : codedOf sheet ≡ false
+  sheet-plain : coded_of sheet ≡ false
   sheet-plain = sym (same_coded sheet-same) ∙ m.codeless
 
   -- the rows follow one another
-  follows_on : (r : ℕ) → r < rows_of b.page → entry_of b.page chars r ≡ advanceBy (bufferOf b.page) (r * hactOf b.page) first
-  unfolding rowsApart followsRow
+  follows_on : (r : ℕ) → r < rows_of b.page → entry_of b.page chars r ≡ advance_by (buffer_of b.page) (r * hact_of b.page) first
+  unfolding rows_apart follows_row
   follows_on zero h =
-      sym (ap (λ (k : ℕ). advanceBy (bufferOf b.page) k first) (zero-mul (hactOf b.page)) ∙ advanceBy-zero (bufferOf b.page) first (entry_lt b.page chars 0))
+      sym (ap (λ (k : ℕ). advance_by (buffer_of b.page) k first) (zero-mul (hact_of b.page)) ∙ advance_by-zero (buffer_of b.page) first (entry_lt b.page chars 0))
   follows_on (suc r) h =
-      let B = bufferOf b.page in
-      let H = hactOf b.page in
-      let next = none_of (λ k. not (followsRow b.page chars k)) (rows_of b.page - 1) m.joined r (omega (arith, h)) in
-      let is : entry_of b.page chars (r + 1) ≡ advanceBy B H (entry_of b.page chars r) = eqb-true _ _ (not-false _ next) in
+      let B = buffer_of b.page in
+      let H = hact_of b.page in
+      let next = none_of (λ k. not (follows_row b.page chars k)) (rows_of b.page - 1) m.joined r (omega (arith, h)) in
+      let is : entry_of b.page chars (r + 1) ≡ advance_by B H (entry_of b.page chars r) = eqb-true _ _ (not-false _ next) in
       let more : H + r * H ≡ suc r * H = omega (arith, suc-mul r H) in
       ap (entry_of b.page chars) (sym (add-one r))
       ∙ is
-      ∙ ap (advanceBy B H) (follows_on r (omega (arith, h)))
-      ∙ sym (advanceBy-add B (buffer-bounded b.page) H (r * H) first (entry_lt b.page chars 0))
-      ∙ ap (λ (k : ℕ). advanceBy B k first) more
+      ∙ ap (advance_by B H) (follows_on r (omega (arith, h)))
+      ∙ sym (advance_by-add B (buffer-bounded b.page) H (r * H) first (entry_lt b.page chars 0))
+      ∙ ap (λ (k : ℕ). advance_by B k first) more
 
-  pub as-sheet-alike : (attrs : List ℕ) → Alike (view_of b chars attrs) (view_of (withPage b sheet) chars attrs)
+  pub as-sheet-alike : (attrs : List ℕ) → Alike (view_of b chars attrs) (view_of (with_page b sheet) chars attrs)
   as-sheet-alike attrs = record {
     board = refl;
     page = sheet-same;
@@ -319,22 +319,22 @@ module _ (b : Board) (chars : List ℕ) (m : Returnable b chars) (registers : 2 
     start = λ r h.
         sym (start-table b.page chars r m.on)
         ∙ follows_on r h
-        ∙ ap₂ (λ (u : Buffer) (n : ℕ). advanceBy u (r * n) first) (same-buffer sheet-same) (same-hact sheet-same)
+        ∙ ap₂ (λ (u : Buffer) (n : ℕ). advance_by u (r * n) first) (same-buffer sheet-same) (same-hact sheet-same)
         ∙ start-sheet sheet chars r sheet-off;
     bytes = λ r c h l. (refl, refl);
   }
 
-  sheet-page-ok : pageCheck b.page ≡ Done
-  unfolding ownCheck
-  sheet-page-ok = call-page b (wrongSize (memoryRefused (length chars))) false false m.own
+  sheet-page-ok : page_check b.page ≡ Done
+  unfolding own_check
+  sheet-page-ok = call-page b (wrong_size (memory_refused (length chars))) false false m.own
 
-  pub as-sheet-accepted : pageCheck (asSheetPage b.page chars) ≡ Done
-  unfolding asSheetPage
+  pub as-sheet-accepted : page_check (as_sheet_page b.page chars) ≡ Done
+  unfolding as_sheet_page
   as-sheet-accepted = same-accepted sheet-same sheet-page-ok (omega (arith, entry_lt b.page chars 0)) m.page.start2 (video-passed b.page sheet-page-ok) (rw sheet-plain)
 
   -- so it shows the same
-  pub as-sheet-shown : ShowsSame b chars (withPage b (asSheetPage b.page chars)) chars
-  unfolding asSheetPage
+  pub as-sheet-shown : ShowsSame b chars (with_page b (as_sheet_page b.page chars)) chars
+  unfolding as_sheet_page
   as-sheet-shown attrs = alike-shows (as-sheet-alike attrs) refl refl sheet-page-ok as-sheet-accepted
 
 -- ---- as the calls answer
@@ -342,35 +342,35 @@ module _ (b : Board) (chars : List ℕ) (m : Returnable b chars) (registers : 2 
 -- [R-5 same]
 -- a sheet that `to_table` moves shows the same: it is accepted, its pictures are the same in every field and both attribute modes, and so are signals, address and dots of every step. Here and below a
 -- board's registers reach to IR2, as those of every board in the code do
-pub as-table-shows : (b : Board) (chars : List ℕ) → 2 < length b.page.irs → asTableCheck b chars ≡ Done → ShowsSame b chars (as_table b chars).board (asTableLeft b chars)
-unfolding as_table asTableLeft
+pub as-table-shows : (b : Board) (chars : List ℕ) → 2 < length b.page.irs → as_table_check b chars ≡ Done → ShowsSame b chars (as_table b chars).board (as_table_left b chars)
+unfolding as_table as_table_left
 as-table-shows b chars registers ok = rw ok (as-table-shown b chars (as-table-passed b chars ok) registers)
 
 module _ (b : Board) (chars : List ℕ) (registers : 2 < length b.page.irs) where
   -- [R-5 sheet]
   -- so does a page that `to_sheet` moves
-  pub as-sheet-shows : asSheetCheck b chars ≡ Done → ShowsSame b chars (asSheet b chars).board chars
-  unfolding asSheet
+  pub as-sheet-shows : as_sheet_check b chars ≡ Done → ShowsSame b chars (as_sheet b chars).board chars
+  unfolding as_sheet
   as-sheet-shows ok = rw ok (as-sheet-shown b chars (as-sheet-passed b chars ok) registers)
 
-  registers-kept : asSheetCheck b chars ≡ Done → 2 < length (asSheet b chars).board.page.irs
-  unfolding asSheet asSheetPage
+  registers-kept : as_sheet_check b chars ≡ Done → 2 < length (as_sheet b chars).board.page.irs
+  unfolding as_sheet as_sheet_page
   registers-kept ok = rw (ok, length-set b.page.irs 2 (ir b.page 2 % 128)) registers
 
   -- and one that is moved back and there again
-  pub sheet-then-table : asSheetCheck b chars ≡ Done → asTableCheck (asSheet b chars).board chars ≡ Done
-      → ShowsSame b chars (as_table (asSheet b chars).board chars).board (asTableLeft (asSheet b chars).board chars)
-  sheet-then-table ok again attrs = shows-on (as-sheet-shows ok attrs) (as-table-shows (asSheet b chars).board chars (registers-kept ok) again attrs)
+  pub sheet-then-table : as_sheet_check b chars ≡ Done → as_table_check (as_sheet b chars).board chars ≡ Done
+      → ShowsSame b chars (as_table (as_sheet b chars).board chars).board (as_table_left (as_sheet b chars).board chars)
+  sheet-then-table ok again attrs = shows-on (as-sheet-shows ok attrs) (as-table-shows (as_sheet b chars).board chars (registers-kept ok) again attrs)
 
   -- [R-5 both] a sheet moved there and back differs only in screen start 2 and the table's cells
   -- a sheet that is moved there and back has another screen start 2, and nothing else of its board has changed
-  pub table-then-sheet : ir b.page 2 < 256 → asTableCheck b chars ≡ Done
-      → asSheet (as_table b chars).board (asTableLeft b chars) ≡ moved_to Done (withPage b (changed b.page b.page.irs b.page.starts.start1 (tablePlace b.page chars)))
-  unfolding as_table asTableLeft asTablePage
+  pub table-then-sheet : ir b.page 2 < 256 → as_table_check b chars ≡ Done
+      → as_sheet (as_table b chars).board (as_table_left b chars) ≡ moved_to Done (with_page b (changed b.page b.page.irs b.page.starts.start1 (table_place b.page chars)))
+  unfolding as_table as_table_left as_table_page
   table-then-sheet byte ok = rw ok (returned b chars (as-table-passed b chars ok) registers byte)
 
   -- [R-5 table]
   -- and of memory the table's cells
-  pub memory-back : asTableCheck b chars ≡ Done → (x : ℕ) → (tablePlace b.page chars ≤ x → x < tablePlace b.page chars + tableSize b.page → ⊥) → get_or (asTableLeft b chars) x 0 ≡ get_or chars x 0
-  unfolding asTableLeft
+  pub memory-back : as_table_check b chars ≡ Done → (x : ℕ) → (table_place b.page chars ≤ x → x < table_place b.page chars + table_size b.page → ⊥) → get_or (as_table_left b chars) x 0 ≡ get_or chars x 0
+  unfolding as_table_left
   memory-back ok x out = rw ok (kept-cells b chars (as-table-passed b chars ok) registers x out)

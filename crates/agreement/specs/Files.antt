@@ -13,145 +13,145 @@ use Rattle.std.proofs.Math.Seq.{drop_at}
 use Rattle.lists.specs.Choice.{pick, neither}
 use Rattle.lists.specs.Tab.{length-tab}
 use Rattle.refusal.specs.declared.Refusal.TheVariants.{Done}
-use Rattle.refusal.specs.Number.{wrongSize}
+use Rattle.refusal.specs.Number.{wrong_size}
 use Rattle.board.specs.declared.Page.{Page}
 use Rattle.board.specs.declared.Board.{Board}
-use Rattle.board.specs.State.{boardOf}
-use Rattle.board.specs.Layout.{newestVersion, layoutOf, lengthField, charsPlace, attrsPlace, fileSize}
-use Rattle.board.specs.Range.{memoriesRefused}
+use Rattle.board.specs.State.{board_of}
+use Rattle.board.specs.Layout.{newest_version, layout_of, length_field, chars_place, attrs_place, file_size}
+use Rattle.board.specs.Range.{memories_refused}
 use Rattle.board.specs.Laws.{layout-kept}
-use Rattle.timing.specs.Check.{pageCheck, stateRefused}
+use Rattle.timing.specs.Check.{page_check, state_refused}
 use Rattle.timing.specs.Laws.{range-ok, call_ok, call-page}
-use Rattle.shape.specs.Font.{Font, fontRefused, groupsCheck}
+use Rattle.shape.specs.Font.{Font, font_refused, groups_check}
 use Rattle.copies.specs.Put.{length_part}
-use Rattle.files.specs.Page.{word_at, versionIn, pageAt, keptPage}
-use Rattle.files.specs.File.{longAt, versionRefused, lengthRefused, fileCheck, readCheck, pageRead, readPageOf, charsRead, attrsRead, head_of, fileOf, writeCheck, written}
-use Rattle.files.specs.FontFile.{fontLength, fontSize, fileGroups, fontShort, fontCheck, fontIn, fontRead, fontVersion, fontFileOf, fontWriteCheck, fontWritten, fileFont}
+use Rattle.files.specs.Page.{word_at, version_in, page_at, kept_page}
+use Rattle.files.specs.File.{long_at, version_refused, length_refused, file_check, read_check, page_read, read_page_of, chars_read, attrs_read, head_of, file_of, write_check, written}
+use Rattle.files.specs.FontFile.{font_length, font_size, file_groups, font_short, font_check, font_in, font_read, font_version, font_file_of, font_write_check, font_written, file_font}
 use Rattle.files.specs.Laws.{version-known, file-sized, FilePassed, file-passed, head-all, write-passed}
 use Rattle.files.specs.Round.{Bytes, page-again, page-kept, kept-check, written_known}
 use Rattle.files.specs.FontLaws.{font-least}
 use Rattle.files.specs.FontRound.{groups-own, groups-many, version-own, font-again}
-use Rattle.numbers.specs.Numbers.{numbersRefused}
-use Rattle.numbers.specs.Files.{numbersRead}
+use Rattle.numbers.specs.Numbers.{numbers_refused}
+use Rattle.numbers.specs.Files.{numbers_read}
 use Rattle.numbers.specs.Laws.{numbers-long, numbers-page}
 
 -- an accepted file's length
-length-is : (file : List ℕ) (n : ℕ) → lengthRefused file n ≡ false → longAt file 1 ≡ n
-unfolding lengthRefused
-length-is file n e = eqb-true _ _ (not-false _ (neither (not (eqb (length file) (n + 5))) (not (eqb (longAt file 1) n)) e).1)
+length-is : (file : List ℕ) (n : ℕ) → length_refused file n ≡ false → long_at file 1 ≡ n
+unfolding length_refused
+length-is file n e = eqb-true _ _ (not-false _ (neither (not (eqb (length file) (n + 5))) (not (eqb (long_at file 1) n)) e).1)
 
-pub zero_ok : (p : Page) → stateRefused (boardOf p) ≡ false
-zero_ok p = range-ok (boardOf p) (record { line-lt = omega arith; clock-lt = omega arith; beam-le = omega arith; row-le = omega arith; pointer-le = omega arith })
+pub zero_ok : (p : Page) → state_refused (board_of p) ≡ false
+zero_ok p = range-ok (board_of p) (record { line-lt = omega arith; clock-lt = omega arith; beam-le = omega arith; row-le = omega arith; pointer-le = omega arith })
 
-write-ok : (p : Page) (n : ℕ) → pageCheck p ≡ Done → fileSize p.version ≤ n → writeCheck (boardOf p) 16384 16384 n ≡ Done
-unfolding writeCheck
-write-ok p n ok l = call_ok (boardOf p) (wrongSize (ltb n (fileSize p.version))) (ap wrongSize (le-ltb n (fileSize p.version) l)) ok (zero_ok p)
+write-ok : (p : Page) (n : ℕ) → page_check p ≡ Done → file_size p.version ≤ n → write_check (board_of p) 16384 16384 n ≡ Done
+unfolding write_check
+write-ok p n ok l = call_ok (board_of p) (wrong_size (ltb n (file_size p.version))) (ap wrong_size (le-ltb n (file_size p.version) l)) ok (zero_ok p)
 
 -- ---- a page file, read and written again
 
-module _ (file : List ℕ) (size : Bool) (ok : readCheck file size ≡ Done) where
-  pub file-ok : FilePassed file newestVersion (lengthField (versionIn file)) size (pageCheck (pageAt file 5))
-  unfolding readCheck
-  file-ok = file-passed file newestVersion (lengthField (versionIn file)) size (pageCheck (pageAt file 5)) ok
+module _ (file : List ℕ) (size : Bool) (ok : read_check file size ≡ Done) where
+  pub file-ok : FilePassed file newest_version (length_field (version_in file)) size (page_check (page_at file 5))
+  unfolding read_check
+  file-ok = file-passed file newest_version (length_field (version_in file)) size (page_check (page_at file 5)) ok
 
-  file-length : length file ≡ fileSize (versionIn file)
-  file-length = file-sized file (lengthField (versionIn file)) file-ok.length-ok
+  file-length : length file ≡ file_size (version_in file)
+  file-length = file-sized file (length_field (version_in file)) file-ok.length-ok
 
   -- the memories that it leaves have their size
-  pub chars-read-all : (chars : List ℕ) → length (charsRead file size chars) ≡ 16384
-  unfolding charsRead
-  chars-read-all chars = rw ok (length_part file (charsPlace (versionIn file)) 16384 (omega (arith, file-length)))
+  pub chars-read-all : (chars : List ℕ) → length (chars_read file size chars) ≡ 16384
+  unfolding chars_read
+  chars-read-all chars = rw ok (length_part file (chars_place (version_in file)) 16384 (omega (arith, file-length)))
 
-  pub attrs-read-all : (attrs : List ℕ) → length (attrsRead file size attrs) ≡ 16384
-  unfolding attrsRead
-  attrs-read-all attrs = rw ok (length_part file (attrsPlace (versionIn file)) 16384 (omega (arith, file-length)))
+  pub attrs-read-all : (attrs : List ℕ) → length (attrs_read file size attrs) ≡ 16384
+  unfolding attrs_read
+  attrs-read-all attrs = rw ok (length_part file (attrs_place (version_in file)) 16384 (omega (arith, file-length)))
 
   -- as C has them, the numbers are refused by nothing, and are the file's page
-  pub numbers-fine : (numbers : List ℕ) → numbersRefused (numbersRead file size numbers) ≡ false
-  unfolding numbersRead numbersRefused
+  pub numbers-fine : (numbers : List ℕ) → numbers_refused (numbers_read file size numbers) ≡ false
+  unfolding numbers_read numbers_refused
   numbers-fine numbers = rw (ok, numbers-long file (omega (arith, file-length))) file-ok.version-ok
 
-  pub numbers-are : (numbers : List ℕ) → pageAt (numbersRead file size numbers) 1 ≡ pageAt file 5
-  unfolding numbersRead
+  pub numbers-are : (numbers : List ℕ) → page_at (numbers_read file size numbers) 1 ≡ page_at file 5
+  unfolding numbers_read
   numbers-are numbers = rw ok (numbers-page file (omega (arith, file-length)))
 
-module _ (file : List ℕ) (bytes : Bytes file) (size : Bool) (ok : readCheck file size ≡ Done) where
-  same_bytes : fileOf (pageAt file 5) (take 16384 (drop (charsPlace (versionIn file)) file)) (take 16384 (drop (attrsPlace (versionIn file)) file)) ≡ file
+module _ (file : List ℕ) (bytes : Bytes file) (size : Bool) (ok : read_check file size ≡ Done) where
+  same_bytes : file_of (page_at file 5) (take 16384 (drop (chars_place (version_in file)) file)) (take 16384 (drop (attrs_place (version_in file)) file)) ≡ file
   same_bytes =
       let passed = file-ok file size ok in
-      page-again file bytes (file-length file size ok) passed.version-ok (length-is file (lengthField (versionIn file)) passed.length-ok)
+      page-again file bytes (file-length file size ok) passed.version-ok (length-is file (length_field (version_in file)) passed.length-ok)
 
-  pub again : (chars attrs out : List ℕ) → fileSize (versionIn file) ≤ length out
-      → (writeCheck (boardOf (pageAt file 5)) (length (charsRead file size chars)) (length (attrsRead file size attrs)) (length out) ≡ Done)
-      × (written (boardOf (pageAt file 5)) (charsRead file size chars) (attrsRead file size attrs) out ≡ file ++ drop (fileSize (versionIn file)) out)
-  unfolding charsRead attrsRead written pageAt
+  pub again : (chars attrs out : List ℕ) → file_size (version_in file) ≤ length out
+      → (write_check (board_of (page_at file 5)) (length (chars_read file size chars)) (length (attrs_read file size attrs)) (length out) ≡ Done)
+      × (written (board_of (page_at file 5)) (chars_read file size chars) (attrs_read file size attrs) out ≡ file ++ drop (file_size (version_in file)) out)
+  unfolding chars_read attrs_read written page_at
   again chars attrs out l = rw (chars-read-all file size ok chars, attrs-read-all file size ok attrs, fine, ok) (refl, rw same_bytes)
     where
-      fine : writeCheck (boardOf (pageAt file 5)) 16384 16384 (length out) ≡ Done
-      fine = write-ok (pageAt file 5) (length out) (file-ok file size ok).rest_ok l
+      fine : write_check (board_of (page_at file 5)) 16384 16384 (length out) ≡ Done
+      fine = write-ok (page_at file 5) (length out) (file-ok file size ok).rest_ok l
 
   -- [demand round] a page file accepted and written again is the same bytes
   -- the write answers 0, and out begins with the file
-  pub page-same : (chars attrs out : List ℕ) → fileSize (versionIn file) ≤ length out
-      → (writeCheck (readPageOf file size).board (length (charsRead file size chars)) (length (attrsRead file size attrs)) (length out) ≡ Done)
-      × (written (readPageOf file size).board (charsRead file size chars) (attrsRead file size attrs) out ≡ file ++ drop (fileSize (versionIn file)) out)
-  unfolding readPageOf
+  pub page-same : (chars attrs out : List ℕ) → file_size (version_in file) ≤ length out
+      → (write_check (read_page_of file size).board (length (chars_read file size chars)) (length (attrs_read file size attrs)) (length out) ≡ Done)
+      × (written (read_page_of file size).board (chars_read file size chars) (attrs_read file size attrs) out ≡ file ++ drop (file_size (version_in file)) out)
+  unfolding read_page_of
   page-same chars attrs out l = rw ok (again chars attrs out l)
 
 -- ---- a board, written and read again
 
-pub length-file : (p : Page) (chars attrs : List ℕ) → length p.irs ≡ 15 → length chars ≡ 16384 → length attrs ≡ 16384 → length (fileOf p chars attrs) ≡ fileSize p.version
-unfolding fileOf
+pub length-file : (p : Page) (chars attrs : List ℕ) → length p.irs ≡ 15 → length chars ≡ 16384 → length attrs ≡ 16384 → length (file_of p chars attrs) ≡ file_size p.version
+unfolding file_of
 length-file p chars attrs n c a = length-append (head_of p) (chars ++ attrs) ∙ rw (head-all p n, length-append chars attrs, c, a) (omega arith)
 
 -- a board has fifteen IRs
 module _ (b : Board) (irs-all : length b.page.irs ≡ 15) (chars attrs out : List ℕ)
-    (ok : writeCheck b (length chars) (length attrs) (length out) ≡ Done) where
+    (ok : write_check b (length chars) (length attrs) (length out) ≡ Done) where
   memories : (length chars ≡ 16384) × (length attrs ≡ 16384)
   memories = ((write-passed b (length chars) (length attrs) (length out) ok).1, (write-passed b (length chars) (length attrs) (length out) ok).2)
 
-  page-ok : pageCheck b.page ≡ Done
-  unfolding writeCheck
-  page-ok = call-page b (wrongSize (memoriesRefused (length chars) (length attrs) || ltb (length out) (fileSize b.page.version))) false false ok
+  page-ok : page_check b.page ≡ Done
+  unfolding write_check
+  page-ok = call-page b (wrong_size (memories_refused (length chars) (length attrs) || ltb (length out) (file_size b.page.version))) false false ok
 
-  pub file-is : take (fileSize b.page.version) (written b chars attrs out) ≡ fileOf b.page chars attrs
+  pub file-is : take (file_size b.page.version) (written b chars attrs out) ≡ file_of b.page chars attrs
   unfolding written
-  file-is = rw ok (take_at (fileOf b.page chars attrs) (drop (fileSize b.page.version) out) (fileSize b.page.version) (length-file b.page chars attrs irs-all memories.0 memories.1))
+  file-is = rw ok (take_at (file_of b.page chars attrs) (drop (file_size b.page.version) out) (file_size b.page.version) (length-file b.page chars attrs irs-all memories.0 memories.1))
 
-  page-is : pageAt (fileOf b.page chars attrs) 5 ≡ keptPage b.page
-  unfolding fileOf head_of
-  page-is = page-kept b.page (chars ++ attrs) irs-all (fileOf b.page chars attrs) 5 refl refl
+  page-is : page_at (file_of b.page chars attrs) 5 ≡ kept_page b.page
+  unfolding file_of head_of
+  page-is = page-kept b.page (chars ++ attrs) irs-all (file_of b.page chars attrs) 5 refl refl
 
-  version : versionRefused (fileOf b.page chars attrs) newestVersion ≡ false
-  unfolding fileOf head_of
+  version : version_refused (file_of b.page chars attrs) newest_version ≡ false
+  unfolding file_of head_of
   version = written_known b.page
 
   -- the version that is written has the layout of the page's
-  sized : layoutOf (versionIn (fileOf b.page chars attrs)) ≡ layoutOf b.page.version
-  unfolding fileOf head_of
+  sized : layout_of (version_in (file_of b.page chars attrs)) ≡ layout_of b.page.version
+  unfolding file_of head_of
   sized = layout-kept b.page
 
-  long : longAt (fileOf b.page chars attrs) 1 ≡ lengthField b.page.version
-  unfolding fileOf head_of longAt word_at
+  long : long_at (file_of b.page chars attrs) 1 ≡ length_field b.page.version
+  unfolding file_of head_of long_at word_at
   long = omega arith
 
-  length-ok : lengthRefused (fileOf b.page chars attrs) (lengthField b.page.version) ≡ false
-  unfolding lengthRefused
+  length-ok : length_refused (file_of b.page chars attrs) (length_field b.page.version) ≡ false
+  unfolding length_refused
   length-ok = rw (eq-eqb _ _ (length-file b.page chars attrs irs-all memories.0 memories.1), eq-eqb _ _ long)
 
-  read_ok : readCheck (fileOf b.page chars attrs) false ≡ Done
-  unfolding readCheck fileCheck
+  read_ok : read_check (file_of b.page chars attrs) false ≡ Done
+  unfolding read_check file_check
   read_ok = rw (sized, version, length-ok, page-is) (kept-check b.page ∙ page-ok)
 
   abbrev head : ℕ
-  head = charsPlace b.page.version
+  head = chars_place b.page.version
 
-  chars-are : take 16384 (drop head (fileOf b.page chars attrs)) ≡ chars
-  unfolding fileOf
+  chars-are : take 16384 (drop head (file_of b.page chars attrs)) ≡ chars
+  unfolding file_of
   chars-are = rw (drop_at (head_of b.page) (chars ++ attrs) head (head-all b.page irs-all)) (take_at chars attrs 16384 memories.0)
 
-  attrs-are : take 16384 (drop (head + 16384) (fileOf b.page chars attrs)) ≡ attrs
-  unfolding fileOf
+  attrs-are : take 16384 (drop (head + 16384) (file_of b.page chars attrs)) ≡ attrs
+  unfolding file_of
   attrs-are =
       let behind = drop_at (head_of b.page) (chars ++ attrs) head (head-all b.page irs-all) in
       rw (sym (drop-drop 16384 head (head_of b.page ++ (chars ++ attrs))), behind, drop_at chars attrs 16384 memories.0)
@@ -159,64 +159,64 @@ module _ (b : Board) (irs-all : length b.page.irs ≡ 15) (chars attrs out : Lis
 
   -- [demand round]
   -- the file is read as that page at clock 0, its version as it counts, and its memories are those that were written
-  pub board-same : (c a file : List ℕ) → file ≡ take (fileSize b.page.version) (written b chars attrs out)
-      → (readPageOf file false ≡ pageRead Done (boardOf (keptPage b.page))) × (charsRead file false c ≡ chars) × (attrsRead file false a ≡ attrs)
-  unfolding readPageOf charsRead attrsRead
+  pub board-same : (c a file : List ℕ) → file ≡ take (file_size b.page.version) (written b chars attrs out)
+      → (read_page_of file false ≡ page_read Done (board_of (kept_page b.page))) × (chars_read file false c ≡ chars) × (attrs_read file false a ≡ attrs)
+  unfolding read_page_of chars_read attrs_read
   board-same c a file e = rw (e ∙ file-is, read_ok) (rw page-is, rw sized chars-are, rw sized attrs-are)
 
 -- ---- a font file, read and written again
 
-module _ (file : List ℕ) (f : Font) (ok : fontCheck file (fontShort file f) ≡ Done) where
-  font-ok : FilePassed file 2 (fontLength (versionIn file)) (fontShort file f) (groupsCheck (fileGroups file))
-  unfolding fontCheck
-  font-ok = file-passed file 2 (fontLength (versionIn file)) (fontShort file f) (groupsCheck (fileGroups file)) ok
+module _ (file : List ℕ) (f : Font) (ok : font_check file (font_short file f) ≡ Done) where
+  font-ok : FilePassed file 2 (font_length (version_in file)) (font_short file f) (groups_check (file_groups file))
+  unfolding font_check
+  font-ok = file-passed file 2 (font_length (version_in file)) (font_short file f) (groups_check (file_groups file)) ok
 
-  font-length : length file ≡ fontSize (versionIn file)
-  font-length = file-sized file (fontLength (versionIn file)) font-ok.length-ok
+  font-length : length file ≡ font_size (version_in file)
+  font-length = file-sized file (font_length (version_in file)) font-ok.length-ok
 
   -- the font that it leaves, with as many groups as the file has
   abbrev own : Font
-  own = fileFont file (fontRead file f)
+  own = file_font file (font_read file f)
 
-  own_is : own ≡ fileFont file (fontIn file f.groups)
-  unfolding fontRead
+  own_is : own ≡ file_font file (font_in file f.groups)
+  unfolding font_read
   own_is = rw ok
 
-  parts-fine : fontRefused (fileFont file (fontIn file f.groups)) ≡ false
-  unfolding fontIn
+  parts-fine : font_refused (file_font file (font_in file f.groups)) ≡ false
+  unfolding font_in
   parts-fine =
       let long = font-least file font-length in
       let words = length-tab 1152 (λ (i : ℕ). word_at (take 2304 (drop 5 file)) (2 * i)) in
       let flags = length_part file 2309 128 (omega (arith, long)) in
       let unshifted = length_part file 2437 9 (omega (arith, long)) in
       let shifted = length_part file 2446 9 (omega (arith, long)) in
-      rw (words, flags, unshifted, shifted, groups-own file font-length f.groups, groups-many file font-length) (go (eqb (versionIn file) 2))
+      rw (words, flags, unshifted, shifted, groups-own file font-length f.groups, groups-many file font-length) (go (eqb (version_in file) 2))
     where
       go : (t : Bool) → (not (eqb (pick t 16 0) 0) && not (eqb (pick t 16 0) 16)) ≡ false
       go true = refl
       go false = refl
 
   -- it is whole, and no group is refused
-  pub font-fine : fontRefused own ≡ false
-  font-fine = ap fontRefused own_is ∙ parts-fine
+  pub font-fine : font_refused own ≡ false
+  font-fine = ap font_refused own_is ∙ parts-fine
 
-  pub groups-fine : groupsCheck own.groups ≡ Done
-  groups-fine = ap (λ (x : Font). groupsCheck x.groups) own_is ∙ ap groupsCheck (groups-own file font-length f.groups) ∙ font-ok.rest_ok
+  pub groups-fine : groups_check own.groups ≡ Done
+  groups-fine = ap (λ (x : Font). groups_check x.groups) own_is ∙ ap groups_check (groups-own file font-length f.groups) ∙ font-ok.rest_ok
 
   -- its version is the file's
-  pub version-kept : fontVersion own ≡ versionIn file
+  pub version-kept : font_version own ≡ version_in file
   version-kept =
       let k = version-known file 2 font-ok.version-ok in
-      ap fontVersion own_is ∙ rw (groups-own file font-length f.groups) (version-own file font-length k.0 k.1)
+      ap font_version own_is ∙ rw (groups-own file font-length f.groups) (version-own file font-length k.0 k.1)
 
   -- [demand round] [R-7 font]
   -- the write answers 0, and out begins with the file
-  pub font-same : Bytes file → (out : List ℕ) → fontSize (versionIn file) ≤ length out
-      → (fontWriteCheck own (length out) ≡ Done) × (fontWritten own out ≡ file ++ drop (fontSize (versionIn file)) out)
-  unfolding fontWriteCheck fontWritten
+  pub font-same : Bytes file → (out : List ℕ) → font_size (version_in file) ≤ length out
+      → (font_write_check own (length out) ≡ Done) × (font_written own out ≡ file ++ drop (font_size (version_in file)) out)
+  unfolding font_write_check font_written
   font-same bytes out l =
-      rw (version-kept, font-fine, le-ltb (length out) (fontSize (versionIn file)) l, groups-fine) (
+      rw (version-kept, font-fine, le-ltb (length out) (font_size (version_in file)) l, groups-fine) (
         refl,
-        ap (λ (x : List ℕ). x ++ drop (fontSize (versionIn file)) out)
-            (ap fontFileOf own_is ∙ font-again file bytes font-length font-ok.version-ok (length-is file (fontLength (versionIn file)) font-ok.length-ok) f.groups),
+        ap (λ (x : List ℕ). x ++ drop (font_size (version_in file)) out)
+            (ap font_file_of own_is ∙ font-again file bytes font-length font-ok.version-ok (length-is file (font_length (version_in file)) font-ok.length-ok) f.groups),
       )

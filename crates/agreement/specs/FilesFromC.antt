@@ -4,88 +4,88 @@ use Rattle.std.specs.Prelude.{ℕ, ◌≤◌, ◌≡◌, Bool, false, List, ◌+
 use Rattle.std.proofs.Common.{ap}
 use Rattle.refusal.specs.declared.Refusal.TheVariants.{Done}
 use Rattle.refusal.specs.Number.{number_of}
-use Rattle.board.specs.Layout.{fileSize}
-use Rattle.shape.specs.Font.{Font, fontOf}
-use Rattle.video.specs.At.{lentCheck}
-use Rattle.step.specs.Step.{stepCheck}
-use Rattle.files.specs.Page.{versionIn}
-use Rattle.files.specs.File.{readCheck, charsRead, attrsRead}
-use Rattle.files.specs.FontFile.{groupCount, fontShort, fontCheck, fontRead, fileFont}
+use Rattle.board.specs.Layout.{file_size}
+use Rattle.shape.specs.Font.{Font, font_of}
+use Rattle.video.specs.At.{lent_check}
+use Rattle.step.specs.Step.{step_check}
+use Rattle.files.specs.Page.{version_in}
+use Rattle.files.specs.File.{read_check, chars_read, attrs_read}
+use Rattle.files.specs.FontFile.{group_count, font_short, font_check, font_read, file_font}
 use Rattle.files.specs.Round.{Bytes}
-use Rattle.numbers.specs.Numbers.{numbersBoard, numbersCheck}
-use Rattle.numbers.specs.Files.{pageReadSize, numbersRead, pageWriteCheck, pageWritten}
+use Rattle.numbers.specs.Numbers.{numbers_board, numbers_check}
+use Rattle.numbers.specs.Files.{page_read_size, numbers_read, page_write_check, page_written}
 use Rattle.feldrime.specs.declared.StepAnswer.{StepAnswer}
 use Rattle.feldrime.specs.Answers.{answer_of}
-use Rattle.feldrime.specs.Pages.{boardFor, fontFor}
+use Rattle.feldrime.specs.Pages.{board_for, font_for}
 use Rattle.agreement.specs.Files.{file-ok, again, chars-read-all, attrs-read-all, numbers-fine, numbers-are, font-fine, groups-fine}
-use Rattle.agreement.specs.FromC.{zero-done, stepC, fit-from-c, begins-from-c, steps-answer}
+use Rattle.agreement.specs.FromC.{zero-done, step_c, fit-from-c, begins-from-c, steps-answer}
 
 -- a page file that feldrime_page_read takes
 module _ (file numbers chars attrs : List ℕ)
-    (page-taken : (answer_of (readCheck file (pageReadSize (length numbers) (length chars) (length attrs)))).refusal ≡ 0) where
+    (page-taken : (answer_of (read_check file (page_read_size (length numbers) (length chars) (length attrs)))).refusal ≡ 0) where
   abbrev size : Bool
-  size = pageReadSize (length numbers) (length chars) (length attrs)
+  size = page_read_size (length numbers) (length chars) (length attrs)
 
   -- what the call leaves in the buffers
-  abbrev numbersC : List ℕ
-  numbersC = numbersRead file size numbers
+  abbrev numbers_c : List ℕ
+  numbers_c = numbers_read file size numbers
 
-  abbrev charsC : List ℕ
-  charsC = charsRead file size chars
+  abbrev chars_c : List ℕ
+  chars_c = chars_read file size chars
 
-  abbrev attrsC : List ℕ
-  attrsC = attrsRead file size attrs
+  abbrev attrs_c : List ℕ
+  attrs_c = attrs_read file size attrs
 
-  read_ok : readCheck file size ≡ Done
-  read_ok = zero-done (readCheck file size) page-taken
+  read_ok : read_check file size ≡ Done
+  read_ok = zero-done (read_check file size) page-taken
 
   -- [demand round]
   -- given to feldrime_page_write, it answers 0 and the buffer begins with the file; bytes beyond stay
-  pub page-same-from-c : Bytes file → (out : List ℕ) → fileSize (versionIn file) ≤ length out
-      → ((answer_of (pageWriteCheck numbersC (length charsC) (length attrsC) (length out))).refusal ≡ 0)
-      × (pageWritten numbersC charsC attrsC out ≡ file ++ drop (fileSize (versionIn file)) out)
-  unfolding pageWriteCheck pageWritten
+  pub page-same-from-c : Bytes file → (out : List ℕ) → file_size (version_in file) ≤ length out
+      → ((answer_of (page_write_check numbers_c (length chars_c) (length attrs_c) (length out))).refusal ≡ 0)
+      × (page_written numbers_c chars_c attrs_c out ≡ file ++ drop (file_size (version_in file)) out)
+  unfolding page_write_check page_written
   page-same-from-c bytes out room =
       let same = again file bytes size read_ok chars attrs out room in
       rw (numbers-fine file size read_ok numbers, numbers-are file size read_ok numbers) (ap number_of same.0, same.1)
 
-  accepted-check : numbersCheck numbersC ≡ Done
-  unfolding numbersCheck
+  accepted-check : numbers_check numbers_c ≡ Done
+  unfolding numbers_check
   accepted-check = rw (numbers-fine file size read_ok numbers, numbers-are file size read_ok numbers) (file-ok file size read_ok).rest_ok
 
   -- and a font file that feldrime_font_read takes
   module _ (fontfile words flags unshifted shifted groups : List ℕ)
-      (font-taken : (fontFor fontfile (fontOf words flags unshifted shifted groups)).refusal ≡ 0) where
+      (font-taken : (font_for fontfile (font_of words flags unshifted shifted groups)).refusal ≡ 0) where
     abbrev lent : Font
-    lent = fontOf words flags unshifted shifted groups
+    lent = font_of words flags unshifted shifted groups
 
     -- what that call leaves in the font's parts, with as many groups as it answers
-    abbrev fontC : Font
-    fontC = fileFont fontfile (fontRead fontfile lent)
+    abbrev font_c : Font
+    font_c = file_font fontfile (font_read fontfile lent)
 
     -- what feldrime_step then answers at clock n
-    abbrev pub answerC : ℕ → StepAnswer
-    answerC = stepC numbersC charsC attrsC fontC.words fontC.flags fontC.unshifted fontC.shifted fontC.groups
+    abbrev pub answer_c : ℕ → StepAnswer
+    answer_c = step_c numbers_c chars_c attrs_c font_c.words font_c.flags font_c.unshifted font_c.shifted font_c.groups
 
-    font-done : fontCheck fontfile (fontShort fontfile lent) ≡ Done
-    font-done = zero-done (fontCheck fontfile (fontShort fontfile lent)) font-taken
+    font-done : font_check fontfile (font_short fontfile lent) ≡ Done
+    font-done = zero-done (font_check fontfile (font_short fontfile lent)) font-taken
 
     -- which are those of the file's version
-    pub groups-answered : (fontFor fontfile lent).groups ≡ groupCount (versionIn fontfile)
+    pub groups-answered : (font_for fontfile lent).groups ≡ group_count (version_in fontfile)
     groups-answered = rw font-done
 
-    lent-fine : lentCheck charsC attrsC fontC ≡ Done
+    lent-fine : lent_check chars_c attrs_c font_c ≡ Done
     lent-fine =
         rw (chars-read-all file size read_ok chars, attrs-read-all file size read_ok attrs, font-fine fontfile lent font-done) (groups-fine fontfile lent font-done)
 
     -- the hypothesis of the promises on `step`, `state_at` and `draw_line`
-    pub accepted-fits : stepCheck (numbersBoard numbersC) charsC attrsC fontC ≡ Done
-    accepted-fits = fit-from-c numbersC charsC attrsC fontC.words fontC.flags fontC.unshifted fontC.shifted fontC.groups accepted-check lent-fine
+    pub accepted-fits : step_check (numbers_board numbers_c) chars_c attrs_c font_c ≡ Done
+    accepted-fits = fit-from-c numbers_c chars_c attrs_c font_c.words font_c.flags font_c.unshifted font_c.shifted font_c.groups accepted-check lent-fine
 
-    begun : ((boardFor numbersC).refusal ≡ 0) × ((answerC 0).refusal ≡ 0)
-    begun = begins-from-c numbersC charsC attrsC fontC.words fontC.flags fontC.unshifted fontC.shifted fontC.groups accepted-check lent-fine
+    begun : ((board_for numbers_c).refusal ≡ 0) × ((answer_c 0).refusal ≡ 0)
+    begun = begins-from-c numbers_c chars_c attrs_c font_c.words font_c.flags font_c.unshifted font_c.shifted font_c.groups accepted-check lent-fine
 
     -- feldrime_board_of answers 0, and so does every feldrime_step after it
-    pub accepted-steps : ((boardFor numbersC).refusal ≡ 0) × ((n : ℕ) → (answerC n).refusal ≡ 0)
+    pub accepted-steps : ((board_for numbers_c).refusal ≡ 0) × ((n : ℕ) → (answer_c n).refusal ≡ 0)
     accepted-steps =
-        (begun.0, steps-answer numbersC charsC attrsC fontC.words fontC.flags fontC.unshifted fontC.shifted fontC.groups begun.0 begun.1)
+        (begun.0, steps-answer numbers_c chars_c attrs_c font_c.words font_c.flags font_c.unshifted font_c.shifted font_c.groups begun.0 begun.1)

@@ -19,240 +19,240 @@ use Rattle.refusal.specs.Number.{number_of, done_of}
 use Rattle.refusal.specs.Laws.{done-is, passed}
 use Rattle.raster.specs.Moves.{Inside}
 use Rattle.board.specs.declared.Board.{Board}
-use Rattle.board.specs.State.{clockZero, powerOf}
-use Rattle.timing.specs.Fields.{hactOf, lines_of, rows_of, visibleOf, table_of, bufferOf}
-use Rattle.timing.specs.Check.{pageCheck, size_of}
+use Rattle.board.specs.State.{clock_zero, power_of}
+use Rattle.timing.specs.Fields.{hact_of, lines_of, rows_of, visible_of, table_of, buffer_of}
+use Rattle.timing.specs.Check.{page_check, size_of}
 use Rattle.timing.specs.Laws.{call-passed, call_ok, call-page}
-use Rattle.fetch.specs.Rows.{entry_of, fetchedOf}
+use Rattle.fetch.specs.Rows.{entry_of, fetched_of}
 use Rattle.fetch.specs.Run.{span_of}
-use Rattle.fetch.specs.RowCells.{cellsPut}
+use Rattle.fetch.specs.RowCells.{cells_put}
 use Rattle.fetch.specs.Laws.{span-number}
-use Rattle.latch.specs.Held.{attributesAt}
-use Rattle.shape.specs.Font.{Font, fontOf}
-use Rattle.line.specs.Line.{rowFor, lineLength, drawCheck, drawnOf}
-use Rattle.picture.specs.Picture.{picturedOf}
-use Rattle.video.specs.At.{lentCheck}
-use Rattle.step.specs.Step.{steppedOf, stepCheck, step_of}
+use Rattle.latch.specs.Held.{attributes_at}
+use Rattle.shape.specs.Font.{Font, font_of}
+use Rattle.line.specs.Line.{row_for, line_length, draw_check, drawn_of}
+use Rattle.picture.specs.Picture.{pictured_of}
+use Rattle.video.specs.At.{lent_check}
+use Rattle.step.specs.Step.{stepped_of, step_check, step_of}
 use Rattle.step.specs.After.{after, step-answers}
-use Rattle.board.specs.Parts.{withPlace}
+use Rattle.board.specs.Parts.{with_place}
 use Rattle.place.specs.State.{state_of}
-use Rattle.files.specs.Page.{pageAt}
-use Rattle.numbers.specs.Numbers.{numbersRefused, numbersBoard, numbersCheck}
+use Rattle.files.specs.Page.{page_at}
+use Rattle.numbers.specs.Numbers.{numbers_refused, numbers_board, numbers_check}
 use Rattle.numbers.specs.Laws.{numbers-passed}
 use Rattle.feldrime.specs.declared.StepAnswer.{StepAnswer}
 use Rattle.feldrime.specs.declared.BoardAnswer.{BoardAnswer}
 use Rattle.feldrime.specs.declared.Answer.{Answer}
-use Rattle.feldrime.specs.Answers.{answer_of, sizeAnswer, runAnswer, cellsAnswer, boardAnswer}
-use Rattle.feldrime.specs.Pages.{size_for, runFor, boardFor}
-use Rattle.feldrime.specs.LineDraw.{lineDrawCheck, lineDrawn}
-use Rattle.feldrime.specs.PictureDraw.{pictureDrawCheck, pictureDrawn}
-use Rattle.feldrime.specs.RowCells.{cells_for, cellsPutFor}
-use Rattle.feldrime.specs.Step.{numbered, stepNumbers}
+use Rattle.feldrime.specs.Answers.{answer_of, size_answer, run_answer, cells_answer, board_answer}
+use Rattle.feldrime.specs.Pages.{size_for, run_for, board_for}
+use Rattle.feldrime.specs.LineDraw.{line_draw_check, line_drawn}
+use Rattle.feldrime.specs.PictureDraw.{picture_draw_check, picture_drawn}
+use Rattle.feldrime.specs.RowCells.{cells_for, cells_put_for}
+use Rattle.feldrime.specs.Step.{numbered, step_numbers}
 use Rattle.agreement.specs.Steps.{at-once-anywhere}
 use Rattle.agreement.specs.Files.{zero_ok}
-use Rattle.agreement.specs.Lines.{clockOf, shownAt, DrawnFrom, draw-answers, same_line}
-use Rattle.agreement.specs.Frames.{frameClocks, every-frame, frame-at-most, stays-inside}
+use Rattle.agreement.specs.Lines.{clock_of, shown_at, DrawnFrom, draw-answers, same_line}
+use Rattle.agreement.specs.Frames.{frame_clocks, every-frame, frame-at-most, stays-inside}
 use Rattle.agreement.specs.Pictures.{picture-answers, picture-by-lines, picture-by-steps, picture-from-cells}
-use Rattle.agreement.specs.Rows.{line_of, follows, nthCell, nthColumn, Shown, row-from-table, row-from-start, run-answers, run-shown, cells-shown}
+use Rattle.agreement.specs.Rows.{line_of, follows, nth_cell, nth_column, Shown, row-from-table, row-from-start, run-answers, run-shown, cells-shown}
 
 -- a refusal whose number is 0 is none
 pub zero-done : (r : Refusal) → number_of r ≡ 0 → r ≡ Done
 zero-done r e = done-is r (eq-eqb (number_of r) 0 e)
 
 -- a step that answers 0 was refused by nothing
-step-taken : (b : Board) (chars attrs : List ℕ) (f : Font) → (step_of b chars attrs f).refusal ≡ Done → stepCheck b chars attrs f ≡ Done
+step-taken : (b : Board) (chars attrs : List ℕ) (f : Font) → (step_of b chars attrs f).refusal ≡ Done → step_check b chars attrs f ≡ Done
 unfolding step_of
-step-taken b chars attrs f e = go (done_of (stepCheck b chars attrs f)) refl
+step-taken b chars attrs f e = go (done_of (step_check b chars attrs f)) refl
   where
-    go : (t : Bool) → done_of (stepCheck b chars attrs f) ≡ t → stepCheck b chars attrs f ≡ Done
-    go true d = done-is (stepCheck b chars attrs f) d
+    go : (t : Bool) → done_of (step_check b chars attrs f) ≡ t → step_check b chars attrs f ≡ Done
+    go true d = done-is (step_check b chars attrs f) d
     go false d = rw d at e
 
 module _ (numbers chars attrs words flags unshifted shifted groups : List ℕ) where
   -- the board that the numbers describe, and the font
   abbrev b : Board
-  b = numbersBoard numbers
+  b = numbers_board numbers
 
   abbrev f : Font
-  f = fontOf words flags unshifted shifted groups
+  f = font_of words flags unshifted shifted groups
 
   -- the board after n calls of feldrime_step, from the board that feldrime_board_of gives
-  unfoldable pub afterC : ℕ → Board
-  afterC zero = (boardFor numbers).board
-  afterC (suc n) = (stepNumbers (afterC n) chars attrs words flags unshifted shifted groups).board
+  unfoldable pub after_c : ℕ → Board
+  after_c zero = (board_for numbers).board
+  after_c (suc n) = (step_numbers (after_c n) chars attrs words flags unshifted shifted groups).board
 
   -- accepted or not, the board that is made stands at clock 0, where the steps begin
-  pub steps-made : (n : ℕ) → afterC n ≡ after (boardFor numbers).board chars attrs f n
-  unfolding afterC after boardFor
-  steps-made zero = go (done_of (numbersCheck numbers))
+  pub steps-made : (n : ℕ) → after_c n ≡ after (board_for numbers).board chars attrs f n
+  unfolding after_c after board_for
+  steps-made zero = go (done_of (numbers_check numbers))
     where
-      go : (t : Bool) → pick t b powerOf ≡ withPlace (pick t b powerOf) clockZero
+      go : (t : Bool) → pick t b power_of ≡ with_place (pick t b power_of) clock_zero
       go true = refl
       go false = refl
   steps-made (suc n) = ap (λ (x : Board). (step_of x chars attrs f).board) (steps-made n)
 
   -- what the next feldrime_step answers
-  abbrev pub stepC : ℕ → StepAnswer
-  stepC n = (stepNumbers (afterC n) chars attrs words flags unshifted shifted groups).answer
+  abbrev pub step_c : ℕ → StepAnswer
+  step_c n = (step_numbers (after_c n) chars attrs words flags unshifted shifted groups).answer
 
   -- what feldrime_state_at answers of a board
-  abbrev pub stateC : Board → ℕ → BoardAnswer
-  stateC from n = boardAnswer (state_of from chars attrs n).refusal (state_of from chars attrs n).board
+  abbrev pub state_c : Board → ℕ → BoardAnswer
+  state_c from n = board_answer (state_of from chars attrs n).refusal (state_of from chars attrs n).board
 
   -- what feldrime_line_draw answers, and what it leaves in the buffer
-  abbrev pub drawC : (line room : ℕ) → Answer
-  drawC line room = answer_of (lineDrawCheck numbers chars attrs f line room)
+  abbrev pub draw_c : (line room : ℕ) → Answer
+  draw_c line room = answer_of (line_draw_check numbers chars attrs f line room)
 
   abbrev pub drawn_c : (line field : ℕ) → List ℕ → List ℕ
-  drawn_c line field out = lineDrawn numbers chars attrs f line field out
+  drawn_c line field out = line_drawn numbers chars attrs f line field out
 
   -- what feldrime_picture_draw answers, and what it leaves in the buffer
-  abbrev pub pictureC : (room : ℕ) → Answer
-  pictureC room = answer_of (pictureDrawCheck numbers chars attrs f room)
+  abbrev pub picture_c : (room : ℕ) → Answer
+  picture_c room = answer_of (picture_draw_check numbers chars attrs f room)
 
-  abbrev pub picturedC : (field : ℕ) → List ℕ → List ℕ
-  picturedC field out = pictureDrawn numbers chars attrs f field out
+  abbrev pub pictured_c : (field : ℕ) → List ℕ → List ℕ
+  pictured_c field out = picture_drawn numbers chars attrs f field out
 
   -- ---- both are refused together
 
   -- a page's numbers that pass, and memories and font parts of the right sizes: this is what the promises on `step`, `state_at` and `draw_line` ask
-  pub fit-from-c : numbersCheck numbers ≡ Done → lentCheck chars attrs f ≡ Done → stepCheck b chars attrs f ≡ Done
-  unfolding numbersCheck
-  fit-from-c c l = call_ok b (lentCheck chars attrs f) l (passed (numbersRefused numbers) Size _ refl c).1 (zero_ok (pageAt numbers 1))
+  pub fit-from-c : numbers_check numbers ≡ Done → lent_check chars attrs f ≡ Done → step_check b chars attrs f ≡ Done
+  unfolding numbers_check
+  fit-from-c c l = call_ok b (lent_check chars attrs f) l (passed (numbers_refused numbers) Size _ refl c).1 (zero_ok (page_at numbers 1))
 
   -- then feldrime_board_of answers 0, and so does the first feldrime_step
-  pub begins-from-c : numbersCheck numbers ≡ Done → lentCheck chars attrs f ≡ Done → ((boardFor numbers).refusal ≡ 0) × ((stepC 0).refusal ≡ 0)
-  unfolding numbered afterC boardFor step_of steppedOf
+  pub begins-from-c : numbers_check numbers ≡ Done → lent_check chars attrs f ≡ Done → ((board_for numbers).refusal ≡ 0) × ((step_c 0).refusal ≡ 0)
+  unfolding numbered after_c board_for step_of stepped_of
   begins-from-c c l = rw (c, fit-from-c c l) (refl, refl)
 
   -- and so they do where feldrime_line_draw answers 0 for any line
-  pub drawn-begins : (line room : ℕ) → (drawC line room).refusal ≡ 0 → ((boardFor numbers).refusal ≡ 0) × ((stepC 0).refusal ≡ 0)
-  unfolding lineDrawCheck drawCheck numbersCheck
+  pub drawn-begins : (line room : ℕ) → (draw_c line room).refusal ≡ 0 → ((board_for numbers).refusal ≡ 0) × ((step_c 0).refusal ≡ 0)
+  unfolding line_draw_check draw_check numbers_check
   drawn-begins line room e =
-      let d = passed (numbersRefused numbers) Size _ refl (zero-done (lineDrawCheck numbers chars attrs f line room) e) in
-      let asked = leb (visibleOf b.page).0 line in
-      let short = ltb room (lineLength b) in
-      let page = call-page b (lentCheck chars attrs f) asked short d.1 in
-      begins-from-c (rw d.0 page) (call-passed b (lentCheck chars attrs f) asked short d.1).lent-fine
+      let d = passed (numbers_refused numbers) Size _ refl (zero-done (line_draw_check numbers chars attrs f line room) e) in
+      let asked = leb (visible_of b.page).0 line in
+      let short = ltb room (line_length b) in
+      let page = call-page b (lent_check chars attrs f) asked short d.1 in
+      begins-from-c (rw d.0 page) (call-passed b (lent_check chars attrs f) asked short d.1).lent-fine
 
   -- numbers of which a board is made, and a first step that is not refused
-  module _ (board-made : (boardFor numbers).refusal ≡ 0) (first_step : (stepC 0).refusal ≡ 0) where
-    check-ok : numbersCheck numbers ≡ Done
-    unfolding boardFor
-    check-ok = zero-done (numbersCheck numbers) board-made
+  module _ (board-made : (board_for numbers).refusal ≡ 0) (first_step : (step_c 0).refusal ≡ 0) where
+    check-ok : numbers_check numbers ≡ Done
+    unfolding board_for
+    check-ok = zero-done (numbers_check numbers) board-made
 
-    page-fine : pageCheck b.page ≡ Done
-    unfolding numbersCheck
-    page-fine = (passed (numbersRefused numbers) Size _ refl check-ok).1
+    page-fine : page_check b.page ≡ Done
+    unfolding numbers_check
+    page-fine = (passed (numbers_refused numbers) Size _ refl check-ok).1
 
-    board-is : (boardFor numbers).board ≡ b
-    unfolding boardFor
+    board-is : (board_for numbers).board ≡ b
+    unfolding board_for
     board-is = rw check-ok
 
-    step_ok : stepCheck b chars attrs f ≡ Done
-    unfolding afterC numbered
+    step_ok : step_check b chars attrs f ≡ Done
+    unfolding after_c numbered
     step_ok = step-taken b chars attrs f (zero-done (step_of b chars attrs f).refusal (rw board-is at first_step))
 
     -- the steps for C are the steps, so all that holds of these holds of those
-    pub steps-from-c : (n : ℕ) → afterC n ≡ after b chars attrs f n
+    pub steps-from-c : (n : ℕ) → after_c n ≡ after b chars attrs f n
     steps-from-c n = steps-made n ∙ ap (λ (x : Board). after x chars attrs f n) board-is
 
     -- then no step is refused
-    pub steps-answer : (n : ℕ) → (stepC n).refusal ≡ 0
+    pub steps-answer : (n : ℕ) → (step_c n).refusal ≡ 0
     unfolding numbered
     steps-answer n = rw (steps-from-c n, step-answers b chars attrs f step_ok n)
 
     -- [demand at-once]
     -- feldrime_state_at for clock n, asked of the board after any number of steps, answers 0 and the board after n steps
-    pub at-once-from-c : (m n : ℕ) → ((stateC (afterC m) n).refusal ≡ 0) × ((stateC (afterC m) n).board ≡ afterC n)
+    pub at-once-from-c : (m n : ℕ) → ((state_c (after_c m) n).refusal ≡ 0) × ((state_c (after_c m) n).board ≡ after_c n)
     at-once-from-c m n =
         let s = at-once-anywhere b chars attrs f step_ok m n in
         rw (steps-from-c m, steps-from-c n) (ap number_of s.0, s.1)
 
     -- feldrime_page_size gives the visible lines, and how many bytes a line takes
-    pub size-from-c : size_for numbers ≡ sizeAnswer Done (visibleOf b.page).0 (lineLength b)
-    unfolding size_for size_of numbersCheck
+    pub size-from-c : size_for numbers ≡ size_answer Done (visible_of b.page).0 (line_length b)
+    unfolding size_for size_of numbers_check
     size-from-c = rw (numbers-passed numbers check-ok, page-fine)
 
-    line-in : (l : ℕ) → l < (size_for numbers).lines → l < (visibleOf b.page).0
+    line-in : (l : ℕ) → l < (size_for numbers).lines → l < (visible_of b.page).0
     line-in l h = rw size-from-c at h
 
-    room_in : (room : ℕ) → (size_for numbers).dots ≤ room → lineLength b ≤ room
+    room_in : (room : ℕ) → (size_for numbers).dots ≤ room → line_length b ≤ room
     room_in room h = rw size-from-c at h
 
     -- and where these do, feldrime_line_draw does, for every visible line and any buffer with room for it
-    pub draw-answers-from-c : (l : ℕ) → l < (size_for numbers).lines → (room : ℕ) → (size_for numbers).dots ≤ room → drawC l room ≡ answer_of Done
-    unfolding lineDrawCheck
+    pub draw-answers-from-c : (l : ℕ) → l < (size_for numbers).lines → (room : ℕ) → (size_for numbers).dots ≤ room → draw_c l room ≡ answer_of Done
+    unfolding line_draw_check
     draw-answers-from-c l hl room h = rw (numbers-passed numbers check-ok, draw-answers b chars attrs f step_ok l (line-in l hl) room (room_in room h))
 
-    drawn-is : (l field : ℕ) (out : List ℕ) → drawn_c l field out ≡ drawnOf b chars attrs f l field out
-    unfolding lineDrawn
+    drawn-is : (l field : ℕ) (out : List ℕ) → drawn_c l field out ≡ drawn_of b chars attrs f l field out
+    unfolding line_drawn
     drawn-is l field out = rw (numbers-passed numbers check-ok)
 
     -- [demand line]
     -- line l of frame k, with field count k modulo 256: feldrime_line_draw answers 0, and the buffer begins with the dots of the line's active clocks as
     -- feldrime_step answers them, end to end; bytes beyond stay
     pub same-line-from-c : (k l : ℕ) → l < (size_for numbers).lines → (out : List ℕ) → (size_for numbers).dots ≤ length out
-        → (drawC l (length out) ≡ answer_of Done)
+        → (draw_c l (length out) ≡ answer_of Done)
         × (drawn_c l (k % 256) out
-        ≡ joined 0 (hactOf b.page) (λ c. take b.page.video.dots.0 (stepC (clockOf b k l c)).dots) ++ drop (size_for numbers).dots out)
+        ≡ joined 0 (hact_of b.page) (λ c. take b.page.video.dots.0 (step_c (clock_of b k l c)).dots) ++ drop (size_for numbers).dots out)
     unfolding numbered
     same-line-from-c k l hl out room = (
       draw-answers-from-c l hl (length out) room,
       drawn-is l (k % 256) out
           ∙ same_line b chars attrs f step_ok k l (line-in l hl) out (room_in (length out) room)
           ∙ rw size-from-c
-          (ap (λ (d : List ℕ). d ++ drop (lineLength b) out)
-          (same-joined 0 (hactOf b.page) _ _
-          (λ c _ h. ap (λ (x : Board). take b.page.video.dots.0 (step_of x chars attrs f).dots) (sym (steps-from-c (clockOf b k l c)))))),
+          (ap (λ (d : List ℕ). d ++ drop (line_length b) out)
+          (same-joined 0 (hact_of b.page) _ _
+          (λ c _ h. ap (λ (x : Board). take b.page.video.dots.0 (step_of x chars attrs f).dots) (sym (steps-from-c (clock_of b k l c)))))),
     )
 
     -- ---- the picture
 
     -- feldrime_picture_draw answers 0 for any buffer with room for the page's lines
-    pub picture-answers-from-c : (room : ℕ) → (size_for numbers).lines * (size_for numbers).dots ≤ room → pictureC room ≡ answer_of Done
-    unfolding pictureDrawCheck
+    pub picture-answers-from-c : (room : ℕ) → (size_for numbers).lines * (size_for numbers).dots ≤ room → picture_c room ≡ answer_of Done
+    unfolding picture_draw_check
     picture-answers-from-c room h = rw (numbers-passed numbers check-ok, picture-answers b chars attrs f step_ok room (rw size-from-c at h))
 
-    pictured-is : (field : ℕ) (out : List ℕ) → picturedC field out ≡ picturedOf b chars attrs f field out
-    unfolding pictureDrawn
+    pictured-is : (field : ℕ) (out : List ℕ) → pictured_c field out ≡ pictured_of b chars attrs f field out
+    unfolding picture_drawn
     pictured-is field out = rw (numbers-passed numbers check-ok)
 
     -- [demand picture]
     -- and the buffer begins with what feldrime_line_draw writes of line 0, 1, .. into a buffer that has room, end to end; bytes beyond stay
     pub picture-by-lines-from-c : (field : ℕ) (out part : List ℕ) → (size_for numbers).lines * (size_for numbers).dots ≤ length out → (size_for numbers).dots ≤ length part
-        → picturedC field out
+        → pictured_c field out
         ≡ joined 0 (size_for numbers).lines (λ l. take (size_for numbers).dots (drawn_c l field part)) ++ drop ((size_for numbers).lines * (size_for numbers).dots) out
     picture-by-lines-from-c field out part room enough =
         pictured-is field out
         ∙ picture-by-lines b chars attrs f step_ok field out part (rw size-from-c at room) (rw size-from-c at enough)
         ∙ rw size-from-c
-        (ap (λ (d : List ℕ). d ++ drop ((visibleOf b.page).0 * lineLength b) out)
-        (same-joined 0 (visibleOf b.page).0 _ _ (λ l _ h. ap (take (lineLength b)) (sym (drawn-is l field part)))))
+        (ap (λ (d : List ℕ). d ++ drop ((visible_of b.page).0 * line_length b) out)
+        (same-joined 0 (visible_of b.page).0 _ _ (λ l _ h. ap (take (line_length b)) (sym (drawn-is l field part)))))
 
     -- [demand picture]
     -- frame k, with field count k modulo 256: the dots of all its active clocks as feldrime_step answers them, in order
     pub picture-by-steps-from-c : (k : ℕ) (out : List ℕ) → (size_for numbers).lines * (size_for numbers).dots ≤ length out
-        → picturedC (k % 256) out
-        ≡ joined 0 (size_for numbers).lines (λ l. joined 0 (hactOf b.page) (λ c. take b.page.video.dots.0 (stepC (clockOf b k l c)).dots))
+        → pictured_c (k % 256) out
+        ≡ joined 0 (size_for numbers).lines (λ l. joined 0 (hact_of b.page) (λ c. take b.page.video.dots.0 (step_c (clock_of b k l c)).dots))
         ++ drop ((size_for numbers).lines * (size_for numbers).dots) out
     unfolding numbered
     picture-by-steps-from-c k out room =
         pictured-is (k % 256) out
         ∙ picture-by-steps b chars attrs f step_ok k out (rw size-from-c at room)
         ∙ rw size-from-c
-        (ap (λ (d : List ℕ). d ++ drop ((visibleOf b.page).0 * lineLength b) out)
-        (same-joined 0 (visibleOf b.page).0 _ _ (λ l _ _.
-        same-joined 0 (hactOf b.page) _ _
-        (λ c _ h. ap (λ (x : Board). take b.page.video.dots.0 (step_of x chars attrs f).dots) (sym (steps-from-c (clockOf b k l c)))))))
+        (ap (λ (d : List ℕ). d ++ drop ((visible_of b.page).0 * line_length b) out)
+        (same-joined 0 (visible_of b.page).0 _ _ (λ l _ _.
+        same-joined 0 (hact_of b.page) _ _
+        (λ c _ h. ap (λ (x : Board). take b.page.video.dots.0 (step_of x chars attrs f).dots) (sym (steps-from-c (clock_of b k l c)))))))
 
     -- ---- the frame
 
     -- after n steps line and clock are both 0 exactly if whole frames are over, and the field counts the frames, modulo 256
     pub record FramedC (n : ℕ) : Type 0 where
-      pub ends : n % frameClocks b ≡ 0 → ((afterC n).place.line.0 ≡ 0) × ((afterC n).place.clock.0 ≡ 0)
-      pub nowhere-else : (afterC n).place.line.0 ≡ 0 → (afterC n).place.clock.0 ≡ 0 → n % frameClocks b ≡ 0
-      pub counted : (afterC n).place.field ≡ n / frameClocks b % 256
+      pub ends : n % frame_clocks b ≡ 0 → ((after_c n).place.line.0 ≡ 0) × ((after_c n).place.clock.0 ≡ 0)
+      pub nowhere-else : (after_c n).place.line.0 ≡ 0 → (after_c n).place.clock.0 ≡ 0 → n % frame_clocks b ≡ 0
+      pub counted : (after_c n).place.field ≡ n / frame_clocks b % 256
 
     -- [demand frame]
     -- so every frame takes exactly its clocks
@@ -267,7 +267,7 @@ module _ (numbers chars attrs words flags unshifted shifted groups : List ℕ) w
 
     -- [demand frame]
     -- at most 826,752
-    pub frame-at-most-from-c : frameClocks b ≤ 826752
+    pub frame-at-most-from-c : frame_clocks b ≤ 826752
     frame-at-most-from-c = frame-at-most b chars attrs f step_ok
 
     -- ---- the cells of a row
@@ -276,7 +276,7 @@ module _ (numbers chars attrs words flags unshifted shifted groups : List ℕ) w
     abbrev pub DrawnFromC : (line : ℕ) → (address : ℕ → ℕ) → Type 0
     DrawnFromC line address = (field : ℕ) (out : List ℕ) → (size_for numbers).dots ≤ length out
         → drawn_c line field out
-        ≡ joined 0 (hactOf b.page) (λ c. shownAt b chars attrs f line field c (attributesAt b.page chars attrs (rowFor b line) c) (address c))
+        ≡ joined 0 (hact_of b.page) (λ c. shown_at b chars attrs f line field c (attributes_at b.page chars attrs (row_for b line) c) (address c))
         ++ drop (size_for numbers).dots out
 
     drawn-from-c : (line : ℕ) (address : ℕ → ℕ) → DrawnFrom b chars attrs f line address → DrawnFromC line address
@@ -285,37 +285,37 @@ module _ (numbers chars attrs words flags unshifted shifted groups : List ℕ) w
     -- table off, first ≤ screen start 1 ≤ last: every address that feldrime_step answers on an active clock of line l of
     -- frame k is in that range, and what feldrime_line_draw puts of the line is the dots of the cells at those addresses
     pub record StaysC (k l : ℕ) : Type 0 where
-      pub stepped : (c : ℕ) → c < hactOf b.page → Inside (bufferOf b.page) (stepC (clockOf b k l c)).address
-      pub drawn : DrawnFromC l (λ c. (stepC (clockOf b k l c)).address)
+      pub stepped : (c : ℕ) → c < hact_of b.page → Inside (buffer_of b.page) (step_c (clock_of b k l c)).address
+      pub drawn : DrawnFromC l (λ c. (step_c (clock_of b k l c)).address)
 
     -- [demand inside]
     -- so no fetch leaves the buffer
-    pub stays-inside-from-c : table_of b.page ≡ false → Inside (bufferOf b.page) b.page.starts.start1
+    pub stays-inside-from-c : table_of b.page ≡ false → Inside (buffer_of b.page) b.page.starts.start1
         → (k l : ℕ) → l < (size_for numbers).lines → StaysC k l
     unfolding numbered
     stays-inside-from-c t i k l hl =
         let s = stays-inside b chars attrs f step_ok t i k l (line-in l hl) in
         record {
-          stepped = λ c hc. rw (steps-from-c (clockOf b k l c)) (s.stepped c hc);
+          stepped = λ c hc. rw (steps-from-c (clock_of b k l c)) (s.stepped c hc);
           drawn = λ field out room.
               drawn-from-c l _ s.drawn field out room
               ∙ ap (λ (d : List ℕ). d ++ drop (size_for numbers).dots out)
-              (same-joined 0 (hactOf b.page) _ _ (λ c _ h.
-              ap (λ (x : Board). shownAt b chars attrs f l field c (attributesAt b.page chars attrs (rowFor b l) c) (step_of x chars attrs f).address) (sym (steps-from-c (clockOf b k l c)))));
+              (same-joined 0 (hact_of b.page) _ _ (λ c _ h.
+              ap (λ (x : Board). shown_at b chars attrs f l field c (attributes_at b.page chars attrs (row_for b l) c) (step_of x chars attrs f).address) (sym (steps-from-c (clock_of b k l c)))));
         }
 
     -- line l of row r, where the row's cells follow from an address: the addresses that feldrime_step answers in every frame, and the cells whose dots
     -- feldrime_line_draw puts
     pub record ShownC (r l start : ℕ) : Type 0 where
-      pub stepped : (k c : ℕ) → c < hactOf b.page → (stepC (clockOf b k (line_of b r l) c)).address ≡ follows b start (nthCell b chars r c)
-      pub draw-done : (room : ℕ) → (size_for numbers).dots ≤ room → drawC (line_of b r l) room ≡ answer_of Done
-      pub drawn : DrawnFromC (line_of b r l) (λ c. follows b start (nthCell b chars r c))
+      pub stepped : (k c : ℕ) → c < hact_of b.page → (step_c (clock_of b k (line_of b r l) c)).address ≡ follows b start (nth_cell b chars r c)
+      pub draw-done : (room : ℕ) → (size_for numbers).dots ≤ room → draw_c (line_of b r l) room ≡ answer_of Done
+      pub drawn : DrawnFromC (line_of b r l) (λ c. follows b start (nth_cell b chars r c))
 
     module _ (r l : ℕ) (hr : r < rows_of b.page) (hl : l < lines_of b.page) where
       shown-from-c : (start : ℕ) → Shown b chars attrs f step_ok r l hr hl start → ShownC r l start
       unfolding numbered
       shown-from-c start s = record {
-        stepped = λ k c h. rw (steps-from-c (clockOf b k (line_of b r l) c)) (s.stepped k c h);
+        stepped = λ k c h. rw (steps-from-c (clock_of b k (line_of b r l) c)) (s.stepped k c h);
         draw-done = draw-answers-from-c (line_of b r l) (rw size-from-c (digits_lt hr hl));
         drawn = drawn-from-c (line_of b r l) _ s.drawn;
       }
@@ -327,35 +327,35 @@ module _ (numbers chars attrs words flags unshifted shifted groups : List ℕ) w
 
       -- [fetch start]
       -- with it off, from the cell r x HACT moves after screen start 1
-      pub row-from-start-from-c : table_of b.page ≡ false → ShownC r l (follows b b.page.starts.start1 (r * hactOf b.page))
+      pub row-from-start-from-c : table_of b.page ≡ false → ShownC r l (follows b b.page.starts.start1 (r * hact_of b.page))
       row-from-start-from-c t = shown-from-c _ (row-from-start b chars attrs f step_ok r l hr hl t)
 
-      run_is : runFor numbers chars r ≡ runAnswer Done (span_of b chars r).start (span_of b chars r).count
-      unfolding runFor
+      run_is : run_for numbers chars r ≡ run_answer Done (span_of b chars r).start (span_of b chars r).count
+      unfolding run_for
       run_is =
           let s = span_of b chars r in
           let done : s.refusal ≡ Done = span-number b chars r s refl ∙ run-answers b chars attrs f step_ok r l hr hl in
-          rw (numbers-passed numbers check-ok) (ap (λ (x : Refusal). runAnswer x s.start s.count) done)
+          rw (numbers-passed numbers check-ok) (ap (λ (x : Refusal). run_answer x s.start s.count) done)
 
       -- [fetch run]
       -- the run that feldrime_row_run answers is what the row fetches first, cell after cell
-      pub run-from-c : ((runFor numbers chars r).refusal ≡ 0)
-          × ((k i : ℕ) → i < (runFor numbers chars r).count → (stepC (clockOf b k (line_of b r l) (nthColumn b chars r i))).address ≡ (runFor numbers chars r).first + i)
+      pub run-from-c : ((run_for numbers chars r).refusal ≡ 0)
+          × ((k i : ℕ) → i < (run_for numbers chars r).count → (step_c (clock_of b k (line_of b r l) (nth_column b chars r i))).address ≡ (run_for numbers chars r).first + i)
       unfolding numbered
-      run-from-c = rw run_is (refl, λ k i h. rw (steps-from-c (clockOf b k (line_of b r l) (nthColumn b chars r i))) (run-shown b chars attrs f step_ok r l hr hl k i h))
+      run-from-c = rw run_is (refl, λ k i h. rw (steps-from-c (clock_of b k (line_of b r l) (nth_column b chars r i))) (run-shown b chars attrs f step_ok r l hr hl k i h))
 
       -- a buffer with room for any row: what feldrime_row_cells leaves there are, cell by cell, the addresses that feldrime_step answers on the columns that fetch
       -- them, on the line's active clocks in every frame, and elements beyond stay; at these addresses are the cells whose dots feldrime_line_draw puts; the first of them are the run that
       -- feldrime_row_run answers
       pub record CellsShownC (cells : List ℕ) : Type 0 where
-        pub answered : cells_for numbers chars r (length cells) ≡ cellsAnswer Done (fetchedOf b.page chars r)
-        pub stepped : (k : ℕ) → cellsPutFor numbers chars r cells
-            ≡ tab (fetchedOf b.page chars r) (λ i. (stepC (clockOf b k (line_of b r l) (nthColumn b chars r i))).address) ++ drop (fetchedOf b.page chars r) cells
-        pub drawn : DrawnFromC (line_of b r l) (λ c. get_or (cellsPutFor numbers chars r cells) (nthCell b chars r c) 0)
-        pub begun : (i : ℕ) → i < (runFor numbers chars r).count → get_or (cellsPutFor numbers chars r cells) i 0 ≡ (runFor numbers chars r).first + i
+        pub answered : cells_for numbers chars r (length cells) ≡ cells_answer Done (fetched_of b.page chars r)
+        pub stepped : (k : ℕ) → cells_put_for numbers chars r cells
+            ≡ tab (fetched_of b.page chars r) (λ i. (step_c (clock_of b k (line_of b r l) (nth_column b chars r i))).address) ++ drop (fetched_of b.page chars r) cells
+        pub drawn : DrawnFromC (line_of b r l) (λ c. get_or (cells_put_for numbers chars r cells) (nth_cell b chars r c) 0)
+        pub begun : (i : ℕ) → i < (run_for numbers chars r).count → get_or (cells_put_for numbers chars r cells) i 0 ≡ (run_for numbers chars r).first + i
 
-      cells_are : (cells : List ℕ) → cellsPutFor numbers chars r cells ≡ cellsPut b chars r cells
-      unfolding cellsPutFor
+      cells_are : (cells : List ℕ) → cells_put_for numbers chars r cells ≡ cells_put b chars r cells
+      unfolding cells_put_for
       cells_are cells = rw (numbers-passed numbers check-ok)
 
       -- [more cells]
@@ -367,19 +367,19 @@ module _ (numbers chars attrs words flags unshifted shifted groups : List ℕ) w
           record {
             answered = rw (numbers-passed numbers check-ok, s.answered);
             stepped = λ k. cells_are cells ∙ s.stepped k
-                ∙ ap (λ (x : List ℕ). x ++ drop (fetchedOf b.page chars r) cells)
-                (same-tab (fetchedOf b.page chars r) _ _ (λ i h. ap (λ (x : Board). (step_of x chars attrs f).address) (sym (steps-from-c (clockOf b k (line_of b r l) (nthColumn b chars r i))))));
+                ∙ ap (λ (x : List ℕ). x ++ drop (fetched_of b.page chars r) cells)
+                (same-tab (fetched_of b.page chars r) _ _ (λ i h. ap (λ (x : Board). (step_of x chars attrs f).address) (sym (steps-from-c (clock_of b k (line_of b r l) (nth_column b chars r i))))));
             drawn = rw (cells_are cells) (drawn-from-c (line_of b r l) _ s.drawn);
             begun = rw (cells_are cells, run_is) s.begun;
           }
 
     -- the picture that feldrime_picture_draw leaves is the dots of the cells that feldrime_row_cells gives, row by row, line by line, column by column
     pub picture-from-cells-from-c : (field : ℕ) (cells : List ℕ) → 256 ≤ length cells → (out : List ℕ) → (size_for numbers).lines * (size_for numbers).dots ≤ length out
-        → picturedC field out
+        → pictured_c field out
         ≡ joined 0 (rows_of b.page) (λ r. joined 0 (lines_of b.page) (λ l.
-        joined 0 (hactOf b.page) (λ c. shownAt b chars attrs f (line_of b r l) field c (attributesAt b.page chars attrs r c) (get_or (cellsPutFor numbers chars r cells) (nthCell b chars r c) 0))))
+        joined 0 (hact_of b.page) (λ c. shown_at b chars attrs f (line_of b r l) field c (attributes_at b.page chars attrs r c) (get_or (cells_put_for numbers chars r cells) (nth_cell b chars r c) 0))))
         ++ drop ((size_for numbers).lines * (size_for numbers).dots) out
-    unfolding cellsPutFor
+    unfolding cells_put_for
     picture-from-cells-from-c field cells wide out room =
         pictured-is field out
         ∙ picture-from-cells b chars attrs f step_ok field cells wide out (rw size-from-c at room)

@@ -12,17 +12,17 @@ use Rattle.std.proofs.Math.Dec.{ltb}
 use Rattle.lists.specs.Choice.{neither}
 use Rattle.board.specs.declared.Page.{Page}
 use Rattle.board.specs.declared.Place.{Place}
-use Rattle.board.specs.Modes.{fieldMode, hasModes}
-use Rattle.board.specs.Range.{startsRefused, addressRefused}
-use Rattle.timing.specs.Fields.{codedOf, hactOf}
-use Rattle.fetch.specs.Rows.{code_at, fetchedOf}
+use Rattle.board.specs.Modes.{field_mode, has_modes}
+use Rattle.board.specs.Range.{starts_refused, address_refused}
+use Rattle.timing.specs.Fields.{coded_of, hact_of}
+use Rattle.fetch.specs.Rows.{code_at, fetched_of}
 use Rattle.fetch.specs.Laws.{no-codes}
 use Rattle.latch.specs.Held.{held_at}
 use Rattle.latch.specs.Laws.{held_plain}
-use Rattle.place.specs.Place.{countedLatch, countedCode, nextPlace}
+use Rattle.place.specs.Place.{counted_latch, counted_code, next_place}
 use Rattle.place.specs.Settled.{next-settled}
 
-module _ (p : Page) (one : hasModes p.version ≡ false) where
+module _ (p : Page) (one : has_modes p.version ≡ false) where
   above-15 : (ltb 63 p.switches || ltb 15 p.switches) ≡ ltb 15 p.switches
   above-15 = go (dec_lt 15 p.switches)
     where
@@ -36,41 +36,41 @@ module _ (p : Page) (one : hasModes p.version ≡ false) where
 
   -- [R-1 version]
   -- a page whose version has no modes is in character mode, and its switches 4 to 7 are refused by 12
-  pub version-1 : (fieldMode p ≡ false) × (addressRefused p ≡ startsRefused p.starts || ltb 15 p.switches || ltb 15 p.video.strike)
-  unfolding addressRefused
+  pub version-1 : (field_mode p ≡ false) × (address_refused p ≡ starts_refused p.starts || ltb 15 p.switches || ltb 15 p.video.strike)
+  unfolding address_refused
   version-1 =
       let not-3 = (neither (eqb p.version 2) (eqb p.version 3) one).1 in
-      (rw one, rw (one, not-3, or-false (ltb 15 p.video.strike)) (ap (λ (t : Bool). startsRefused p.starts || t || ltb 15 p.video.strike) above-15))
+      (rw one, rw (one, not-3, or-false (ltb 15 p.video.strike)) (ap (λ (t : Bool). starts_refused p.starts || t || ltb 15 p.video.strike) above-15))
 
-module _ (p : Page) (character : fieldMode p ≡ false) (chars attrs : List ℕ) where
+module _ (p : Page) (character : field_mode p ≡ false) (chars attrs : List ℕ) where
   -- [dots attributes]
   -- in character mode no attributes are valid before a cell
   pub nothing-valid : (row column : ℕ) → held_at p chars attrs row column ≡ 0
   nothing-valid = held_plain p chars attrs character
 
-  none-counts : (latch : ℕ) → countedLatch p latch ≡ 0
-  unfolding countedLatch
+  none-counts : (latch : ℕ) → counted_latch p latch ≡ 0
+  unfolding counted_latch
   none-counts latch = rw character
 
   -- [R-1 version]
   -- and a step leaves 0 in both latch bytes, whatever they held
-  pub nothing-latched : (q : Place) → ((nextPlace p chars attrs q).beam.latch ≡ 0) × ((nextPlace p chars attrs q).row.latch ≡ 0)
+  pub nothing-latched : (q : Place) → ((next_place p chars attrs q).beam.latch ≡ 0) × ((next_place p chars attrs q).row.latch ≡ 0)
   nothing-latched q =
       let s = sym (next-settled p chars attrs q) in
       (ap (λ (x : Place). x.beam.latch) s ∙ none-counts _, ap (λ (x : Place). x.row.latch) s ∙ none-counts _)
 
-module _ (p : Page) (plain : codedOf p ≡ false) (chars attrs : List ℕ) where
+module _ (p : Page) (plain : coded_of p ≡ false) (chars attrs : List ℕ) where
   -- [R-4 counted]
   -- without IR0[7] every row has the code 0 and fetches HACT cells
-  pub no-row-codes : (row : ℕ) → (code_at p chars row ≡ 0) × (fetchedOf p chars row ≡ hactOf p)
-  unfolding fetchedOf
+  pub no-row-codes : (row : ℕ) → (code_at p chars row ≡ 0) × (fetched_of p chars row ≡ hact_of p)
+  unfolding fetched_of
   no-row-codes row = (no-codes p chars plain row, rw (no-codes p chars plain row))
 
-  no_code : (code : ℕ) → countedCode p code ≡ 0
-  unfolding countedCode
+  no_code : (code : ℕ) → counted_code p code ≡ 0
+  unfolding counted_code
   no_code code = rw plain
 
   -- [R-4 counted]
   -- and a step leaves a code of 0, whatever it was
-  pub no-code-left : (q : Place) → (nextPlace p chars attrs q).row.code ≡ 0
+  pub no-code-left : (q : Place) → (next_place p chars attrs q).row.code ≡ 0
   no-code-left q = ap (λ (x : Place). x.row.code) (sym (next-settled p chars attrs q)) ∙ no_code _

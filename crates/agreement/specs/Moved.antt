@@ -13,21 +13,21 @@ use borrow.Author.Tests.{ltb-true, eqb-true, eq-eqb, ne_eqb}
 use Rattle.lists.specs.Choice.{pick, first_of}
 use Rattle.lists.specs.Search.{first-not, first-none}
 use Rattle.refusal.specs.declared.Refusal.TheVariants.{Done, Size, Range, Room, Address, Reserved, BackPorch, LineShort, FrontPorch, Width, Kind, Stretch, Apart, Coded}
-use Rattle.refusal.specs.Number.{number_of, done_of, wrongSize}
+use Rattle.refusal.specs.Number.{number_of, done_of, wrong_size}
 use Rattle.refusal.specs.Laws.{done-is}
 use Rattle.units.specs.declared.Clocks.{Clocks}
 use Rattle.board.specs.declared.Page.{Page}
 use Rattle.board.specs.declared.Board.{Board}
-use Rattle.board.specs.Range.{memoryRefused, addressRefused}
-use Rattle.timing.specs.Fields.{codedOf, table_of}
-use Rattle.timing.specs.Check.{reservedRefused, backPorchRefused, lineShort, frontPorchRefused, missing, widthRefused, pageCheck, stateRefused, callCheck}
-use Rattle.catalogue.specs.ToTable.{tablePlaces, unfetchedAt, tablePlace, ownCheck, asTableCheck}
-use Rattle.catalogue.specs.ToSheet.{rowsApart, asSheetCheck}
+use Rattle.board.specs.Range.{memory_refused, address_refused}
+use Rattle.timing.specs.Fields.{coded_of, table_of}
+use Rattle.timing.specs.Check.{reserved_refused, back_porch_refused, line_short, front_porch_refused, missing, width_refused, page_check, state_refused, call_check}
+use Rattle.catalogue.specs.ToTable.{table_places, unfetched_at, table_place, own_check, as_table_check}
+use Rattle.catalogue.specs.ToSheet.{rows_apart, as_sheet_check}
 use Rattle.catalogue.specs.Marks.{own-passed}
 
-page-below : (p : Page) → number_of (pageCheck p) < 16
-unfolding pageCheck
-page-below p = go (addressRefused p) (reservedRefused p) (backPorchRefused p) (lineShort p) (frontPorchRefused p) (widthRefused p.video.dots) (missing p)
+page-below : (p : Page) → number_of (page_check p) < 16
+unfolding page_check
+page-below p = go (address_refused p) (reserved_refused p) (back_porch_refused p) (line_short p) (front_porch_refused p) (width_refused p.video.dots) (missing p)
   where
     go : (a r b l f w : Bool) (n : Clocks)
         → number_of (first_of ((a, Address) ∷ (r, Reserved) ∷ (b, BackPorch) ∷ (l, LineShort n) ∷ (f, FrontPorch n) ∷ (w, Width) ∷ []) Done) < 16
@@ -40,48 +40,48 @@ page-below p = go (addressRefused p) (reservedRefused p) (backPorchRefused p) (l
     go false false false false false false n = omega arith
 
 module _ (b : Board) where
-  pub own_below : (n : ℕ) → number_of (ownCheck b n) < 16
-  unfolding ownCheck callCheck
-  own_below n = go (memoryRefused n) (not (done_of (pageCheck b.page))) (stateRefused b || false)
+  pub own_below : (n : ℕ) → number_of (own_check b n) < 16
+  unfolding own_check call_check
+  own_below n = go (memory_refused n) (not (done_of (page_check b.page))) (state_refused b || false)
     where
-      go : (s p t : Bool) → number_of (first_of ((not (done_of (wrongSize s)), wrongSize s) ∷ (p, pageCheck b.page) ∷ (t, Range) ∷ (false, Room) ∷ []) Done) < 16
+      go : (s p t : Bool) → number_of (first_of ((not (done_of (wrong_size s)), wrong_size s) ∷ (p, page_check b.page) ∷ (t, Range) ∷ (false, Room) ∷ []) Done) < 16
       go true p t = omega arith
       go false true t = page-below b.page
       go false false true = omega arith
       go false false false = omega arith
 
   -- a number that is none of the page's own
-  not_own : (n k : ℕ) → ltb 15 k ≡ true → eqb (number_of (ownCheck b n)) k ≡ false
+  not_own : (n k : ℕ) → ltb 15 k ≡ true → eqb (number_of (own_check b n)) k ≡ false
   not_own n k h =
-      let other : number_of (ownCheck b n) ≡ k → ⊥ = λ z. omega (arith, z, own_below n, ltb-true 15 k h) in
-      ne_eqb (number_of (ownCheck b n)) k other
+      let other : number_of (own_check b n) ≡ k → ⊥ = λ z. omega (arith, z, own_below n, ltb-true 15 k h) in
+      ne_eqb (number_of (own_check b n)) k other
 
   module _ (chars : List ℕ) where
     abbrev own : Bool
-    own = done_of (ownCheck b (length chars))
+    own = done_of (own_check b (length chars))
 
     abbrev on : Bool
     on = table_of b.page
 
     abbrev coded : Bool
-    coded = codedOf b.page
+    coded = coded_of b.page
 
     -- no place has a table's cells unfetched
     abbrev none : Bool
-    none = eqb (tablePlace b.page chars) (tablePlaces b.page)
+    none = eqb (table_place b.page chars) (table_places b.page)
 
     -- [R-5 refusals]
     -- 16, 19 and 17 are each answered exactly if their fact holds and none before it does
-    pub as-table-told : (eqb (number_of (asTableCheck b chars)) 16 ≡ own && on)
-        × (eqb (number_of (asTableCheck b chars)) 19 ≡ own && not on && coded)
-        × (eqb (number_of (asTableCheck b chars)) 17 ≡ own && not on && not coded && none)
-    unfolding asTableCheck
+    pub as-table-told : (eqb (number_of (as_table_check b chars)) 16 ≡ own && on)
+        × (eqb (number_of (as_table_check b chars)) 19 ≡ own && not on && coded)
+        × (eqb (number_of (as_table_check b chars)) 17 ≡ own && not on && not coded && none)
+    unfolding as_table_check
     as-table-told = go own refl on coded none
       where
         go : (t : Bool) → own ≡ t → (o c n : Bool)
-            → (eqb (number_of (pick t (first_of ((o, Kind) ∷ (c, Coded) ∷ (n, Stretch) ∷ []) Done) (ownCheck b (length chars)))) 16 ≡ t && o)
-            × (eqb (number_of (pick t (first_of ((o, Kind) ∷ (c, Coded) ∷ (n, Stretch) ∷ []) Done) (ownCheck b (length chars)))) 19 ≡ t && not o && c)
-            × (eqb (number_of (pick t (first_of ((o, Kind) ∷ (c, Coded) ∷ (n, Stretch) ∷ []) Done) (ownCheck b (length chars)))) 17 ≡ t && not o && not c && n)
+            → (eqb (number_of (pick t (first_of ((o, Kind) ∷ (c, Coded) ∷ (n, Stretch) ∷ []) Done) (own_check b (length chars)))) 16 ≡ t && o)
+            × (eqb (number_of (pick t (first_of ((o, Kind) ∷ (c, Coded) ∷ (n, Stretch) ∷ []) Done) (own_check b (length chars)))) 19 ≡ t && not o && c)
+            × (eqb (number_of (pick t (first_of ((o, Kind) ∷ (c, Coded) ∷ (n, Stretch) ∷ []) Done) (own_check b (length chars)))) 17 ≡ t && not o && not c && n)
         go false e o c n = (not_own (length chars) 16 refl, not_own (length chars) 19 refl, not_own (length chars) 17 refl)
         go true e true c n = (refl, refl, refl)
         go true e false true n = (refl, refl, refl)
@@ -90,7 +90,7 @@ module _ (b : Board) where
 
     -- [R-5 refusals]
     -- 19 is never answered moving there: 4 comes first
-    pub never-coded : number_of (asTableCheck b chars) ≡ 19 → ⊥
+    pub never-coded : number_of (as_table_check b chars) ≡ 19 → ⊥
     never-coded e = true≢false (sym (eq-eqb _ _ e) ∙ as-table-told.1 ∙ go own refl on refl)
       where
         go : (t : Bool) → own ≡ t → (o : Bool) → on ≡ o → (t && not o && coded) ≡ false
@@ -100,26 +100,26 @@ module _ (b : Board) where
 
     -- [R-5 lowest]
     -- what 17 says
-    pub no_place : (none ≡ true → (a : ℕ) → a < tablePlaces b.page → unfetchedAt b.page chars a ≡ false)
-        × (((a : ℕ) → a < tablePlaces b.page → unfetchedAt b.page chars a ≡ false) → none ≡ true)
-    unfolding tablePlace
+    pub no_place : (none ≡ true → (a : ℕ) → a < table_places b.page → unfetched_at b.page chars a ≡ false)
+        × (((a : ℕ) → a < table_places b.page → unfetched_at b.page chars a ≡ false) → none ≡ true)
+    unfolding table_place
     no_place = (
-      (λ e. first-not (unfetchedAt b.page chars) (tablePlaces b.page) (eqb-true _ _ e)),
-      (λ h. eq-eqb _ _ (first-none (unfetchedAt b.page chars) (tablePlaces b.page) h)),
+      (λ e. first-not (unfetched_at b.page chars) (table_places b.page) (eqb-true _ _ e)),
+      (λ h. eq-eqb _ _ (first-none (unfetched_at b.page chars) (table_places b.page) h)),
     )
 
     -- [R-5 refusals]
     -- 16, 19 and 18 are each answered exactly if their fact holds and none before it does
-    pub as-sheet-told : (eqb (number_of (asSheetCheck b chars)) 16 ≡ own && not on)
-        × (eqb (number_of (asSheetCheck b chars)) 19 ≡ own && on && coded)
-        × (eqb (number_of (asSheetCheck b chars)) 18 ≡ own && on && not coded && rowsApart b.page chars)
-    unfolding asSheetCheck
-    as-sheet-told = go own on coded (rowsApart b.page chars)
+    pub as-sheet-told : (eqb (number_of (as_sheet_check b chars)) 16 ≡ own && not on)
+        × (eqb (number_of (as_sheet_check b chars)) 19 ≡ own && on && coded)
+        × (eqb (number_of (as_sheet_check b chars)) 18 ≡ own && on && not coded && rows_apart b.page chars)
+    unfolding as_sheet_check
+    as-sheet-told = go own on coded (rows_apart b.page chars)
       where
         go : (t o c n : Bool)
-            → (eqb (number_of (pick t (first_of ((not o, Kind) ∷ (c, Coded) ∷ (n, Apart) ∷ []) Done) (ownCheck b (length chars)))) 16 ≡ t && not o)
-            × (eqb (number_of (pick t (first_of ((not o, Kind) ∷ (c, Coded) ∷ (n, Apart) ∷ []) Done) (ownCheck b (length chars)))) 19 ≡ t && o && c)
-            × (eqb (number_of (pick t (first_of ((not o, Kind) ∷ (c, Coded) ∷ (n, Apart) ∷ []) Done) (ownCheck b (length chars)))) 18 ≡ t && o && not c && n)
+            → (eqb (number_of (pick t (first_of ((not o, Kind) ∷ (c, Coded) ∷ (n, Apart) ∷ []) Done) (own_check b (length chars)))) 16 ≡ t && not o)
+            × (eqb (number_of (pick t (first_of ((not o, Kind) ∷ (c, Coded) ∷ (n, Apart) ∷ []) Done) (own_check b (length chars)))) 19 ≡ t && o && c)
+            × (eqb (number_of (pick t (first_of ((not o, Kind) ∷ (c, Coded) ∷ (n, Apart) ∷ []) Done) (own_check b (length chars)))) 18 ≡ t && o && not c && n)
         go false o c n = (not_own (length chars) 16 refl, not_own (length chars) 19 refl, not_own (length chars) 18 refl)
         go true false c n = (refl, refl, refl)
         go true true true n = (refl, refl, refl)

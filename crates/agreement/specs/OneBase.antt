@@ -5,29 +5,29 @@ use Rattle.lists.specs.Answer.{OneAnswer, only}
 use Rattle.units.specs.declared.Dots.{Dots}
 use Rattle.units.specs.declared.Clocks.{Clocks}
 use Rattle.units.specs.declared.Lines.{Lines}
-use Rattle.units.specs.Units.{clocks, lines, during, clocksOf, wholeLines, dotsOf}
+use Rattle.units.specs.Units.{clocks, lines, during, clocks_of, whole_lines, dots_of}
 use Rattle.refusal.specs.declared.Refusal.{Refusal}
-use Rattle.refusal.specs.Number.{number_of, besideOf, done_of, wrongSize}
+use Rattle.refusal.specs.Number.{number_of, beside_of, done_of, wrong_size}
 use Rattle.raster.specs.declared.Buffer.{Buffer}
 use Rattle.raster.specs.declared.Cell.{Cell}
 use Rattle.raster.specs.declared.Code.{Code}
-use Rattle.raster.specs.Moves.{cell, advance, advanceBy}
-use Rattle.raster.specs.Wide.{code_of, is_wide, is_top, isBottom, againAt}
+use Rattle.raster.specs.Moves.{cell, advance, advance_by}
+use Rattle.raster.specs.Wide.{code_of, is_wide, is_top, is_bottom, again_at}
 use Rattle.raster.specs.Latch.{latched}
 use Rattle.board.specs.declared.Starts.{Starts}
 use Rattle.board.specs.declared.Video.{Video}
 use Rattle.board.specs.declared.Page.{Page}
 use Rattle.board.specs.declared.Place.{Place}
 use Rattle.board.specs.declared.Board.{Board}
-use Rattle.board.specs.State.{clockZero, powerOf}
-use Rattle.board.specs.Layout.{layoutOf, lastIr, pageLength}
-use Rattle.board.specs.Modes.{versionOf, fieldMode, settersHidden, chipB}
-use Rattle.board.specs.Range.{memoriesRefused, startsRefused, switchesRefused, addressRefused, cellsRefused, pointerRefused, videoRefused}
-use Rattle.timing.specs.Fields.{scansOf, lines_of, timingOf, visibleOf, bufferOf, codedOf, table_of, cursorOf, underlineOf, blinkOf}
-use Rattle.timing.specs.Check.{widthRefused, pageCheck, size_of, stateRefused, callCheck}
-use Rattle.registers.specs.Write.{writeOf}
+use Rattle.board.specs.State.{clock_zero, power_of}
+use Rattle.board.specs.Layout.{layout_of, last_ir, page_length}
+use Rattle.board.specs.Modes.{version_of, field_mode, setters_hidden, chip_b}
+use Rattle.board.specs.Range.{memories_refused, starts_refused, switches_refused, address_refused, cells_refused, pointer_refused, video_refused}
+use Rattle.timing.specs.Fields.{scans_of, lines_of, timing_of, visible_of, buffer_of, coded_of, table_of, cursor_of, underline_of, blink_of}
+use Rattle.timing.specs.Check.{width_refused, page_check, size_of, state_refused, call_check}
+use Rattle.registers.specs.Write.{write_of}
 use Rattle.registers.specs.Read.{read_of}
-use Rattle.registers.specs.Video.{setVideoOf}
+use Rattle.registers.specs.Video.{set_video_of}
 
 -- ---- `units`
 
@@ -109,13 +109,13 @@ dots-below-one a b = only _
 pub dots-places-one : (a : Dots) → OneAnswer (λ r. r ≡ a.0)
 dots-places-one a = only _
 
-pub clocks-of-one : (n : Lines) (line : Clocks) → OneAnswer (λ r. r ≡ clocksOf n line)
+pub clocks-of-one : (n : Lines) (line : Clocks) → OneAnswer (λ r. r ≡ clocks_of n line)
 clocks-of-one n line = only _
 
-pub whole-lines-one : (n line : Clocks) → OneAnswer (λ r. r ≡ wholeLines n line)
+pub whole-lines-one : (n line : Clocks) → OneAnswer (λ r. r ≡ whole_lines n line)
 whole-lines-one n line = only _
 
-pub dots-of-one : (n : Clocks) (clock : Dots) → OneAnswer (λ r. r ≡ dotsOf n clock)
+pub dots-of-one : (n : Clocks) (clock : Dots) → OneAnswer (λ r. r ≡ dots_of n clock)
 dots-of-one n clock = only _
 
 -- ---- `refusal`
@@ -123,13 +123,13 @@ dots-of-one n clock = only _
 pub number-one : (x : Refusal) → OneAnswer (λ r. r ≡ number_of x)
 number-one x = only _
 
-pub beside-one : (x : Refusal) → OneAnswer (λ r. r ≡ besideOf x)
+pub beside-one : (x : Refusal) → OneAnswer (λ r. r ≡ beside_of x)
 beside-one x = only _
 
 pub is-done-one : (x : Refusal) → OneAnswer (λ r. r ≡ done_of x)
 is-done-one x = only _
 
-pub wrong-size-one : (wrong : Bool) → OneAnswer (λ r. r ≡ wrongSize wrong)
+pub wrong-size-one : (wrong : Bool) → OneAnswer (λ r. r ≡ wrong_size wrong)
 wrong-size-one wrong = only _
 
 -- ---- `raster`
@@ -137,7 +137,7 @@ wrong-size-one wrong = only _
 pub advance-one-one : (b : Buffer) (c : Cell) → OneAnswer (λ r. r ≡ cell (advance b c.address))
 advance-one-one b c = only _
 
-pub advance-by-one : (b : Buffer) (k : ℕ) (c : Cell) → OneAnswer (λ r. r ≡ cell (advanceBy b k c.address))
+pub advance-by-one : (b : Buffer) (k : ℕ) (c : Cell) → OneAnswer (λ r. r ≡ cell (advance_by b k c.address))
 advance-by-one b k c = only _
 
 pub latched-one : (byte held : ℕ) → OneAnswer (λ r. r ≡ latched byte held)
@@ -152,74 +152,74 @@ is-wide-one k = only _
 pub is-top-one : (k : Code) → OneAnswer (λ r. r ≡ is_top k)
 is-top-one k = only _
 
-pub is-bottom-one : (k : Code) → OneAnswer (λ r. r ≡ isBottom k)
+pub is-bottom-one : (k : Code) → OneAnswer (λ r. r ≡ is_bottom k)
 is-bottom-one k = only _
 
-pub again-at-one : (k : Code) (column : Clocks) → OneAnswer (λ r. r ≡ againAt k column.0)
+pub again-at-one : (k : Code) (column : Clocks) → OneAnswer (λ r. r ≡ again_at k column.0)
 again-at-one k column = only _
 
 -- ---- `board`
 
-pub power-one : OneAnswer (λ r. r ≡ powerOf)
+pub power-one : OneAnswer (λ r. r ≡ power_of)
 power-one = only _
 
-pub clock-zero-one : OneAnswer (λ r. r ≡ clockZero)
+pub clock-zero-one : OneAnswer (λ r. r ≡ clock_zero)
 clock-zero-one = only _
 
-pub memories-refused-one : (chars attrs : ℕ) → OneAnswer (λ r. r ≡ memoriesRefused chars attrs)
+pub memories-refused-one : (chars attrs : ℕ) → OneAnswer (λ r. r ≡ memories_refused chars attrs)
 memories-refused-one chars attrs = only _
 
-pub starts-refused-one : (s : Starts) → OneAnswer (λ r. r ≡ startsRefused s)
+pub starts-refused-one : (s : Starts) → OneAnswer (λ r. r ≡ starts_refused s)
 starts-refused-one s = only _
 
-pub switches-refused-one : (version switches : ℕ) → OneAnswer (λ r. r ≡ switchesRefused version switches)
+pub switches-refused-one : (version switches : ℕ) → OneAnswer (λ r. r ≡ switches_refused version switches)
 switches-refused-one version switches = only _
 
-pub version-of-one : (p : Page) → OneAnswer (λ r. r ≡ versionOf p)
+pub version-of-one : (p : Page) → OneAnswer (λ r. r ≡ version_of p)
 version-of-one p = only _
 
-pub layout-of-one : (version : ℕ) → OneAnswer (λ r. r ≡ layoutOf version)
+pub layout-of-one : (version : ℕ) → OneAnswer (λ r. r ≡ layout_of version)
 layout-of-one version = only _
 
-pub irs-of-one : (version : ℕ) → OneAnswer (λ r. r ≡ (layoutOf version).irs)
+pub irs-of-one : (version : ℕ) → OneAnswer (λ r. r ≡ (layout_of version).irs)
 irs-of-one version = only _
 
-pub last-ir-one : (version : ℕ) → OneAnswer (λ r. r ≡ lastIr version)
+pub last-ir-one : (version : ℕ) → OneAnswer (λ r. r ≡ last_ir version)
 last-ir-one version = only _
 
-pub page-length-one : (version : ℕ) → OneAnswer (λ r. r ≡ pageLength version)
+pub page-length-one : (version : ℕ) → OneAnswer (λ r. r ≡ page_length version)
 page-length-one version = only _
 
-pub field-mode-one : (p : Page) → OneAnswer (λ r. r ≡ fieldMode p)
+pub field-mode-one : (p : Page) → OneAnswer (λ r. r ≡ field_mode p)
 field-mode-one p = only _
 
-pub chip-b-one : (p : Page) → OneAnswer (λ r. r ≡ chipB p)
+pub chip-b-one : (p : Page) → OneAnswer (λ r. r ≡ chip_b p)
 chip-b-one p = only _
 
-pub setters-hidden-one : (p : Page) → OneAnswer (λ r. r ≡ settersHidden p)
+pub setters-hidden-one : (p : Page) → OneAnswer (λ r. r ≡ setters_hidden p)
 setters-hidden-one p = only _
 
-pub video-refused-one : (version : ℕ) (v : Video) → OneAnswer (λ r. r ≡ videoRefused version v)
+pub video-refused-one : (version : ℕ) (v : Video) → OneAnswer (λ r. r ≡ video_refused version v)
 video-refused-one version v = only _
 
-pub address-refused-one : (p : Page) → OneAnswer (λ r. r ≡ addressRefused p)
+pub address-refused-one : (p : Page) → OneAnswer (λ r. r ≡ address_refused p)
 address-refused-one p = only _
 
-pub cells-refused-one : (p : Place) → OneAnswer (λ r. r ≡ cellsRefused p)
+pub cells-refused-one : (p : Place) → OneAnswer (λ r. r ≡ cells_refused p)
 cells-refused-one p = only _
 
-pub pointer-refused-one : (p : Page) (n : ℕ) → OneAnswer (λ r. r ≡ pointerRefused p n)
+pub pointer-refused-one : (p : Page) (n : ℕ) → OneAnswer (λ r. r ≡ pointer_refused p n)
 pointer-refused-one p n = only _
 
 -- ---- `timing`
 
-pub page-check-one : (p : Page) → OneAnswer (λ r. r ≡ pageCheck p)
+pub page-check-one : (p : Page) → OneAnswer (λ r. r ≡ page_check p)
 page-check-one p = only _
 
 pub page-size-one : (p : Page) → OneAnswer (λ r. r ≡ size_of p)
 page-size-one p = only _
 
-pub timing-of-one : (p : Page) → OneAnswer (λ r. r ≡ timingOf p)
+pub timing-of-one : (p : Page) → OneAnswer (λ r. r ≡ timing_of p)
 timing-of-one p = only _
 
 pub row-of-one : (p : Page) (line : Lines) → OneAnswer (λ r. r ≡ line.0 / lines_of p)
@@ -228,45 +228,45 @@ row-of-one p line = only _
 pub line-of-row-one : (p : Page) (line : Lines) → OneAnswer (λ r. r ≡ lines (line.0 % lines_of p))
 line-of-row-one p line = only _
 
-pub buffer-of-one : (p : Page) → OneAnswer (λ r. r ≡ bufferOf p)
+pub buffer-of-one : (p : Page) → OneAnswer (λ r. r ≡ buffer_of p)
 buffer-of-one p = only _
 
 pub table-of-one : (p : Page) → OneAnswer (λ r. r ≡ table_of p)
 table-of-one p = only _
 
-pub coded-of-one : (p : Page) → OneAnswer (λ r. r ≡ codedOf p)
+pub coded-of-one : (p : Page) → OneAnswer (λ r. r ≡ coded_of p)
 coded-of-one p = only _
 
-pub cursor-of-one : (p : Page) → OneAnswer (λ r. r ≡ cursorOf p)
+pub cursor-of-one : (p : Page) → OneAnswer (λ r. r ≡ cursor_of p)
 cursor-of-one p = only _
 
-pub underline-of-one : (p : Page) → OneAnswer (λ r. r ≡ underlineOf p)
+pub underline-of-one : (p : Page) → OneAnswer (λ r. r ≡ underline_of p)
 underline-of-one p = only _
 
-pub blink-of-one : (p : Page) → OneAnswer (λ r. r ≡ blinkOf p)
+pub blink-of-one : (p : Page) → OneAnswer (λ r. r ≡ blink_of p)
 blink-of-one p = only _
 
-pub width-refused-one : (d : Dots) → OneAnswer (λ r. r ≡ widthRefused d)
+pub width-refused-one : (d : Dots) → OneAnswer (λ r. r ≡ width_refused d)
 width-refused-one d = only _
 
-pub scans-of-one : (p : Page) → OneAnswer (λ r. r ≡ lines (scansOf p))
+pub scans-of-one : (p : Page) → OneAnswer (λ r. r ≡ lines (scans_of p))
 scans-of-one p = only _
 
-pub visible-of-one : (p : Page) → OneAnswer (λ r. r ≡ visibleOf p)
+pub visible-of-one : (p : Page) → OneAnswer (λ r. r ≡ visible_of p)
 visible-of-one p = only _
 
-pub state-refused-one : (b : Board) → OneAnswer (λ r. r ≡ stateRefused b)
+pub state-refused-one : (b : Board) → OneAnswer (λ r. r ≡ state_refused b)
 state-refused-one b = only _
 
-pub call-check-one : (b : Board) (lent : Refusal) (asked room : Bool) → OneAnswer (λ r. r ≡ callCheck b lent asked room)
+pub call-check-one : (b : Board) (lent : Refusal) (asked room : Bool) → OneAnswer (λ r. r ≡ call_check b lent asked room)
 call-check-one b size asked room = only _
 
 -- ---- `registers`
 
-pub set-video-one : (b : Board) (d : Dots) (k : ℕ) (bk rb : Bool) → OneAnswer (λ r. r ≡ setVideoOf b d k bk rb)
+pub set-video-one : (b : Board) (d : Dots) (k : ℕ) (bk rb : Bool) → OneAnswer (λ r. r ≡ set_video_of b d k bk rb)
 set-video-one b d k bk rb = only _
 
-pub write-one : (b : Board) (a v : ℕ) → OneAnswer (λ r. r ≡ writeOf b a v)
+pub write-one : (b : Board) (a v : ℕ) → OneAnswer (λ r. r ≡ write_of b a v)
 write-one b a v = only _
 
 pub read_one : (b : Board) (a : ℕ) → OneAnswer (λ r. r ≡ read_of b a)

@@ -13,43 +13,43 @@ use Rattle.board.specs.declared.Page.{Page}
 use Rattle.board.specs.declared.Place.{Place}
 use Rattle.board.specs.declared.Board.{Board}
 use Rattle.fetch.specs.declared.RowCells.{RowCells}
-use Rattle.fetch.specs.Run.{span_of, run_of, oneRun, GivesSpan, GivesRun}
+use Rattle.fetch.specs.Run.{span_of, run_of, one_run, GivesSpan, GivesRun}
 use Rattle.fetch.specs.RowCells.{GivesCells}
 use Rattle.fetch.specs.Laws.{span_fits}
-use Rattle.fetch.specs.Rows.{entry_of, code_at, rowStart, cell_at, fetchedOf, fetchedBefore}
+use Rattle.fetch.specs.Rows.{entry_of, code_at, row_start, cell_at, fetched_of, fetched_before}
 use Rattle.catalogue.specs.declared.Moved.{Moved}
 use Rattle.catalogue.specs.ToTable.{MovesToTable}
-use Rattle.catalogue.specs.ToSheet.{asSheet}
+use Rattle.catalogue.specs.ToSheet.{as_sheet}
 use Rattle.records.specs.declared.Phrase.{Phrase}
 use Rattle.records.specs.declared.PhraseAnswer.{PhraseAnswer}
 use Rattle.records.specs.declared.PairAnswer.{PairAnswer}
 use Rattle.records.specs.declared.Asked.{Asked}
 use Rattle.records.specs.declared.Mate.{Mate}
-use Rattle.records.specs.Records.{phraseOfRow, phrasesDiffer}
+use Rattle.records.specs.Records.{phrase_of_row, phrases_differ}
 use Rattle.records.specs.Ends.{asked_of}
-use Rattle.records.specs.Folds.{start_of, visitOf, searchOf, mateStart, mateVisit, mateFour, foursFrom, pairStart, pairVisit}
-use Rattle.columns.specs.Columns.{recordsOf}
+use Rattle.records.specs.Folds.{start_of, visit_of, search_of, mate_start, mate_visit, mate_four, fours_from, pair_start, pair_visit}
+use Rattle.columns.specs.Columns.{records_of}
 use Rattle.latch.specs.Held.{held_at}
 use Rattle.shape.specs.declared.FontLine.{FontLine}
 use Rattle.shape.specs.declared.FontLines.{FontLines}
-use Rattle.shape.specs.Font.{Font, fontRefused, fontLineOf, fontLinesOf, fontLineAt, wordBy, graphicsWord, groupsCheck}
+use Rattle.shape.specs.Font.{Font, font_refused, font_line_of, font_lines_of, font_line_at, word_by, graphics_word, groups_check}
 use Rattle.video.specs.declared.Scene.{Scene}
 use Rattle.video.specs.declared.Look.{Look}
 use Rattle.video.specs.declared.Reading.{Reading}
-use Rattle.video.specs.Scene.{scene_of, cursorAt}
+use Rattle.video.specs.Scene.{scene_of, cursor_at}
 use Rattle.video.specs.Look.{look_of}
-use Rattle.dots.specs.Stores.{spread_of, wide_of, underOf, inkTable}
-use Rattle.dots.specs.Width.{cellPut, cellWritten, cellDrawn}
-use Rattle.tables.specs.Tables.{Gathers, looksPut, looksFilled, wordsFilled}
-use Rattle.line.specs.Line.{scanFor, DrawsLine}
-use Rattle.line.specs.Walk.{shapedOver}
+use Rattle.dots.specs.Stores.{spread_of, wide_of, under_of, ink_table}
+use Rattle.dots.specs.Width.{cell_put, cell_written, cell_drawn}
+use Rattle.tables.specs.Tables.{Gathers, looks_put, looks_filled, words_filled}
+use Rattle.line.specs.Line.{scan_for, DrawsLine}
+use Rattle.line.specs.Walk.{shaped_over}
 use Rattle.picture.specs.Picture.{DrawsPicture}
 use Rattle.dots.specs.Half.{halved}
-use Rattle.video.specs.At.{lentRefused, lentBy, lentCheck, scanOf, scanAt, reading_of, countedByte, shownCode, graphicsBy}
+use Rattle.video.specs.At.{lent_refused, lent_by, lent_check, scan_of, scan_at, reading_of, counted_byte, shown_code, graphics_by}
 use Rattle.step.specs.Step.{step_of}
 use Rattle.place.specs.declared.Carried.{Carried}
-use Rattle.place.specs.Place.{activeAt, loadedIn, movedIn, turnedIn}
-use Rattle.board.specs.Parts.{withPlace}
+use Rattle.place.specs.Place.{active_at, loaded_in, moved_in, turned_in}
+use Rattle.board.specs.Parts.{with_place}
 use Rattle.place.specs.State.{state_of}
 use Rattle.fetch.specs.declared.Span.{Span}
 
@@ -78,16 +78,16 @@ entry-one p chars row = only _
 pub code_at_one : (p : Page) (chars : List ℕ) (row : ℕ) → OneAnswer (λ r. r ≡ code_at p chars row)
 code_at_one p chars row = only _
 
-pub fetched-of-one : (p : Page) (chars : List ℕ) (row : ℕ) → OneAnswer (λ r. r ≡ fetchedOf p chars row)
+pub fetched-of-one : (p : Page) (chars : List ℕ) (row : ℕ) → OneAnswer (λ r. r ≡ fetched_of p chars row)
 fetched-of-one p chars row = only _
 
-pub fetched-before-one : (p : Page) (chars : List ℕ) (row column : ℕ) → OneAnswer (λ r. r ≡ fetchedBefore p chars row column)
+pub fetched-before-one : (p : Page) (chars : List ℕ) (row column : ℕ) → OneAnswer (λ r. r ≡ fetched_before p chars row column)
 fetched-before-one p chars row column = only _
 
-pub one-run-one : (b : Buffer) (start : Cell) (n : ℕ) → OneAnswer (λ r. r ≡ oneRun b start.address n)
+pub one-run-one : (b : Buffer) (start : Cell) (n : ℕ) → OneAnswer (λ r. r ≡ one_run b start.address n)
 one-run-one b start n = only _
 
-pub row-start-one : (p : Page) (chars : List ℕ) (row : ℕ) → OneAnswer (λ r. r ≡ cell (rowStart p chars row))
+pub row-start-one : (p : Page) (chars : List ℕ) (row : ℕ) → OneAnswer (λ r. r ≡ cell (row_start p chars row))
 row-start-one p chars row = only _
 
 pub cell-at-one : (p : Page) (chars : List ℕ) (row column : ℕ) → OneAnswer (λ r. r ≡ cell (cell_at p chars row column))
@@ -99,7 +99,7 @@ cell-at-one p chars row column = only _
 pub to-table-one : (b : Board) (chars : List ℕ) → OneAnswer (λ (r : Moved × List ℕ). MovesToTable b chars r.0 r.1)
 to-table-one b chars = only-both _ _
 
-pub to-sheet-one : (b : Board) (chars : List ℕ) → OneAnswer (λ r. r ≡ asSheet b chars)
+pub to-sheet-one : (b : Board) (chars : List ℕ) → OneAnswer (λ r. r ≡ as_sheet b chars)
 to-sheet-one b chars = only _
 
 -- ---- `records`
@@ -110,45 +110,45 @@ row-asked-one b chars row = only _
 pub start-one : (a : Asked) → OneAnswer (λ r. r ≡ start_of a)
 start-one a = only _
 
-pub visit-one : (s : PhraseAnswer) (p : Phrase) (i : ℕ) (a : Asked) → OneAnswer (λ r. r ≡ visitOf s p i a)
+pub visit-one : (s : PhraseAnswer) (p : Phrase) (i : ℕ) (a : Asked) → OneAnswer (λ r. r ≡ visit_of s p i a)
 visit-one s p i a = only _
 
-pub start-mate-one : (o : Phrase) → OneAnswer (λ r. r ≡ mateStart o)
+pub start-mate-one : (o : Phrase) → OneAnswer (λ r. r ≡ mate_start o)
 start-mate-one o = only _
 
-pub visit-mate-one : (s : Mate) (p : Phrase) (i : ℕ) (o : Phrase) → OneAnswer (λ r. r ≡ mateVisit s p i o)
+pub visit-mate-one : (s : Mate) (p : Phrase) (i : ℕ) (o : Phrase) → OneAnswer (λ r. r ≡ mate_visit s p i o)
 visit-mate-one s p i o = only _
 
-pub visit-four-one : (s : Mate) (a b c d : Phrase) (i : ℕ) (o : Phrase) → OneAnswer (λ r. r ≡ mateFour s a b c d i o)
+pub visit-four-one : (s : Mate) (a b c d : Phrase) (i : ℕ) (o : Phrase) → OneAnswer (λ r. r ≡ mate_four s a b c d i o)
 visit-four-one s a b c d i o = only _
 
-pub fours-from-one : (after n : ℕ) → OneAnswer (λ r. r ≡ foursFrom after n)
+pub fours-from-one : (after n : ℕ) → OneAnswer (λ r. r ≡ fours_from after n)
 fours-from-one after n = only _
 
-pub start-pair-one : OneAnswer (λ r. r ≡ pairStart)
+pub start-pair-one : OneAnswer (λ r. r ≡ pair_start)
 start-pair-one = only _
 
-pub visit-pair-one : (s : PairAnswer) (m : Mate) (i : ℕ) → OneAnswer (λ r. r ≡ pairVisit s m i)
+pub visit-pair-one : (s : PairAnswer) (m : Mate) (i : ℕ) → OneAnswer (λ r. r ≡ pair_visit s m i)
 visit-pair-one s m i = only _
 
 -- ---- `phrases`
 
-pub search-one : (phrases : List Phrase) (a : Asked) → OneAnswer (λ r. r ≡ searchOf phrases a)
+pub search-one : (phrases : List Phrase) (a : Asked) → OneAnswer (λ r. r ≡ search_of phrases a)
 search-one phrases a = only _
 
-pub phrase-of-row-one : (b : Board) (chars : List ℕ) (phrases : List Phrase) (row : ℕ) → OneAnswer (λ r. r ≡ phraseOfRow b chars phrases row)
+pub phrase-of-row-one : (b : Board) (chars : List ℕ) (phrases : List Phrase) (row : ℕ) → OneAnswer (λ r. r ≡ phrase_of_row b chars phrases row)
 phrase-of-row-one b chars phrases row = only _
 
-pub phrases-differ-one : (phrases : List Phrase) → OneAnswer (λ r. r ≡ phrasesDiffer phrases)
+pub phrases-differ-one : (phrases : List Phrase) → OneAnswer (λ r. r ≡ phrases_differ phrases)
 phrases-differ-one phrases = only _
 
 -- ---- `columns`
 
 pub record-of-row-one : (b : Board) (chars languages numbers firsts lengths : List ℕ) (row : ℕ)
-    → OneAnswer (λ r. r ≡ phraseOfRow b chars (recordsOf languages numbers firsts lengths) row)
+    → OneAnswer (λ r. r ≡ phrase_of_row b chars (records_of languages numbers firsts lengths) row)
 record-of-row-one b chars languages numbers firsts lengths row = only _
 
-pub records-differ-one : (languages numbers firsts lengths : List ℕ) → OneAnswer (λ r. r ≡ phrasesDiffer (recordsOf languages numbers firsts lengths))
+pub records-differ-one : (languages numbers firsts lengths : List ℕ) → OneAnswer (λ r. r ≡ phrases_differ (records_of languages numbers firsts lengths))
 records-differ-one languages numbers firsts lengths = only _
 
 -- ---- `latch`
@@ -161,25 +161,25 @@ held-at-one p chars attrs row column = only _
 
 -- ---- `shape`
 
-pub font-line-one : (unshifted shifted groups : List ℕ) (scan : ℕ) → OneAnswer (λ r. r ≡ fontLineOf unshifted shifted groups scan)
+pub font-line-one : (unshifted shifted groups : List ℕ) (scan : ℕ) → OneAnswer (λ r. r ≡ font_line_of unshifted shifted groups scan)
 font-line-one unshifted shifted groups scan = only _
 
-pub font-lines-one : (unshifted shifted groups : List ℕ) → OneAnswer (λ r. r ≡ fontLinesOf unshifted shifted groups)
+pub font-lines-one : (unshifted shifted groups : List ℕ) → OneAnswer (λ r. r ≡ font_lines_of unshifted shifted groups)
 font-lines-one unshifted shifted groups = only _
 
-pub font-line-at-one : (lines : FontLines) (scan : ℕ) → OneAnswer (λ r. r ≡ fontLineAt lines scan)
+pub font-line-at-one : (lines : FontLines) (scan : ℕ) → OneAnswer (λ r. r ≡ font_line_at lines scan)
 font-line-at-one lines scan = only _
 
-pub font-refused-one : (f : Font) → OneAnswer (λ r. r ≡ fontRefused f)
+pub font-refused-one : (f : Font) → OneAnswer (λ r. r ≡ font_refused f)
 font-refused-one f = only _
 
-pub groups-check-one : (groups : List ℕ) → OneAnswer (λ r. r ≡ groupsCheck groups)
+pub groups-check-one : (groups : List ℕ) → OneAnswer (λ r. r ≡ groups_check groups)
 groups-check-one groups = only _
 
-pub graphics-word-one : (group code : ℕ) → OneAnswer (λ r. r ≡ graphicsWord group code)
+pub graphics-word-one : (group code : ℕ) → OneAnswer (λ r. r ≡ graphics_word group code)
 graphics-word-one group code = only _
 
-pub word-by-one : (words flags : List ℕ) (line : FontLine) (graphics : Bool) (code : ℕ) → OneAnswer (λ r. r ≡ wordBy words flags line graphics code)
+pub word-by-one : (words flags : List ℕ) (line : FontLine) (graphics : Bool) (code : ℕ) → OneAnswer (λ r. r ≡ word_by words flags line graphics code)
 word-by-one words flags line graphics code = only _
 
 -- ---- `video`
@@ -187,37 +187,37 @@ word-by-one words flags line graphics code = only _
 pub scene-of-one : (b : Board) (scan field : ℕ) → OneAnswer (λ r. r ≡ scene_of b scan field)
 scene-of-one b scan field = only _
 
-pub cursor-at-one : (s : Scene) (at : ℕ) → OneAnswer (λ r. r ≡ cursorAt s at)
+pub cursor-at-one : (s : Scene) (at : ℕ) → OneAnswer (λ r. r ≡ cursor_at s at)
 cursor-at-one s at = only _
 
 pub reading-of-one : (p : Page) → OneAnswer (λ r. r ≡ reading_of p)
 reading-of-one p = only _
 
-pub scan-of-one : (k : Code) (of line : ℕ) → OneAnswer (λ r. r ≡ lines (scanOf k of line))
+pub scan-of-one : (k : Code) (of line : ℕ) → OneAnswer (λ r. r ≡ lines (scan_of k of line))
 scan-of-one k of line = only _
 
-pub scan-at-one : (p : Page) (k : Code) (line : ℕ) → OneAnswer (λ r. r ≡ lines (scanAt p k line))
+pub scan-at-one : (p : Page) (k : Code) (line : ℕ) → OneAnswer (λ r. r ≡ lines (scan_at p k line))
 scan-at-one p k line = only _
 
-pub counted-byte-one : (k : Reading) (again : Bool) (byte : ℕ) → OneAnswer (λ r. r ≡ countedByte k again byte)
+pub counted-byte-one : (k : Reading) (again : Bool) (byte : ℕ) → OneAnswer (λ r. r ≡ counted_byte k again byte)
 counted-byte-one k again byte = only _
 
-pub shown-code-one : (hidden : Bool) (code byte : ℕ) → OneAnswer (λ r. r ≡ shownCode hidden code byte)
+pub shown-code-one : (hidden : Bool) (code byte : ℕ) → OneAnswer (λ r. r ≡ shown_code hidden code byte)
 shown-code-one hidden code byte = only _
 
-pub graphics-by-one : (k : Reading) (attributes : ℕ) → OneAnswer (λ r. r ≡ graphicsBy k attributes)
+pub graphics-by-one : (k : Reading) (attributes : ℕ) → OneAnswer (λ r. r ≡ graphics_by k attributes)
 graphics-by-one k attributes = only _
 
 pub look-of-one : (s : Scene) (attributes : ℕ) (cursor : Bool) → OneAnswer (λ r. r ≡ look_of s attributes cursor)
 look-of-one s attributes cursor = only _
 
-pub lent-refused-one : (chars attrs : List ℕ) (f : Font) → OneAnswer (λ r. r ≡ lentRefused chars attrs f)
+pub lent-refused-one : (chars attrs : List ℕ) (f : Font) → OneAnswer (λ r. r ≡ lent_refused chars attrs f)
 lent-refused-one chars attrs f = only _
 
-pub lent-by-one : (size : Bool) (groups : List ℕ) → OneAnswer (λ r. r ≡ lentBy size groups)
+pub lent-by-one : (size : Bool) (groups : List ℕ) → OneAnswer (λ r. r ≡ lent_by size groups)
 lent-by-one size groups = only _
 
-pub lent-check-one : (chars attrs : List ℕ) (f : Font) → OneAnswer (λ r. r ≡ lentCheck chars attrs f)
+pub lent-check-one : (chars attrs : List ℕ) (f : Font) → OneAnswer (λ r. r ≡ lent_check chars attrs f)
 lent-check-one chars attrs f = only _
 
 -- ---- `dots`: a number, or the buffer
@@ -228,19 +228,19 @@ spread-one w = only _
 pub wide-one : (word d : ℕ) → OneAnswer (λ r. r ≡ wide_of word d)
 wide-one word d = only _
 
-pub under_one : (look : Look) → OneAnswer (λ r. r ≡ underOf look)
+pub under_one : (look : Look) → OneAnswer (λ r. r ≡ under_of look)
 under_one look = only _
 
-pub inks-one : OneAnswer (λ r. r ≡ inkTable)
+pub inks-one : OneAnswer (λ r. r ≡ ink_table)
 inks-one = only _
 
-pub put-cell-one : (levels word d : ℕ) (tight : Bool) (out : List ℕ) → OneAnswer (λ r. r ≡ cellPut levels word d tight out)
+pub put-cell-one : (levels word d : ℕ) (tight : Bool) (out : List ℕ) → OneAnswer (λ r. r ≡ cell_put levels word d tight out)
 put-cell-one levels word d tight out = only _
 
-pub write-cell-one : (symbol surround word d : ℕ) (out : List ℕ) → OneAnswer (λ r. r ≡ cellWritten symbol surround word d out)
+pub write-cell-one : (symbol surround word d : ℕ) (out : List ℕ) → OneAnswer (λ r. r ≡ cell_written symbol surround word d out)
 write-cell-one symbol surround word d out = only _
 
-pub draw-cell-one : (look : Look) (word d : ℕ) (out : List ℕ) → OneAnswer (λ r. r ≡ cellDrawn look word d out)
+pub draw-cell-one : (look : Look) (word d : ℕ) (out : List ℕ) → OneAnswer (λ r. r ≡ cell_drawn look word d out)
 draw-cell-one look word d out = only _
 
 pub halve-one : (cell : List ℕ) (from d : ℕ) (out : List ℕ) → OneAnswer (λ r. r ≡ halved cell from d out)
@@ -255,22 +255,22 @@ pub gather-one : (k : Reading) (chars attrs : List ℕ) (buffer : Buffer) (held 
     → OneAnswer (λ (r : ℕ × List ℕ). Gathers k chars attrs buffer held start.address n cells r.0 r.1)
 gather-one k chars attrs buffer held start n cells = only-both _ _
 
-pub looks-one : (s : Scene) (table : List ℕ) → OneAnswer (λ r. r ≡ looksPut s table)
+pub looks-one : (s : Scene) (table : List ℕ) → OneAnswer (λ r. r ≡ looks_put s table)
 looks-one s table = only _
 
-pub fill-looks-one : (b : Board) (field n : ℕ) (table : List ℕ) → OneAnswer (λ r. r ≡ looksFilled b field n table)
+pub fill-looks-one : (b : Board) (field n : ℕ) (table : List ℕ) → OneAnswer (λ r. r ≡ looks_filled b field n table)
 fill-looks-one b field n table = only _
 
-pub fill-words-one : (words flags : List ℕ) (lines : FontLines) (n d : ℕ) (table : List ℕ) → OneAnswer (λ r. r ≡ wordsFilled words flags lines n d table)
+pub fill-words-one : (words flags : List ℕ) (lines : FontLines) (n d : ℕ) (table : List ℕ) → OneAnswer (λ r. r ≡ words_filled words flags lines n d table)
 fill-words-one words flags lines n d table = only _
 
 -- ---- `line`
 
-pub scan-for-one : (b : Board) (chars : List ℕ) (line : ℕ) → OneAnswer (λ r. r ≡ lines (scanFor b chars line))
+pub scan-for-one : (b : Board) (chars : List ℕ) (line : ℕ) → OneAnswer (λ r. r ≡ lines (scan_for b chars line))
 scan-for-one b chars line = only _
 
 pub whole-line-one : (b : Board) (chars attrs words flags : List ℕ) (font : FontLine) (line field : ℕ) (out : List ℕ)
-    → OneAnswer (λ r. r ≡ shapedOver b chars attrs (wordBy words flags font) line field out)
+    → OneAnswer (λ r. r ≡ shaped_over b chars attrs (word_by words flags font) line field out)
 whole-line-one b chars attrs words flags font line field out = only _
 
 -- the refusal and the buffer
@@ -284,16 +284,16 @@ draw-picture-one b chars attrs f field out = only-both _ _
 
 -- ---- `place`
 
-pub active-at-one : (p : Page) (q : Place) → OneAnswer (λ r. r ≡ activeAt p q)
+pub active-at-one : (p : Page) (q : Place) → OneAnswer (λ r. r ≡ active_at p q)
 active-at-one p q = only _
 
-pub loaded-at-one : (p : Page) (chars : List ℕ) (q : Place) → OneAnswer (λ r. r ≡ loadedIn p chars q)
+pub loaded-at-one : (p : Page) (chars : List ℕ) (q : Place) → OneAnswer (λ r. r ≡ loaded_in p chars q)
 loaded-at-one p chars q = only _
 
-pub place-after-one : (p : Page) (attrs : List ℕ) (q : Place) (c : Carried) → OneAnswer (λ r. r ≡ turnedIn p q (movedIn p attrs q c))
+pub place-after-one : (p : Page) (attrs : List ℕ) (q : Place) (c : Carried) → OneAnswer (λ r. r ≡ turned_in p q (moved_in p attrs q c))
 place-after-one p attrs q c = only _
 
-pub with-place-one : (b : Board) (q : Place) → OneAnswer (λ r. r ≡ withPlace b q)
+pub with-place-one : (b : Board) (q : Place) → OneAnswer (λ r. r ≡ with_place b q)
 with-place-one b q = only _
 
 pub state-at-one : (b : Board) (chars attrs : List ℕ) (n : ℕ) → OneAnswer (λ r. r ≡ state_of b chars attrs n)

@@ -4,14 +4,14 @@ use Rattle.lists.specs.Answer.{OneAnswer, only, only-both, only-three, only-four
 use Rattle.refusal.specs.declared.Refusal.{Refusal}
 use Rattle.board.specs.declared.Page.{Page}
 use Rattle.board.specs.declared.Board.{Board}
-use Rattle.board.specs.Layout.{charsPlace, fileSize}
+use Rattle.board.specs.Layout.{chars_place, file_size}
 use Rattle.shape.specs.Font.{Font}
-use Rattle.copies.specs.Put.{put_at, takenFrom}
+use Rattle.copies.specs.Put.{put_at, taken_from}
 use Rattle.files.specs.declared.PageRead.{PageRead}
-use Rattle.files.specs.File.{versionRefused, readCheck, ReadsPage, WritesPage}
-use Rattle.files.specs.FontFile.{groupCount, ReadsFont, WritesFont}
-use Rattle.files.specs.Page.{versionIn, pageAt, boardAt, pageBytes}
-use Rattle.numbers.specs.Numbers.{numbersRefused, numbersCheck, pageOrOwn, GivesNumbers}
+use Rattle.files.specs.File.{version_refused, read_check, ReadsPage, WritesPage}
+use Rattle.files.specs.FontFile.{group_count, ReadsFont, WritesFont}
+use Rattle.files.specs.Page.{version_in, page_at, board_at, page_bytes}
+use Rattle.numbers.specs.Numbers.{numbers_refused, numbers_check, page_or_own, GivesNumbers}
 use Rattle.numbers.specs.Files.{ReadsFile, WritesFile}
 use Rattle.listing.specs.declared.Listed.{Listed}
 use Rattle.listing.specs.Listing.{ListsHead, ListsLine}
@@ -19,7 +19,7 @@ use Rattle.listing.specs.Listing.{ListsHead, ListsLine}
 -- ---- `copies`
 
 -- the buffer
-pub take-from-one : (src : List ℕ) (at : ℕ) (dst : List ℕ) → OneAnswer (λ r. r ≡ takenFrom at src dst)
+pub take-from-one : (src : List ℕ) (at : ℕ) (dst : List ℕ) → OneAnswer (λ r. r ≡ taken_from at src dst)
 take-from-one src at dst = only _
 
 pub put_one : (src : List ℕ) (at : ℕ) (out : List ℕ) → OneAnswer (λ r. r ≡ put_at at src out)
@@ -41,37 +41,37 @@ read-font-one file f = only-both _ _
 pub write-font-one : (f : Font) (out : List ℕ) → OneAnswer (λ (r : Refusal × List ℕ). WritesFont f out r.0 r.1)
 write-font-one f out = only-both _ _
 
-pub groups-in-one : (file : List ℕ) → OneAnswer (λ r. r ≡ groupCount (versionIn file))
+pub groups-in-one : (file : List ℕ) → OneAnswer (λ r. r ≡ group_count (version_in file))
 groups-in-one file = only _
 
-pub file-size-one : (version : ℕ) → OneAnswer (λ r. r ≡ fileSize version)
+pub file-size-one : (version : ℕ) → OneAnswer (λ r. r ≡ file_size version)
 file-size-one version = only _
 
-pub version-refused-one : (file : List ℕ) (newest : ℕ) → OneAnswer (λ r. r ≡ versionRefused file newest)
+pub version-refused-one : (file : List ℕ) (newest : ℕ) → OneAnswer (λ r. r ≡ version_refused file newest)
 version-refused-one file newest = only _
 
-pub read-check-one : (file : List ℕ) (size : Bool) → OneAnswer (λ r. r ≡ readCheck file size)
+pub read-check-one : (file : List ℕ) (size : Bool) → OneAnswer (λ r. r ≡ read_check file size)
 read-check-one file size = only _
 
-pub page-at-one : (bytes : List ℕ) (at : ℕ) → OneAnswer (λ r. r ≡ pageAt bytes at)
+pub page-at-one : (bytes : List ℕ) (at : ℕ) → OneAnswer (λ r. r ≡ page_at bytes at)
 page-at-one bytes at = only _
 
-pub board-at-one : (bytes : List ℕ) (at : ℕ) → OneAnswer (λ r. r ≡ boardAt bytes at)
+pub board-at-one : (bytes : List ℕ) (at : ℕ) → OneAnswer (λ r. r ≡ board_at bytes at)
 board-at-one bytes at = only _
 
-pub chars-place-one : (version : ℕ) → OneAnswer (λ r. r ≡ charsPlace version)
+pub chars-place-one : (version : ℕ) → OneAnswer (λ r. r ≡ chars_place version)
 chars-place-one version = only _
 
 -- the buffer
-pub put-bytes-one : (p : Page) (at : ℕ) (out : List ℕ) → OneAnswer (λ r. r ≡ put_at at (pageBytes p) out)
+pub put-bytes-one : (p : Page) (at : ℕ) (out : List ℕ) → OneAnswer (λ r. r ≡ put_at at (page_bytes p) out)
 put-bytes-one p at out = only _
 
 -- ---- `numbers`
 
-pub numbers-refused-one : (numbers : List ℕ) → OneAnswer (λ r. r ≡ numbersRefused numbers)
+pub numbers-refused-one : (numbers : List ℕ) → OneAnswer (λ r. r ≡ numbers_refused numbers)
 numbers-refused-one numbers = only _
 
-pub numbers-check-one : (numbers : List ℕ) → OneAnswer (λ r. r ≡ numbersCheck numbers)
+pub numbers-check-one : (numbers : List ℕ) → OneAnswer (λ r. r ≡ numbers_check numbers)
 numbers-check-one numbers = only _
 
 -- the refusal, the numbers and both memories
@@ -82,7 +82,7 @@ pub write-file-one : (numbers chars attrs out : List ℕ) → OneAnswer (λ (r :
 write-file-one numbers chars attrs out = only-both _ _
 
 -- the numbers
-pub put-page-one : (x : Refusal) (p : Page) (numbers : List ℕ) → OneAnswer (λ r. r ≡ pageOrOwn x p numbers)
+pub put-page-one : (x : Refusal) (p : Page) (numbers : List ℕ) → OneAnswer (λ r. r ≡ page_or_own x p numbers)
 put-page-one x p numbers = only _
 
 -- the refusal and the numbers

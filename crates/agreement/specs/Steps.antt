@@ -2,24 +2,24 @@
 use Rattle.std.specs.Prelude.{ℕ, ◌≡◌, refl, false, List, length}
 use Rattle.std.proofs.Common.{sym, eq-eqb}
 use Rattle.refusal.specs.declared.Refusal.TheVariants.{Done}
-use Rattle.refusal.specs.Number.{wrongSize}
+use Rattle.refusal.specs.Number.{wrong_size}
 use Rattle.board.specs.declared.Board.{Board}
-use Rattle.board.specs.Range.{memoriesRefused}
+use Rattle.board.specs.Range.{memories_refused}
 use Rattle.timing.specs.Laws.{range-ok, call_ok}
 use Rattle.shape.specs.Font.{Font}
-use Rattle.place.specs.State.{stateCheck, state_of}
-use Rattle.step.specs.Step.{stepCheck}
-use Rattle.step.specs.After.{after, fits, page-ok, atClock, clock-in-range, steps-are}
+use Rattle.place.specs.State.{state_check, state_of}
+use Rattle.step.specs.Step.{step_check}
+use Rattle.step.specs.After.{after, fits, page-ok, at_clock, clock-in-range, steps-are}
 
-module _ (b : Board) (chars attrs : List ℕ) (f : Font) (ok : stepCheck b chars attrs f ≡ Done) where
-  memories-ok : wrongSize (memoriesRefused (length chars) (length attrs)) ≡ Done
+module _ (b : Board) (chars attrs : List ℕ) (f : Font) (ok : step_check b chars attrs f ≡ Done) where
+  memories-ok : wrong_size (memories_refused (length chars) (length attrs)) ≡ Done
   memories-ok = rw (eq-eqb _ _ (fits b chars attrs f ok).chars-all, eq-eqb _ _ (fits b chars attrs f ok).attrs-all)
 
-  state-ok : stateCheck b chars attrs ≡ Done
-  state-ok = call_ok b (wrongSize (memoriesRefused (length chars) (length attrs))) memories-ok (page-ok b chars attrs f ok) (range-ok b (fits b chars attrs f ok).state)
+  state-ok : state_check b chars attrs ≡ Done
+  state-ok = call_ok b (wrong_size (memories_refused (length chars) (length attrs))) memories-ok (page-ok b chars attrs f ok) (range-ok b (fits b chars attrs f ok).state)
 
-  state-ok-at : (n : ℕ) → stateCheck (atClock b chars attrs f ok n) chars attrs ≡ Done
-  state-ok-at n = call_ok (atClock b chars attrs f ok n) (wrongSize (memoriesRefused (length chars) (length attrs))) memories-ok (page-ok b chars attrs f ok) (range-ok (atClock b chars attrs f ok n) (clock-in-range b chars attrs f ok n))
+  state-ok-at : (n : ℕ) → state_check (at_clock b chars attrs f ok n) chars attrs ≡ Done
+  state-ok-at n = call_ok (at_clock b chars attrs f ok n) (wrong_size (memories_refused (length chars) (length attrs))) memories-ok (page-ok b chars attrs f ok) (range-ok (at_clock b chars attrs f ok n) (clock-in-range b chars attrs f ok n))
 
   -- [demand at_once] the state for clock n is the state after n single steps
   -- the state for clock n answers 0 and is the board after n single steps from clock 0

@@ -6,16 +6,16 @@ use Rattle.lists.specs.Join.{joined, same-joined}
 use Rattle.raster.specs.Wide.{code_of, is_wide}
 use Rattle.board.specs.declared.Page.{Page}
 use Rattle.board.specs.declared.Board.{Board}
-use Rattle.timing.specs.Fields.{lines_of, rows_of, hactOf, visibleOf}
+use Rattle.timing.specs.Fields.{lines_of, rows_of, hact_of, visible_of}
 use Rattle.timing.specs.Laws.{row-shown}
 use Rattle.fetch.specs.Rows.{code_at, cell_at}
-use Rattle.latch.specs.Held.{attributesAt}
+use Rattle.latch.specs.Held.{attributes_at}
 use Rattle.shape.specs.Font.{Font}
 use Rattle.video.specs.Scene.{scene_of}
-use Rattle.video.specs.Cell.{columnOf}
-use Rattle.video.specs.At.{scanOf, scanDots, dotsAt}
-use Rattle.line.specs.Line.{columnDots, lineDots}
-use Rattle.picture.specs.Picture.{pictureDots}
+use Rattle.video.specs.Cell.{column_of}
+use Rattle.video.specs.At.{scan_of, scan_dots, dots_at}
+use Rattle.line.specs.Line.{column_dots, line_dots}
+use Rattle.picture.specs.Picture.{picture_dots}
 use Rattle.alike.specs.Pages.{Same, same-look, same-blink, same-underline, same-hact, same_lines, same-visible}
 use Rattle.alike.specs.Views.{View, page_of, SameBytes, Alike, same-cell, same-attributes}
 
@@ -26,8 +26,8 @@ same-scene b n s power scan field = rw (same-look s, same-blink s, same-underlin
 
 -- the dots of a cell that has the same bytes
 pub same-dots : (v w : View) → Same (page_of v) (page_of w) → v.board.resets ≡ w.board.resets → (f : Font) (scan field valid x : ℕ) → SameBytes v w x
-    → dotsAt v.board v.chars v.attrs f scan field valid x ≡ dotsAt w.board w.chars w.attrs f scan field valid x
-unfolding dotsAt scanDots
+    → dots_at v.board v.chars v.attrs f scan field valid x ≡ dots_at w.board w.chars w.attrs f scan field valid x
+unfolding dots_at scan_dots
 same-dots v w s power f scan field valid x e = rw (e.0, e.1, same-scene v.board w.board s power scan field, s.modes, s.chip, s.switches, s.dots, s.cursor)
 
 module _ {v w : View} (a : Alike v w) where
@@ -44,31 +44,31 @@ module _ {v w : View} (a : Alike v w) where
     -- a column of a line, by its row's code, the lines of a row, the attributes valid there, and its cell
     abbrev by : (line field c : ℕ) → (code L valid x : ℕ) → List ℕ
     by line field c k L valid x =
-        columnOf (is_wide (code_of k)) (eqb (c % 2) 1) (dotsAt w.board w.chars w.attrs f (scanOf (code_of k) L (line % L)) field valid x)
+        column_of (is_wide (code_of k)) (eqb (c % 2) 1) (dots_at w.board w.chars w.attrs f (scan_of (code_of k) L (line % L)) field valid x)
 
-    same-column : (line field c : ℕ) → line / lines_of p < rows_of p → c < hactOf p
-        → columnDots v.board v.chars v.attrs f line field c ≡ columnDots w.board w.chars w.attrs f line field c
-    unfolding columnDots
+    same-column : (line field c : ℕ) → line / lines_of p < rows_of p → c < hact_of p
+        → column_dots v.board v.chars v.attrs f line field c ≡ column_dots w.board w.chars w.attrs f line field c
+    unfolding column_dots
     same-column line field c h l =
         let r = line / lines_of p in
         let k = code_of (code_at p v.chars r) in
         let L = same_lines a.page in
-        ap (columnOf (is_wide k) (eqb (c % 2) 1))
-        (same-dots v w a.page same_power f (scanOf k (lines_of p) (line % lines_of p)) field (attributesAt p v.chars v.attrs r c) (cell_at p v.chars r c) (a.bytes r c h l))
+        ap (column_of (is_wide k) (eqb (c % 2) 1))
+        (same-dots v w a.page same_power f (scan_of k (lines_of p) (line % lines_of p)) field (attributes_at p v.chars v.attrs r c) (cell_at p v.chars r c) (a.bytes r c h l))
         ∙ parts (a.code r h) L (same-attributes a r c h l) (same-cell a r c h)
-        ∙ ap (λ (x : ℕ). by line field c (code_at q w.chars x) (lines_of q) (attributesAt q w.chars w.attrs x c) (cell_at q w.chars x c)) (ap (λ (x : ℕ). line / x) L)
+        ∙ ap (λ (x : ℕ). by line field c (code_at q w.chars x) (lines_of q) (attributes_at q w.chars w.attrs x c) (cell_at q w.chars x c)) (ap (λ (x : ℕ). line / x) L)
       where
         parts : {k k' L L' t t' x x' : ℕ} → k ≡ k' → L ≡ L' → t ≡ t' → x ≡ x' → by line field c k L t x ≡ by line field c k' L' t' x'
         parts ke le te xe = rw (ke, le, te, xe)
 
-    pub alike-line : (line field : ℕ) → line < (visibleOf p).0 → lineDots v.board v.chars v.attrs f line field ≡ lineDots w.board w.chars w.attrs f line field
-    unfolding lineDots
+    pub alike-line : (line field : ℕ) → line < (visible_of p).0 → line_dots v.board v.chars v.attrs f line field ≡ line_dots w.board w.chars w.attrs f line field
+    unfolding line_dots
     alike-line line field h =
-        same-joined 0 (hactOf p) _ _ (λ c _ l. same-column line field c (row-shown p line h) (omega (arith, l)))
-        ∙ ap (λ (n : ℕ). joined 0 n (columnDots w.board w.chars w.attrs f line field)) (same-hact a.page)
+        same-joined 0 (hact_of p) _ _ (λ c _ l. same-column line field c (row-shown p line h) (omega (arith, l)))
+        ∙ ap (λ (n : ℕ). joined 0 n (column_dots w.board w.chars w.attrs f line field)) (same-hact a.page)
 
-    pub alike-picture : (field : ℕ) → pictureDots v.board v.chars v.attrs f field ≡ pictureDots w.board w.chars w.attrs f field
-    unfolding pictureDots
+    pub alike-picture : (field : ℕ) → picture_dots v.board v.chars v.attrs f field ≡ picture_dots w.board w.chars w.attrs f field
+    unfolding picture_dots
     alike-picture field =
-        same-joined 0 (visibleOf p).0 _ _ (λ line _ l. alike-line line field (omega (arith, l)))
-        ∙ ap (λ (n : ℕ). joined 0 n (λ (line : ℕ). lineDots w.board w.chars w.attrs f line field)) (same-visible a.page)
+        same-joined 0 (visible_of p).0 _ _ (λ line _ l. alike-line line field (omega (arith, l)))
+        ∙ ap (λ (n : ℕ). joined 0 n (λ (line : ℕ). line_dots w.board w.chars w.attrs f line field)) (same-visible a.page)

@@ -5,13 +5,13 @@ use Rattle.std.proofs.Math.Bool.{false}
 use Rattle.refusal.specs.declared.Refusal.{Refusal}
 use Rattle.refusal.specs.declared.Refusal.TheVariants.{Done}
 use Rattle.board.specs.declared.Board.{Board}
-use Rattle.board.specs.Parts.{withPage}
-use Rattle.timing.specs.Check.{pageCheck, stateRefused, callCheck}
+use Rattle.board.specs.Parts.{with_page}
+use Rattle.timing.specs.Check.{page_check, state_refused, call_check}
 use Rattle.timing.specs.Laws.{call-passed, range-ok, call_ok}
 use Rattle.shape.specs.Font.{Font}
-use Rattle.video.specs.At.{lentCheck}
-use Rattle.picture.specs.Picture.{pictureLength, pictureCheck, picturedOf}
-use Rattle.step.specs.Step.{stepCheck}
+use Rattle.video.specs.At.{lent_check}
+use Rattle.picture.specs.Picture.{picture_length, picture_check, pictured_of}
+use Rattle.step.specs.Step.{step_check}
 use Rattle.alike.specs.Pages.{same-hact, same-visible, same-state}
 use Rattle.alike.specs.Views.{View, page_of, Alike}
 use Rattle.alike.specs.Drawn.{alike-picture}
@@ -19,15 +19,15 @@ use Rattle.alike.specs.Steps.{SameStep, alike-step}
 
 -- what refuses a view's memories, or a font
 abbrev pub lent_of : View → Font → Refusal
-lent_of v f = lentCheck v.chars v.attrs f
+lent_of v f = lent_check v.chars v.attrs f
 
 -- one shows what the other shows, with any font
 pub record Shows (v w : View) : Type 0 where
-  pub accepted : pageCheck (page_of w) ≡ Done
+  pub accepted : page_check (page_of w) ≡ Done
   pub lent : (f : Font) → lent_of v f ≡ lent_of w f
-  pub answered : (f : Font) (room : ℕ) → pictureCheck v.board (lent_of v f) room ≡ pictureCheck w.board (lent_of w f) room
-  pub pictured : (f : Font) (field : ℕ) (out : List ℕ) → picturedOf v.board v.chars v.attrs f field out ≡ picturedOf w.board w.chars w.attrs f field out
-  pub stepped : (f : Font) → stepCheck v.board v.chars v.attrs f ≡ Done → (stepCheck w.board w.chars w.attrs f ≡ Done) × ((k : ℕ) → SameStep v w f k)
+  pub answered : (f : Font) (room : ℕ) → picture_check v.board (lent_of v f) room ≡ picture_check w.board (lent_of w f) room
+  pub pictured : (f : Font) (field : ℕ) (out : List ℕ) → pictured_of v.board v.chars v.attrs f field out ≡ pictured_of w.board w.chars w.attrs f field out
+  pub stepped : (f : Font) → step_check v.board v.chars v.attrs f ≡ Done → (step_check w.board w.chars w.attrs f ≡ Done) × ((k : ℕ) → SameStep v w f k)
 
 -- one move after another
 pub shows-on : {u v w : View} → Shows u v → Shows v w → Shows u w
@@ -41,7 +41,7 @@ shows-on {w = w} s t = record {
       let second = t.stepped f first.0 in (
         second.0,
         λ k. record {
-          board = ap (λ (b : Board). withPage b (page_of w)) (first.1 k).board ∙ (second.1 k).board;
+          board = ap (λ (b : Board). with_page b (page_of w)) (first.1 k).board ∙ (second.1 k).board;
           signals = (first.1 k).signals ∙ (second.1 k).signals;
           address = (first.1 k).address ∙ (second.1 k).address;
           dots = (first.1 k).dots ∙ (second.1 k).dots;
@@ -50,22 +50,22 @@ shows-on {w = w} s t = record {
 }
 
 module _ {v w : View} (a : Alike v w) (chars-long : length v.chars ≡ length w.chars) (attrs-long : length v.attrs ≡ length w.attrs)
-    (ok : pageCheck (page_of v) ≡ Done) (ok' : pageCheck (page_of w) ≡ Done) where
-  same-room : pictureLength (page_of v) ≡ pictureLength (page_of w)
+    (ok : page_check (page_of v) ≡ Done) (ok' : page_check (page_of w) ≡ Done) where
+  same-room : picture_length (page_of v) ≡ picture_length (page_of w)
   same-room = rw (same-visible a.page, same-hact a.page, a.page.dots)
 
   same-lent : (f : Font) → lent_of v f ≡ lent_of w f
   same-lent f = rw (chars-long, attrs-long)
 
-  state-alike : stateRefused v.board ≡ stateRefused w.board
-  state-alike = same-state v.board (page_of w) a.page ∙ ap stateRefused a.board
+  state-alike : state_refused v.board ≡ state_refused w.board
+  state-alike = same-state v.board (page_of w) a.page ∙ ap state_refused a.board
 
-  same_answer : (lent : Refusal) (room : ℕ) → pictureCheck v.board lent room ≡ pictureCheck w.board lent room
-  unfolding pictureCheck callCheck
+  same_answer : (lent : Refusal) (room : ℕ) → picture_check v.board lent room ≡ picture_check w.board lent room
+  unfolding picture_check call_check
   same_answer lent room = rw (ok, ok', state-alike, same-room)
 
   pub alike-shows : Shows v w
-  unfolding picturedOf
+  unfolding pictured_of
   alike-shows = record {
     accepted = ok';
     lent = same-lent;

@@ -12,37 +12,37 @@ use Rattle.raster.specs.Beams.{row}
 use Rattle.board.specs.declared.Page.{Page}
 use Rattle.board.specs.declared.Place.{Place}
 use Rattle.board.specs.declared.Board.{Board}
-use Rattle.board.specs.Parts.{withPlace, withPage}
-use Rattle.timing.specs.Fields.{lines_of, hbpOf, vsyncOf, visibleOf}
+use Rattle.board.specs.Parts.{with_place, with_page}
+use Rattle.timing.specs.Fields.{lines_of, hbp_of, vsync_of, visible_of}
 use Rattle.timing.specs.Laws.{Accepted, row-shown}
 use Rattle.fetch.specs.Rows.{code_at, cell_at}
 use Rattle.latch.specs.Held.{held_at}
 use Rattle.shape.specs.Font.{Font}
 use Rattle.video.specs.Scene.{scene_of}
-use Rattle.place.specs.Place.{activeAt, loadedIn, clockIn, lineIn, placeAt}
-use Rattle.place.specs.Beam.{rasterOf}
+use Rattle.place.specs.Place.{active_at, loaded_in, clock_in, line_in, place_at}
+use Rattle.place.specs.Beam.{raster_of}
 use Rattle.place.specs.Walk.{beam-at, beam-past}
 use Rattle.step.specs.declared.Stepped.{Stepped}
-use Rattle.step.specs.Signals.{scanIn, signalsOf, validIn, clockDots}
-use Rattle.step.specs.Step.{steppedOf, stepCheck, step_of}
+use Rattle.step.specs.Signals.{scan_in, signals_of, valid_in, clock_dots}
+use Rattle.step.specs.Step.{stepped_of, step_check, step_of}
 use Rattle.step.specs.After.{after, fits, step_is, steps-are}
 use Rattle.alike.specs.Pages.{same-hsync, same-hbp, same-blink, same-hact, same_lines, same-visible, same-ht, same-vt, same-mode}
 use Rattle.alike.specs.Views.{View, view_of, page_of, SameBytes, Alike, same-cell, same-held, alike-place}
 use Rattle.alike.specs.Drawn.{same-scene, same-dots, same_power}
 
 -- the board after k steps from clock 0, and the step there
-abbrev pub afterOn : View → Font → ℕ → Board
-afterOn v f k = after v.board v.chars v.attrs f k
+abbrev pub after_on : View → Font → ℕ → Board
+after_on v f k = after v.board v.chars v.attrs f k
 
-abbrev pub stepOn : View → Font → ℕ → Stepped
-stepOn v f k = step_of (afterOn v f k) v.chars v.attrs f
+abbrev pub step_on : View → Font → ℕ → Stepped
+step_on v f k = step_of (after_on v f k) v.chars v.attrs f
 
 -- after k steps from clock 0: a board that gets the other page there is the other board, and the next step shows the same
 pub record SameStep (v w : View) (f : Font) (k : ℕ) : Type 0 where
-  pub board : withPage (afterOn v f k) (page_of w) ≡ afterOn w f k
-  pub signals : (stepOn v f k).signals ≡ (stepOn w f k).signals
-  pub address : (stepOn v f k).address ≡ (stepOn w f k).address
-  pub dots : (stepOn v f k).dots ≡ (stepOn w f k).dots
+  pub board : with_page (after_on v f k) (page_of w) ≡ after_on w f k
+  pub signals : (step_on v f k).signals ≡ (step_on w f k).signals
+  pub address : (step_on v f k).address ≡ (step_on w f k).address
+  pub dots : (step_on v f k).dots ≡ (step_on w f k).dots
 
 module _ {v w : View} (a : Alike v w) where
   abbrev p : Page
@@ -52,20 +52,20 @@ module _ {v w : View} (a : Alike v w) where
   q = page_of w
 
   -- what a clock works on
-  same-loaded : Accepted p → Accepted q → (k : ℕ) → (loadedIn p v.chars (placeAt p v.chars v.attrs k)).beam ≡ (loadedIn q w.chars (placeAt q w.chars w.attrs k)).beam
-  same-loaded fine fine' k = go (dec_lt (lineIn p k) (visibleOf p).0)
+  same-loaded : Accepted p → Accepted q → (k : ℕ) → (loaded_in p v.chars (place_at p v.chars v.attrs k)).beam ≡ (loaded_in q w.chars (place_at q w.chars w.attrs k)).beam
+  same-loaded fine fine' k = go (dec_lt (line_in p k) (visible_of p).0)
     where
-      line : lineIn p k ≡ lineIn q k
+      line : line_in p k ≡ line_in q k
       line = rw (same-vt a.page, same-ht a.page)
 
-      clock : clockIn p k ≡ clockIn q k
+      clock : clock_in p k ≡ clock_in q k
       clock = rw (same-ht a.page)
 
-      go : Dec (lineIn p k < (visibleOf p).0) → (loadedIn p v.chars (placeAt p v.chars v.attrs k)).beam ≡ (loadedIn q w.chars (placeAt q w.chars w.attrs k)).beam
+      go : Dec (line_in p k < (visible_of p).0) → (loaded_in p v.chars (place_at p v.chars v.attrs k)).beam ≡ (loaded_in q w.chars (place_at q w.chars w.attrs k)).beam
       go (yes l) =
-          let r = lineIn p k / lines_of p in
-          let c = clockIn p k in
-          let h = row-shown p (lineIn p k) l in
+          let r = line_in p k / lines_of p in
+          let c = clock_in p k in
+          let h = row-shown p (line_in p k) l in
           let cell = same-cell a r c h in
           let held = same-held a r c h in
           let code = a.code r h in
@@ -76,73 +76,73 @@ module _ {v w : View} (a : Alike v w) where
           ∙ sym (beam-at q w.chars w.attrs fine' k (omega (arith, l, line, same-visible a.page)))
       go (no g) =
           beam-past p v.chars v.attrs k (omega (arith, g))
-          ∙ ap (λ (y : Place). (rasterOf y).carried.beam) (alike-place a k)
+          ∙ ap (λ (y : Place). (raster_of y).carried.beam) (alike-place a k)
           ∙ sym (beam-past q w.chars w.attrs k (omega (arith, g, line, same-visible a.page)))
 
   -- ---- at a place, in a row with a code and at an address
 
   module _ (y : Place) (c x : ℕ) where
     abbrev b : Board
-    b = withPlace v.board y
+    b = with_place v.board y
 
     abbrev n : Board
-    n = withPlace w.board y
+    n = with_place w.board y
 
     scene : (scan : ℕ) → scene_of b scan y.field ≡ scene_of n scan y.field
     scene scan = same-scene b n a.page (same_power a) scan y.field
 
-    same-signals : signalsOf b c x ≡ signalsOf n c x
-    unfolding signalsOf lines_of hbpOf vsyncOf
-    same-signals = rw (scene (scanIn b c)) (simp (a.page.others, same-hsync a.page, same-hbp a.page, same-blink a.page, a.page.switches, same_power a))
+    same-signals : signals_of b c x ≡ signals_of n c x
+    unfolding signals_of lines_of hbp_of vsync_of
+    same-signals = rw (scene (scan_in b c)) (simp (a.page.others, same-hsync a.page, same-hbp a.page, same-blink a.page, a.page.switches, same_power a))
 
-    same-active : activeAt p y ≡ activeAt q y
+    same-active : active_at p y ≡ active_at q y
     same-active = rw (same-visible a.page, same-hact a.page)
 
     -- the dots, where on an active clock the cell has the same bytes
-    same-clock-dots : (f : Font) (held : ℕ) → (activeAt p y ≡ true → SameBytes v w x) → clockDots b v.chars v.attrs f c held x ≡ clockDots n w.chars w.attrs f c held x
-    unfolding clockDots
-    same-clock-dots f held bytes = go (activeAt p y) refl
+    same-clock-dots : (f : Font) (held : ℕ) → (active_at p y ≡ true → SameBytes v w x) → clock_dots b v.chars v.attrs f c held x ≡ clock_dots n w.chars w.attrs f c held x
+    unfolding clock_dots
+    same-clock-dots f held bytes = go (active_at p y) refl
       where
-        go : (t : Bool) → activeAt p y ≡ t → clockDots b v.chars v.attrs f c held x ≡ clockDots n w.chars w.attrs f c held x
+        go : (t : Bool) → active_at p y ≡ t → clock_dots b v.chars v.attrs f c held x ≡ clock_dots n w.chars w.attrs f c held x
         go true e =
             let k = bytes e in
-            let dots = same-dots (view_of b v.chars v.attrs) (view_of n w.chars w.attrs) a.page (same_power a) f (scanIn b c) y.field (validIn b v.attrs c held x) x k in
+            let dots = same-dots (view_of b v.chars v.attrs) (view_of n w.chars w.attrs) a.page (same_power a) f (scan_in b c) y.field (valid_in b v.attrs c held x) x k in
             rw (e, sym same-active ∙ e, dots, same_lines a.page, same-mode a.page, k.1, a.page.dots)
-        go false e = rw (e, sym same-active ∙ e, scene (scanIn b c), same_lines a.page, a.page.dots)
+        go false e = rw (e, sym same-active ∙ e, scene (scan_in b c), same_lines a.page, a.page.dots)
 
   -- ---- every step from clock 0
 
-  module _ (f : Font) (ok : stepCheck v.board v.chars v.attrs f ≡ Done) (ok' : stepCheck w.board w.chars w.attrs f ≡ Done) (k : ℕ) where
+  module _ (f : Font) (ok : step_check v.board v.chars v.attrs f ≡ Done) (ok' : step_check w.board w.chars w.attrs f ≡ Done) (k : ℕ) where
     abbrev at : Place
-    at = placeAt p v.chars v.attrs k
+    at = place_at p v.chars v.attrs k
 
     fine : Accepted p
     fine = (fits v.board v.chars v.attrs f ok).page
 
     -- the bytes at the address of an active clock
-    bytes-are : activeAt p at ≡ true → SameBytes v w (loadedIn p v.chars at).beam.address
-    unfolding placeAt
+    bytes-are : active_at p at ≡ true → SameBytes v w (loaded_in p v.chars at).beam.address
+    unfolding place_at
     bytes-are e =
         let on = both _ _ e in
         let l = ltb-true _ _ on.0 in
-        rw (beam-at p v.chars v.attrs fine k l) (a.bytes _ _ (row-shown p (lineIn p k) l) (ltb-true _ _ on.1))
+        rw (beam-at p v.chars v.attrs fine k l) (a.bytes _ _ (row-shown p (line_in p k) l) (ltb-true _ _ on.1))
 
     pub alike-step : SameStep v w f k
-    unfolding steppedOf
+    unfolding stepped_of
     alike-step =
         let before = steps-are v.board v.chars v.attrs f ok k in
         let before' = steps-are w.board w.chars w.attrs f ok' k in
         let step = step_is v.board v.chars v.attrs f ok k in
         let step' = step_is w.board w.chars w.attrs f ok' k in
-        let z = (loadedIn p v.chars at).beam in
+        let z = (loaded_in p v.chars at).beam in
         let loaded = same-loaded fine (fits w.board w.chars w.attrs f ok').page k in
         let place = alike-place a k in
         record {
-          board = ap (λ (x : Board). withPage x q) before ∙ ap₂ withPlace a.board place ∙ sym before';
+          board = ap (λ (x : Board). with_page x q) before ∙ ap₂ with_place a.board place ∙ sym before';
           signals = rw (before, step, before', step')
-              (same-signals at z.code z.address ∙ ap₂ (λ (y : Place) (x : Row). signalsOf (withPlace w.board y) x.code x.address) place loaded);
+              (same-signals at z.code z.address ∙ ap₂ (λ (y : Place) (x : Row). signals_of (with_place w.board y) x.code x.address) place loaded);
           address = rw (before, step, before', step') (ap (λ (x : Row). x.address) loaded);
           dots = rw (before, step, before', step')
               (same-clock-dots at z.code z.address f z.latch bytes-are
-              ∙ ap₂ (λ (y : Place) (x : Row). clockDots (withPlace w.board y) w.chars w.attrs f x.code x.latch x.address) place loaded);
+              ∙ ap₂ (λ (y : Place) (x : Row). clock_dots (with_place w.board y) w.chars w.attrs f x.code x.latch x.address) place loaded);
         }

@@ -12,19 +12,19 @@ use native.Mathlib.Omega.{arith}
 use Rattle.lists.specs.Choice.{pick}
 use Rattle.raster.specs.declared.Buffer.{Buffer}
 use Rattle.raster.specs.declared.Counts.{Counts}
-use Rattle.raster.specs.Moves.{advanceBy}
+use Rattle.raster.specs.Moves.{advance_by}
 use Rattle.raster.specs.Beams.{row}
-use Rattle.raster.specs.Wide.{code_of, is_wide, fetchesAt}
-use Rattle.raster.specs.Latch.{latched, lastSet, same-last}
+use Rattle.raster.specs.Wide.{code_of, is_wide, fetches_at}
+use Rattle.raster.specs.Latch.{latched, last_set, same-last}
 use Rattle.board.specs.declared.Page.{Page}
 use Rattle.board.specs.declared.Board.{Board}
-use Rattle.board.specs.Parts.{withPage}
-use Rattle.timing.specs.Fields.{rows_of, hactOf, lines_of, htOf, visibleOf}
+use Rattle.board.specs.Parts.{with_page}
+use Rattle.timing.specs.Fields.{rows_of, hact_of, lines_of, ht_of, visible_of}
 use Rattle.timing.specs.Laws.{row-shown}
-use Rattle.fetch.specs.Rows.{code_at, rowStart, fetchAt, fetchedOf, movedOf, cell_at}
+use Rattle.fetch.specs.Rows.{code_at, row_start, fetch_at, fetched_of, moved_of, cell_at}
 use Rattle.fetch.specs.Laws.{cell-moved}
-use Rattle.latch.specs.Held.{setIn, byteOf, held_at, attributesAt}
-use Rattle.place.specs.Place.{carried, placed, row_at, last_at, line_at, carriedBefore, placeAt, clockIn, lineIn, frameIn}
+use Rattle.latch.specs.Held.{set_in, byte_of, held_at, attributes_at}
+use Rattle.place.specs.Place.{carried, placed, row_at, last_at, line_at, carried_before, place_at, clock_in, line_in, frame_in}
 use Rattle.place.specs.Laws.{line-shown, line-idle}
 use Rattle.alike.specs.Pages.{Same, same-buffer, same-counts, same-hact, same_rows, same_lines, same-visible, same-ht, same-vt, same-mode}
 
@@ -46,11 +46,11 @@ SameBytes v w x = (get_or v.chars x 0 ≡ get_or w.chars x 0) × (get_or v.attrs
 
 -- boards that differ in their pages alone, and these in IR2[7], the screen starts, and a version or chip byte that says the same at most; each row has the same code and start, and each cell that it fetches the same bytes
 pub record Alike (v w : View) : Type 0 where
-  pub board : withPage v.board (page_of w) ≡ w.board
+  pub board : with_page v.board (page_of w) ≡ w.board
   pub page : Same (page_of v) (page_of w)
   pub code : (r : ℕ) → r < rows_of (page_of v) → code_at (page_of v) v.chars r ≡ code_at (page_of w) w.chars r
-  pub start : (r : ℕ) → r < rows_of (page_of v) → rowStart (page_of v) v.chars r ≡ rowStart (page_of w) w.chars r
-  pub bytes : (r c : ℕ) → r < rows_of (page_of v) → c < hactOf (page_of v) → SameBytes v w (cell_at (page_of v) v.chars r c)
+  pub start : (r : ℕ) → r < rows_of (page_of v) → row_start (page_of v) v.chars r ≡ row_start (page_of w) w.chars r
+  pub bytes : (r c : ℕ) → r < rows_of (page_of v) → c < hact_of (page_of v) → SameBytes v w (cell_at (page_of v) v.chars r c)
 
 module _ {v w : View} (a : Alike v w) where
   abbrev p : Page
@@ -60,10 +60,10 @@ module _ {v w : View} (a : Alike v w) where
   q = page_of w
 
   abbrev H : ℕ
-  H = hactOf p
+  H = hact_of p
 
   pub same-cell : (r c : ℕ) → r < rows_of p → cell_at p v.chars r c ≡ cell_at q w.chars r c
-  unfolding fetchAt movedOf fetchedOf
+  unfolding fetch_at moved_of fetched_of
   same-cell r c h =
       sym (cell-moved p v.chars r c)
       ∙ parts (same-buffer a.page) (same-hact a.page) (a.code r h) (a.start r h)
@@ -72,24 +72,24 @@ module _ {v w : View} (a : Alike v w) where
       moved : (n k : ℕ) → ℕ
       moved n k = pick (ltb c n) (pick (is_wide (code_of k)) (c / 2) c) (pick (is_wide (code_of k)) ((n + 1) / 2) n)
 
-      parts : {u u' : Buffer} {n n' k k' x x' : ℕ} → u ≡ u' → n ≡ n' → k ≡ k' → x ≡ x' → advanceBy u (moved n k) x ≡ advanceBy u' (moved n' k') x'
+      parts : {u u' : Buffer} {n n' k k' x x' : ℕ} → u ≡ u' → n ≡ n' → k ≡ k' → x ≡ x' → advance_by u (moved n k) x ≡ advance_by u' (moved n' k') x'
       parts ue ne ke xe = rw (ue, ne, ke, xe)
 
   same_byte : (r c : ℕ) → r < rows_of p → c < H → get_or v.attrs (cell_at p v.chars r c) 0 ≡ get_or w.attrs (cell_at q w.chars r c) 0
   same_byte r c h l = (a.bytes r c h l).1 ∙ ap (λ (x : ℕ). get_or w.attrs x 0) (same-cell r c h)
 
   -- what a column sets
-  same_set : (r c : ℕ) → r < rows_of p → c < H → setIn p v.chars v.attrs r c ≡ setIn q w.chars w.attrs r c
+  same_set : (r c : ℕ) → r < rows_of p → c < H → set_in p v.chars v.attrs r c ≡ set_in q w.chars w.attrs r c
   same_set r c h l = parts (same-counts a.page) (a.code r h) (same-mode a.page) (same_byte r c h l)
     where
-      parts : {g g' : Counts} {k k' x x' : ℕ} {m m' : Bool} → g ≡ g' → k ≡ k' → m ≡ m' → x ≡ x' → pick (fetchesAt g (code_of k) c) (pick m x 0) 0 ≡ pick (fetchesAt g' (code_of k') c) (pick m' x' 0) 0
+      parts : {g g' : Counts} {k k' x x' : ℕ} {m m' : Bool} → g ≡ g' → k ≡ k' → m ≡ m' → x ≡ x' → pick (fetches_at g (code_of k) c) (pick m x 0) 0 ≡ pick (fetches_at g' (code_of k') c) (pick m' x' 0) 0
       parts ge ke me xe = rw (ge, ke, me, xe)
 
   pub same-held : (r c : ℕ) → r < rows_of p → held_at p v.chars v.attrs r c ≡ held_at q w.chars w.attrs r c
   unfolding held_at
   same-held r c h =
-      same-last (byteOf p v.chars v.attrs) (byteOf q w.chars w.attrs) 0 _ each
-      ∙ ap (λ (n : ℕ). lastSet (byteOf q w.chars w.attrs) 0 (r * n + min c n)) (same-hact a.page)
+      same-last (byte_of p v.chars v.attrs) (byte_of q w.chars w.attrs) 0 _ each
+      ∙ ap (λ (n : ℕ). last_set (byte_of q w.chars w.attrs) 0 (r * n + min c n)) (same-hact a.page)
     where
       some : 0 < H
       some = omega arith
@@ -99,13 +99,13 @@ module _ {v w : View} (a : Alike v w) where
           let one : k / H < r + 1 = (div-lt_iff_lt-mul some).1 (omega (arith, l, add-mul r 1 H, one-mul H)) in
           omega (arith, one, h)
 
-      each : (k : ℕ) → k < r * H + min c H → byteOf p v.chars v.attrs k ≡ byteOf q w.chars w.attrs k
+      each : (k : ℕ) → k < r * H + min c H → byte_of p v.chars v.attrs k ≡ byte_of q w.chars w.attrs k
       each k l =
           same_set (k / H) (k % H) (few k l) (mod-lt k some)
-          ∙ ap (λ (n : ℕ). setIn q w.chars w.attrs (k / n) (k % n)) (same-hact a.page)
+          ∙ ap (λ (n : ℕ). set_in q w.chars w.attrs (k / n) (k % n)) (same-hact a.page)
 
-  pub same-attributes : (r c : ℕ) → r < rows_of p → c < H → attributesAt p v.chars v.attrs r c ≡ attributesAt q w.chars w.attrs r c
-  unfolding attributesAt
+  pub same-attributes : (r c : ℕ) → r < rows_of p → c < H → attributes_at p v.chars v.attrs r c ≡ attributes_at q w.chars w.attrs r c
+  unfolding attributes_at
   same-attributes r c h l = parts (same-mode a.page) (same-held r (c + 1) h) (same_byte r c h l)
     where
       parts : {m m' : Bool} {x x' y y' : ℕ} → m ≡ m' → x ≡ x' → y ≡ y' → pick m x (latched y 0) ≡ pick m' x' (latched y' 0)
@@ -125,13 +125,13 @@ module _ {v w : View} (a : Alike v w) where
 
   same-last-row : last_at p v.chars v.attrs ≡ last_at q w.chars w.attrs
   same-last-row =
-      same_row (rows_of p - 1) (htOf p) (omega arith)
+      same_row (rows_of p - 1) (ht_of p) (omega arith)
       ∙ ap₂ (λ (r c : ℕ). row_at q w.chars w.attrs (r - 1) c) (same_rows a.page) (same-ht a.page)
 
   same-line-at : (c line : ℕ) → line_at p v.chars v.attrs c line ≡ line_at q w.chars w.attrs c line
-  same-line-at c line = go (dec_lt line (visibleOf p).0)
+  same-line-at c line = go (dec_lt line (visible_of p).0)
     where
-      go : Dec (line < (visibleOf p).0) → line_at p v.chars v.attrs c line ≡ line_at q w.chars w.attrs c line
+      go : Dec (line < (visible_of p).0) → line_at p v.chars v.attrs c line ≡ line_at q w.chars w.attrs c line
       go (yes h) =
           sym (line-shown p v.chars v.attrs c line h)
           ∙ same_row (line / lines_of p) c (row-shown p line h)
@@ -140,13 +140,13 @@ module _ {v w : View} (a : Alike v w) where
       go (no f) =
           sym (line-idle p v.chars v.attrs c line (omega (arith, f))) ∙ same-last-row ∙ line-idle q w.chars w.attrs c line (omega (arith, f, same-visible a.page))
 
-  same-before : (c line frame : ℕ) → carriedBefore p v.chars v.attrs c line frame ≡ carriedBefore q w.chars w.attrs c line frame
-  unfolding carriedBefore
+  same-before : (c line frame : ℕ) → carried_before p v.chars v.attrs c line frame ≡ carried_before q w.chars w.attrs c line frame
+  unfolding carried_before
   same-before c line frame =
-      rw (same-line-at c line, same-line-at (htOf p) (line - 1), same-last-row, same-ht a.page)
+      rw (same-line-at c line, same-line-at (ht_of p) (line - 1), same-last-row, same-ht a.page)
 
-  pub alike-place : (n : ℕ) → placeAt p v.chars v.attrs n ≡ placeAt q w.chars w.attrs n
-  unfolding placeAt
+  pub alike-place : (n : ℕ) → place_at p v.chars v.attrs n ≡ place_at q w.chars w.attrs n
+  unfolding place_at
   alike-place n =
-      ap (placed (frameIn p n % 256) (lineIn p n) (clockIn p n)) (same-before (clockIn p n) (lineIn p n) (frameIn p n))
-      ∙ ap₂ (λ (t u : ℕ). placed (n / t / u % 256) (n / t % u) (n % t) (carriedBefore q w.chars w.attrs (n % t) (n / t % u) (n / t / u))) (same-ht a.page) (same-vt a.page)
+      ap (placed (frame_in p n % 256) (line_in p n) (clock_in p n)) (same-before (clock_in p n) (line_in p n) (frame_in p n))
+      ∙ ap₂ (λ (t u : ℕ). placed (n / t / u % 256) (n / t % u) (n % t) (carried_before q w.chars w.attrs (n % t) (n / t % u) (n / t / u))) (same-ht a.page) (same-vt a.page)

@@ -1,9 +1,9 @@
 // The board's whole state, by value. It holds numbers only and is laid out as C lays it out, so that every bit pattern is a value.
 ghost use Rattle.std.specs.Prelude.{◌≡◌};
-ghost use Rattle.board.specs.State.{clockZero, powerOf};
-ghost use Rattle.board.specs.Layout.{layoutOf, lastIr, pageLength};
-ghost use Rattle.board.specs.Modes.{hasModes, versionOf, fieldMode, settersHidden, chipB};
-ghost use Rattle.board.specs.Range.{memoriesRefused, startsRefused, switchesRefused, videoRefused, addressRefused, cellsRefused, pointerRefused};
+ghost use Rattle.board.specs.State.{clock_zero, power_of};
+ghost use Rattle.board.specs.Layout.{layout_of, last_ir, page_length};
+ghost use Rattle.board.specs.Modes.{has_modes, version_of, field_mode, setters_hidden, chip_b};
+ghost use Rattle.board.specs.Range.{memories_refused, starts_refused, switches_refused, video_refused, address_refused, cells_refused, pointer_refused};
 
 #[repr(C)]
 #[derive(Drop)]
@@ -62,7 +62,7 @@ pub struct Board {
 }
 
 pub fn clock_zero() -> Place
-    ensures { result ≡ clockZero }
+    ensures { result ≡ clock_zero }
 {
     Place {
         field: 0,
@@ -81,7 +81,7 @@ pub fn clock_zero() -> Place
 }
 
 pub fn power() -> Board
-    ensures { result ≡ powerOf }
+    ensures { result ≡ power_of }
 {
     Board {
         page: Page {
@@ -110,7 +110,7 @@ pub const NEWEST_VERSION: u8 = 3;
 
 // A page's layout by its version: version 3 has one byte more.
 pub fn layout_of(version: u8) -> Layout
-    ensures { result ≡ layoutOf version }
+    ensures { result ≡ layout_of version }
 {
     if version == 3 {
         return Layout { irs: 15, rest: 10 };
@@ -120,21 +120,21 @@ pub fn layout_of(version: u8) -> Layout
 
 // How many IRs a page has.
 pub fn irs_of(version: u8) -> usize
-    ensures { result ≡ (layoutOf version).irs }
+    ensures { result ≡ (layout_of version).irs }
 {
     layout_of(version).irs
 }
 
 // The last IR of a page, where the pointer stays.
 pub fn last_ir(version: u8) -> u8
-    ensures { result ≡ lastIr version }
+    ensures { result ≡ last_ir version }
 {
     (irs_of(version) - 1) as u8
 }
 
 // The bytes between a page file's length and its character memory.
 pub fn page_length(version: u8) -> usize
-    ensures { result ≡ pageLength version }
+    ensures { result ≡ page_length version }
 {
     let l = layout_of(version);
     l.irs + l.rest
@@ -142,41 +142,41 @@ pub fn page_length(version: u8) -> usize
 
 // 3, for the lengths of the two memories.
 pub fn memories_refused(chars: usize, attrs: usize) -> bool
-    ensures { result ≡ memoriesRefused chars attrs }
+    ensures { result ≡ memories_refused chars attrs }
 {
     (chars != 16384) | (attrs != 16384)
 }
 
 pub fn starts_refused(s: Starts) -> bool
-    ensures { result ≡ startsRefused s }
+    ensures { result ≡ starts_refused s }
 {
     (16383 < s.start1) | (16383 < s.cursor) | (16383 < s.start2)
 }
 
 // Whether switches 4 and 5 are a version's own.
 fn has_modes(version: u8) -> bool
-    ensures { result ≡ hasModes version }
+    ensures { result ≡ has_modes version }
 {
     (version == 2) | (version == 3)
 }
 
 // Switches 6 and 7, and where they are not the version's also 4 and 5.
 pub fn switches_refused(version: u8, switches: u8) -> bool
-    ensures { result ≡ switchesRefused version switches }
+    ensures { result ≡ switches_refused version switches }
 {
     (63 < switches) | (!has_modes(version) & (15 < switches))
 }
 
 // The strike line, and in version 3 the chip.
 pub fn video_refused(version: u8, v: Video) -> bool
-    ensures { result ≡ videoRefused version v }
+    ensures { result ≡ video_refused version v }
 {
     (15 < v.strike) | ((version == 3) & (1 < v.chip))
 }
 
 // 12, for a page.
 pub fn address_refused(p: Page) -> bool
-    ensures { result ≡ addressRefused p }
+    ensures { result ≡ address_refused p }
 {
     let s = p.starts;
     let v = p.video;
@@ -185,42 +185,42 @@ pub fn address_refused(p: Page) -> bool
 
 // The version as it is written.
 pub fn version_of(p: Page) -> u8
-    ensures { result ≡ versionOf p }
+    ensures { result ≡ version_of p }
 {
     if has_modes(p.version) { p.version } else { 1 }
 }
 
 // Whether attributes run on from cell to cell.
 pub fn field_mode(p: Page) -> bool
-    ensures { result ≡ fieldMode p }
+    ensures { result ≡ field_mode p }
 {
     has_modes(p.version) & (p.switches / 16 % 2 == 1)
 }
 
 // Whether a cell that sets attributes has zero dots.
 pub fn setters_hidden(p: Page) -> bool
-    ensures { result ≡ settersHidden p }
+    ensures { result ≡ setters_hidden p }
 {
     field_mode(p) & !(p.switches / 32 % 2 == 1)
 }
 
 // Whether the page is one of the 2677B.
 pub fn chip_b(p: Page) -> bool
-    ensures { result ≡ chipB p }
+    ensures { result ≡ chip_b p }
 {
     (p.version == 3) & (p.video.chip == 1)
 }
 
 // 7, for the two cells of a place.
 pub fn cells_refused(p: Place) -> bool
-    ensures { result ≡ cellsRefused p }
+    ensures { result ≡ cells_refused p }
 {
     (16383 < p.beam.address) | (16383 < p.row.address)
 }
 
 // 7, for the IR pointer.
 pub fn pointer_refused(p: Page, pointer: u8) -> bool
-    ensures { result ≡ pointerRefused p pointer }
+    ensures { result ≡ pointer_refused p pointer }
 {
     last_ir(p.version) < pointer
 }

@@ -2,16 +2,16 @@
 use Rattle.std.specs.Prelude.{ℕ, ◌≡◌, refl, Bool, true, false, ◌&&◌, ◌||◌, List, eqb}
 use Rattle.std.proofs.Common.{sym, ap, ◌∙◌, eq-eqb, ne_eqb}
 use Rattle.refusal.specs.declared.Refusal.TheVariants.{Done}
-use Rattle.refusal.specs.Number.{number_of, besideOf, done_of}
+use Rattle.refusal.specs.Number.{number_of, beside_of, done_of}
 use Rattle.refusal.specs.Laws.{done-is}
-use Rattle.timing.specs.Check.{pageCheck, size_of}
-use Rattle.files.specs.Page.{pageAt}
-use Rattle.numbers.specs.Numbers.{numbersRefused, numbersBoard, numbersCheck}
+use Rattle.timing.specs.Check.{page_check, size_of}
+use Rattle.files.specs.Page.{page_at}
+use Rattle.numbers.specs.Numbers.{numbers_refused, numbers_board, numbers_check}
 use Rattle.feldrime.specs.declared.Answer.{Answer}
 use Rattle.feldrime.specs.declared.SizeAnswer.{SizeAnswer}
 use Rattle.feldrime.specs.declared.BoardAnswer.{BoardAnswer}
 use Rattle.feldrime.specs.Answers.{answer_of}
-use Rattle.feldrime.specs.Pages.{size_for, boardFor}
+use Rattle.feldrime.specs.Pages.{size_for, board_for}
 
 -- one number for all three, and one beside it; on a refusal no lines and no dots
 abbrev pub agreed : Answer → SizeAnswer → BoardAnswer → Bool
@@ -19,30 +19,30 @@ agreed c s m =
     (((eqb s.refusal c.refusal && eqb s.beside c.beside) && eqb m.refusal c.refusal) && eqb m.beside c.beside)
     && (eqb c.refusal 0 || (eqb s.lines 0 && eqb s.dots 0))
 
-agree : (numbers : List ℕ) → agreed (answer_of (numbersCheck numbers)) (size_for numbers) (boardFor numbers) ≡ true
-unfolding numbersCheck size_for boardFor size_of
-agree numbers = go (numbersRefused numbers) refl (done_of (pageCheck (pageAt numbers 1))) refl
+agree : (numbers : List ℕ) → agreed (answer_of (numbers_check numbers)) (size_for numbers) (board_for numbers) ≡ true
+unfolding numbers_check size_for board_for size_of
+agree numbers = go (numbers_refused numbers) refl (done_of (page_check (page_at numbers 1))) refl
   where
-    go : (t : Bool) → numbersRefused numbers ≡ t → (d : Bool) → done_of (pageCheck (pageAt numbers 1)) ≡ d
-        → agreed (answer_of (numbersCheck numbers)) (size_for numbers) (boardFor numbers) ≡ true
+    go : (t : Bool) → numbers_refused numbers ≡ t → (d : Bool) → done_of (page_check (page_at numbers 1)) ≡ d
+        → agreed (answer_of (numbers_check numbers)) (size_for numbers) (board_for numbers) ≡ true
     go true t d e = rw t
-    go false t true e = rw (t, done-is (pageCheck (pageAt numbers 1)) e)
-    go false t false e = rw (t, e, eq-eqb (number_of (pageCheck (pageAt numbers 1))) _ refl, eq-eqb (besideOf (pageCheck (pageAt numbers 1))) _ refl)
+    go false t true e = rw (t, done-is (page_check (page_at numbers 1)) e)
+    go false t false e = rw (t, e, eq-eqb (number_of (page_check (page_at numbers 1))) _ refl, eq-eqb (beside_of (page_check (page_at numbers 1))) _ refl)
 
 pub calls-agree : (numbers : List ℕ) (c : Answer) (s : SizeAnswer) (m : BoardAnswer)
-    → c ≡ answer_of (numbersCheck numbers) → s ≡ size_for numbers → m ≡ boardFor numbers → agreed c s m ≡ true
+    → c ≡ answer_of (numbers_check numbers) → s ≡ size_for numbers → m ≡ board_for numbers → agreed c s m ≡ true
 calls-agree numbers c s m p q r = rw (p, q, r) (agree numbers)
 
 -- numbers that are refused
-pub made-refused : (numbers : List ℕ) {m : BoardAnswer} → m ≡ boardFor numbers → (m.refusal ≡ 0 → ⊥) → (record { refusal = m.refusal; beside = m.beside } ≡ answer_of (numbersCheck numbers)) × (done_of (numbersCheck numbers) ≡ false)
-unfolding boardFor
+pub made-refused : (numbers : List ℕ) {m : BoardAnswer} → m ≡ board_for numbers → (m.refusal ≡ 0 → ⊥) → (record { refusal = m.refusal; beside = m.beside } ≡ answer_of (numbers_check numbers)) × (done_of (numbers_check numbers) ≡ false)
+unfolding board_for
 made-refused numbers {m} made e =
-    let r : record { refusal = m.refusal; beside = m.beside } ≡ answer_of (numbersCheck numbers) = ap (λ (x : BoardAnswer). record { refusal = x.refusal; beside = x.beside }) made in
+    let r : record { refusal = m.refusal; beside = m.beside } ≡ answer_of (numbers_check numbers) = ap (λ (x : BoardAnswer). record { refusal = x.refusal; beside = x.beside }) made in
     (r, ne_eqb _ _ (λ q. e (ap (λ (x : Answer). x.refusal) r ∙ q)))
 
 -- numbers that nothing refuses are made their board
-pub made-done : (numbers : List ℕ) {m : BoardAnswer} → m ≡ boardFor numbers → m.refusal ≡ 0 → (numbersCheck numbers ≡ Done) × (m.board ≡ numbersBoard numbers)
-unfolding boardFor
+pub made-done : (numbers : List ℕ) {m : BoardAnswer} → m ≡ board_for numbers → m.refusal ≡ 0 → (numbers_check numbers ≡ Done) × (m.board ≡ numbers_board numbers)
+unfolding board_for
 made-done numbers made z =
-    let done : numbersCheck numbers ≡ Done = done-is _ (eq-eqb _ _ (ap (λ (x : BoardAnswer). x.refusal) (sym made) ∙ z)) in
+    let done : numbers_check numbers ≡ Done = done-is _ (eq-eqb _ _ (ap (λ (x : BoardAnswer). x.refusal) (sym made) ∙ z)) in
     (done, ap (λ (x : BoardAnswer). x.board) made ∙ rw done)

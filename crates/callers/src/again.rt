@@ -1,19 +1,19 @@
 // A file that is read, and written again.
 ghost use Rattle.std.specs.Prelude.{◌≡◌, false, length};
-ghost use Rattle.board.specs.Layout.{fileSize};
-ghost use Rattle.files.specs.Page.{versionIn};
-ghost use Rattle.files.specs.File.{readCheck};
-ghost use Rattle.files.specs.FontFile.{fontSize, fontCheck};
+ghost use Rattle.board.specs.Layout.{file_size};
+ghost use Rattle.files.specs.Page.{version_in};
+ghost use Rattle.files.specs.File.{read_check};
+ghost use Rattle.files.specs.FontFile.{font_size, font_check};
 ghost use Rattle.feldrime.specs.Answers.{answer_of};
-ghost use Rattle.callers.specs.Again.{againCheck, writtenAgain};
-ghost use Rattle.callers.specs.Numbers.{numbersAgainCheck, numbersAgain};
+ghost use Rattle.callers.specs.Again.{again_check, written_again};
+ghost use Rattle.callers.specs.Numbers.{numbers_again_check, numbers_again};
 
 use feldrime::Answer;
 
 // A page file that is accepted is written as the same bytes.
 pub fn page_again(file: &[u8], out: &mut [u8]) -> Answer
-    ensures { (result ≡ answer_of (againCheck (readCheck file.now false) (fileSize (versionIn file.now)) (length out.old)))
-        × (out.new ≡ writtenAgain (readCheck file.now false) (fileSize (versionIn file.now)) file.now out.old) }
+    ensures { (result ≡ answer_of (again_check (read_check file.now false) (file_size (version_in file.now)) (length out.old)))
+        × (out.new ≡ written_again (read_check file.now false) (file_size (version_in file.now)) file.now out.old) }
 {
     let mut numbers = [0u8; 32];
     let mut chars = [0u8; 16384];
@@ -27,8 +27,8 @@ pub fn page_again(file: &[u8], out: &mut [u8]) -> Answer
 
 // A font file that is accepted is written as the same bytes. C has no call that writes a font.
 pub fn font_again(file: &[u8], out: &mut [u8]) -> Answer
-    ensures { (result ≡ answer_of (againCheck (fontCheck file.now false) (fontSize (versionIn file.now)) (length out.old)))
-        × (out.new ≡ writtenAgain (fontCheck file.now false) (fontSize (versionIn file.now)) file.now out.old) }
+    ensures { (result ≡ answer_of (again_check (font_check file.now false) (font_size (version_in file.now)) (length out.old)))
+        × (out.new ≡ written_again (font_check file.now false) (font_size (version_in file.now)) file.now out.old) }
 {
     let mut words = [0u16; 1152];
     let mut flags = [0u8; 128];
@@ -60,8 +60,8 @@ pub fn font_again(file: &[u8], out: &mut [u8]) -> Answer
 // A page's numbers made a board, the board written and read again: the same numbers, and zeros where numbers are ignored.
 pub fn numbers_again(numbers: &[u8], chars: &[u8], attrs: &[u8], out: &mut [u8]) -> Answer
     ensures { let c = length chars.now in let a = length attrs.now in
-        (result ≡ answer_of (numbersAgainCheck numbers.now c a (length out.old)))
-        × (out.new ≡ numbersAgain numbers.now c a out.old) }
+        (result ≡ answer_of (numbers_again_check numbers.now c a (length out.old)))
+        × (out.new ≡ numbers_again numbers.now c a out.old) }
 {
     let made = feldrime::feldrime_board_of(numbers);
     if made.refusal != 0 {

@@ -1,6 +1,6 @@
 // An index of phrases, as columns of numbers: covered code cannot hand over a slice of records.
 ghost use Rattle.std.specs.Prelude.{◌≡◌, true, ◌&&◌, ◌+◌, ◌<◌, leb, ltb, length, get_or};
-ghost use Rattle.callers.specs.Index.{allHeld, twoOf};
+ghost use Rattle.callers.specs.Index.{all_held, two_of};
 
 use records::{PairAnswer, PhraseAnswer};
 
@@ -45,7 +45,7 @@ pub fn found_holds(
 // A record of all cells is found for every row that is not refused. What a column has beyond the shortest is no record:
 // here it would be a bad one.
 pub fn all_held(b: board::Board, chars: &[u8], language: u32, number: u32, row: u32) -> PhraseAnswer
-    ensures { result ≡ allHeld b chars.now row }
+    ensures { result ≡ all_held b chars.now row }
 {
     let languages = [language; 1];
     let numbers = [number; 1];
@@ -83,7 +83,7 @@ pub fn refused_alike(
 
 // Of two records: the first bad one, else the two where they disagree, else none.
 pub fn two_compared(p: records::Phrase, q: records::Phrase) -> PairAnswer
-    ensures { result ≡ twoOf p q }
+    ensures { result ≡ two_of p q }
 {
     let languages = [p.language, q.language];
     let numbers = [p.number, q.number];

@@ -1,12 +1,12 @@
 // A row's first run, by C and by Rattle.
 ghost use Rattle.std.specs.Prelude.{◌≡◌, true, ◌+◌};
-ghost use Rattle.callers.specs.Runs.{runPart, runStart};
+ghost use Rattle.callers.specs.Runs.{run_part, run_start};
 
 // What C takes from character memory, by the first address and the count that it is answered, is the row's run: the same cells at the same place; none on a refusal.
 pub fn run_taken<'a>(numbers: &[u8], chars: &'a [u8], row: u32) -> &'a [u8]
-    ensures { (result.now ≡ runPart numbers.now chars.now row)
+    ensures { (result.now ≡ run_part numbers.now chars.now row)
         × (result.ref_ptr.0 ≡ chars.entry.ref_ptr.0)
-        × (result.ref_ptr.1 ≡ chars.entry.ref_ptr.1 + runStart numbers.now chars.now row) }
+        × (result.ref_ptr.1 ≡ chars.entry.ref_ptr.1 + run_start numbers.now chars.now row) }
 {
     let asked = feldrime::feldrime_row_run(numbers, chars, row);
     let from = asked.first as usize;

@@ -1,13 +1,13 @@
 // A board's page saved as numbers, and made a board again.
 ghost use Rattle.std.specs.Prelude.{◌≡◌, length};
 ghost use Rattle.feldrime.specs.Answers.{answer_of};
-ghost use Rattle.callers.specs.Saved.{savedBoard, savedCheck, savedNumbers};
+ghost use Rattle.callers.specs.Saved.{saved_board, saved_check, saved_numbers};
 
 use feldrime::{Answer, BoardAnswer};
 
 // A board that is saved and made again has its page, with its version as it counts, at clock 0 on an active board.
 pub fn saved_again(b: board::Board) -> BoardAnswer
-    ensures { result ≡ savedBoard b }
+    ensures { result ≡ saved_board b }
 {
     let mut numbers = [0u8; 32];
     let saved = feldrime::feldrime_numbers_of(b, &mut numbers);
@@ -23,8 +23,8 @@ pub fn saved_again(b: board::Board) -> BoardAnswer
 
 // Numbers that are made a board and saved are the same numbers, and zeros where numbers are ignored.
 pub fn numbers_saved(numbers: &[u8], out: &mut [u8]) -> Answer
-    ensures { (result ≡ answer_of (savedCheck numbers.now (length out.old)))
-        × (out.new ≡ savedNumbers numbers.now out.old) }
+    ensures { (result ≡ answer_of (saved_check numbers.now (length out.old)))
+        × (out.new ≡ saved_numbers numbers.now out.old) }
 {
     let made = feldrime::feldrime_board_of(numbers);
     if made.refusal != 0 {

@@ -1,12 +1,12 @@
 // A row's text: the codes of its cells, as a program reads them by the cells that it is answered.
 ghost use Rattle.std.specs.Prelude.{◌≡◌, true, ◌++◌, ◌≤◌, length, take, drop};
 ghost use Rattle.lists.specs.Tab.{tab};
-ghost use Rattle.callers.specs.Texts.{Readable, codeBy, rowText};
+ghost use Rattle.callers.specs.Texts.{Readable, code_by, row_text};
 
 // The codes of n cells, at the front of text.
 fn put_codes(chars: &[u8], cells: &[u16], n: usize, text: &mut [u8])
     requires { Readable chars.now cells.now n (length text.old) }
-    ensures { text.new ≡ tab n (codeBy chars.now cells.now) ++ drop n text.old }
+    ensures { text.new ≡ tab n (code_by chars.now cells.now) ++ drop n text.old }
 {
     let mut c = 0;
     while c < n {
@@ -18,7 +18,7 @@ fn put_codes(chars: &[u8], cells: &[u16], n: usize, text: &mut [u8])
 
 // Each cell that is answered lies in character memory, and its code is what the row shows there. Text without room for the row, or of a refused row, stays.
 pub fn row_text(numbers: &[u8], chars: &[u8], row: u32, text: &mut [u8])
-    ensures { text.new ≡ rowText numbers.now chars.now row text.old }
+    ensures { text.new ≡ row_text numbers.now chars.now row text.old }
 {
     let mut cells = [0u16; 256];
     let given = feldrime::feldrime_row_cells(numbers, chars, row, &mut cells);

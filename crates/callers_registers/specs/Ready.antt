@@ -5,41 +5,41 @@ use Rattle.lists.specs.Choice.{neither}
 use Rattle.refusal.specs.declared.Refusal.TheVariants.{Done, Range, Address}
 use Rattle.refusal.specs.Laws.{passed}
 use Rattle.board.specs.declared.Board.{Board}
-use Rattle.board.specs.Range.{startsRefused, switchesRefused, videoRefused, addressRefused, pointerRefused}
-use Rattle.registers.specs.Write.{registerCheck, activeOf, writeOf}
-use Rattle.registers.specs.Read.{readAt, read_of}
+use Rattle.board.specs.Range.{starts_refused, switches_refused, video_refused, address_refused, pointer_refused}
+use Rattle.registers.specs.Write.{register_check, active_of, write_of}
+use Rattle.registers.specs.Read.{read_at, read_of}
 
 pub record Ready (b : Board) : Type 0 where
   pub active : 2 ≤ b.resets
-  pub taken : registerCheck b ≡ Done
+  pub taken : register_check b ≡ Done
 
-pub writes : {b : Board} → Ready b → (a v : ℕ) → writeOf b a v ≡ activeOf b a v
-unfolding writeOf
+pub writes : {b : Board} → Ready b → (a v : ℕ) → write_of b a v ≡ active_of b a v
+unfolding write_of
 writes {b} r a v = rw (r.taken, le-leb 2 b.resets r.active)
 
-pub reads : {b : Board} → Ready b → (a : ℕ) → read_of b a ≡ readAt b.page.starts a
+pub reads : {b : Board} → Ready b → (a : ℕ) → read_of b a ≡ read_at b.page.starts a
 unfolding read_of
 reads r a = rw r.taken
 
 -- ---- the parts of the check
 
 pub record Parts (b : Board) : Type 0 where
-  pub starts : startsRefused b.page.starts ≡ false
-  pub switches : switchesRefused b.page.version b.page.switches ≡ false
-  pub video : videoRefused b.page.version b.page.video ≡ false
-  pub pointer : pointerRefused b.page b.pointer ≡ false
+  pub starts : starts_refused b.page.starts ≡ false
+  pub switches : switches_refused b.page.version b.page.switches ≡ false
+  pub video : video_refused b.page.version b.page.video ≡ false
+  pub pointer : pointer_refused b.page b.pointer ≡ false
 
 pub parts : {b : Board} → Ready b → Parts b
-unfolding registerCheck addressRefused
+unfolding register_check address_refused
 parts {b} r =
-    let a = passed (addressRefused b.page) Address _ refl r.taken in
-    let p = passed (pointerRefused b.page b.pointer) Range _ refl a.1 in
-    let three = neither (startsRefused b.page.starts || switchesRefused b.page.version b.page.switches) (videoRefused b.page.version b.page.video) a.0 in
-    let two = neither (startsRefused b.page.starts) (switchesRefused b.page.version b.page.switches) three.0 in
+    let a = passed (address_refused b.page) Address _ refl r.taken in
+    let p = passed (pointer_refused b.page b.pointer) Range _ refl a.1 in
+    let three = neither (starts_refused b.page.starts || switches_refused b.page.version b.page.switches) (video_refused b.page.version b.page.video) a.0 in
+    let two = neither (starts_refused b.page.starts) (switches_refused b.page.version b.page.switches) three.0 in
     record { starts = two.0; switches = two.1; video = three.1; pointer = p.0 }
 
 pub ready : (b : Board) → 2 ≤ b.resets → Parts b → Ready b
-unfolding registerCheck addressRefused
+unfolding register_check address_refused
 ready b h p = record { active = h; taken = rw (p.starts, p.switches, p.video, p.pointer) }
 
 -- switches are judged by the upper four alone
@@ -50,5 +50,5 @@ ltb-same k x y more less = go (ltb k y) refl
     go true t = lt-ltb k x (more (ltb-true k y t))
     go false t = le-ltb k x (less (ltb-false k y t))
 
-pub judged : (version x y : ℕ) → x / 16 ≡ y / 16 → switchesRefused version x ≡ switchesRefused version y
+pub judged : (version x y : ℕ) → x / 16 ≡ y / 16 → switches_refused version x ≡ switches_refused version y
 judged version x y e = rw (ltb-same 63 x y (λ h. omega arith) (λ h. omega arith), ltb-same 15 x y (λ h. omega arith) (λ h. omega arith))

@@ -9,23 +9,23 @@ use Rattle.units.specs.declared.Dots.{Dots}
 use Rattle.refusal.specs.declared.Refusal.{Refusal}
 use Rattle.refusal.specs.Number.{number_of, done_of}
 use Rattle.board.specs.declared.Board.{Board}
-use Rattle.board.specs.Parts.{withSwitches, withPage}
-use Rattle.board.specs.Range.{addressRefused}
-use Rattle.registers.specs.Video.{videoCheck, withDots, switchesSet, videoSet, setVideoOf}
+use Rattle.board.specs.Parts.{with_switches, with_page}
+use Rattle.board.specs.Range.{address_refused}
+use Rattle.registers.specs.Video.{video_check, with_dots, switches_set, video_set, set_video_of}
 use Rattle.feldrime.specs.declared.BoardAnswer.{BoardAnswer}
-use Rattle.feldrime.specs.Answers.{boardAnswer}
+use Rattle.feldrime.specs.Answers.{board_answer}
 use Rattle.callers_registers.specs.Ready.{judged}
 
 -- what the call answers
-abbrev pub videoAnswered : Board → Dots → (strike : ℕ) → (bkgnd rblank : Bool) → BoardAnswer
-videoAnswered b d strike bkgnd rblank = boardAnswer (setVideoOf b d strike bkgnd rblank).refusal (setVideoOf b d strike bkgnd rblank).board
+abbrev pub video_answered : Board → Dots → (strike : ℕ) → (bkgnd rblank : Bool) → BoardAnswer
+video_answered b d strike bkgnd rblank = board_answer (set_video_of b d strike bkgnd rblank).refusal (set_video_of b d strike bkgnd rblank).board
 
 -- what is judged, and its number
 abbrev check : Board → Dots → (strike : ℕ) → Refusal
-check b d strike = videoCheck (withDots b.page d strike)
+check b d strike = video_check (with_dots b.page d strike)
 
-abbrev pub videoNumber : Board → Dots → (strike : ℕ) → ℕ
-videoNumber b d strike = number_of (check b d strike)
+abbrev pub video_number : Board → Dots → (strike : ℕ) → ℕ
+video_number b d strike = number_of (check b d strike)
 
 -- ---- the video numbers that a board has
 
@@ -37,26 +37,26 @@ switch-is n x h = go (eqb x 0) refl
     go true t = rw (eqb-true x 0 t) (sym (mul-zero n))
     go false t = let one : x ≡ 1 = omega (arith, eqb-false x 0 t) in rw one (sym (mul-one n))
 
-switches-are : (s : ℕ) → switchesSet s (not (eqb (s / 4 % 2) 0)) (not (eqb (s / 8 % 2) 0)) ≡ s
+switches-are : (s : ℕ) → switches_set s (not (eqb (s / 4 % 2) 0)) (not (eqb (s / 8 % 2) 0)) ≡ s
 switches-are s = rw (switch-is 4 (s / 4 % 2) (omega arith), switch-is 8 (s / 8 % 2) (omega arith)) (omega arith)
 
-video-same : (b : Board) → (setVideoOf b b.page.video.dots b.page.video.strike (not (eqb (b.page.switches / 4 % 2) 0)) (not (eqb (b.page.switches / 8 % 2) 0))).board ≡ b
-unfolding setVideoOf videoCheck
+video-same : (b : Board) → (set_video_of b b.page.video.dots b.page.video.strike (not (eqb (b.page.switches / 4 % 2) 0)) (not (eqb (b.page.switches / 8 % 2) 0))).board ≡ b
+unfolding set_video_of video_check
 video-same b = go (done_of (check b b.page.video.dots b.page.video.strike)) refl
   where
     go : (t : Bool) → done_of (check b b.page.video.dots b.page.video.strike) ≡ t
-        → (setVideoOf b b.page.video.dots b.page.video.strike (not (eqb (b.page.switches / 4 % 2) 0)) (not (eqb (b.page.switches / 8 % 2) 0))).board ≡ b
+        → (set_video_of b b.page.video.dots b.page.video.strike (not (eqb (b.page.switches / 4 % 2) 0)) (not (eqb (b.page.switches / 8 % 2) 0))).board ≡ b
     go true t = rw (t, switches-are b.page.switches)
     go false t = rw t
 
 pub same-video : (b : Board) {r : BoardAnswer}
-    → r ≡ videoAnswered b b.page.video.dots b.page.video.strike (not (eqb (b.page.switches / 4 % 2) 0)) (not (eqb (b.page.switches / 8 % 2) 0)) → r.board ≡ b
+    → r ≡ video_answered b b.page.video.dots b.page.video.strike (not (eqb (b.page.switches / 4 % 2) 0)) (not (eqb (b.page.switches / 8 % 2) 0)) → r.board ≡ b
 same-video b e = ap (λ (z : BoardAnswer). z.board) e ∙ video-same b
 
 -- ---- set twice
 
 -- the upper four switches and the lower two stay
-switches-stay : (s : ℕ) (bkgnd rblank : Bool) → (switchesSet s bkgnd rblank / 16 ≡ s / 16) × (switchesSet s bkgnd rblank % 4 ≡ s % 4)
+switches-stay : (s : ℕ) (bkgnd rblank : Bool) → (switches_set s bkgnd rblank / 16 ≡ s / 16) × (switches_set s bkgnd rblank % 4 ≡ s % 4)
 switches-stay s true true = (omega arith, omega arith)
 switches-stay s true false = (omega arith, omega arith)
 switches-stay s false true = (omega arith, omega arith)
@@ -64,41 +64,41 @@ switches-stay s false false = (omega arith, omega arith)
 
 module _ (d : Dots) (strike : ℕ) (bkgnd rblank : Bool) where
   -- numbers that are set on a board x
-  set_is : (x : Board) {r : BoardAnswer} → r ≡ videoAnswered x d strike bkgnd rblank
-      → (r.refusal ≡ videoNumber x d strike) × (r.refusal ≡ 0 → r.board ≡ videoSet x d strike bkgnd rblank)
-  unfolding setVideoOf
+  set_is : (x : Board) {r : BoardAnswer} → r ≡ video_answered x d strike bkgnd rblank
+      → (r.refusal ≡ video_number x d strike) × (r.refusal ≡ 0 → r.board ≡ video_set x d strike bkgnd rblank)
+  unfolding set_video_of
   set_is x {r} e = go (done_of (check x d strike)) refl
     where
-      go : (t : Bool) → done_of (check x d strike) ≡ t → (r.refusal ≡ videoNumber x d strike) × (r.refusal ≡ 0 → r.board ≡ videoSet x d strike bkgnd rblank)
+      go : (t : Bool) → done_of (check x d strike) ≡ t → (r.refusal ≡ video_number x d strike) × (r.refusal ≡ 0 → r.board ≡ video_set x d strike bkgnd rblank)
       go true t = let zero = eqb-true _ _ t in (ap (λ (y : BoardAnswer). y.refusal) e ∙ rw t (sym zero), λ q. ap (λ (y : BoardAnswer). y.board) e ∙ rw t)
       go false t =
-          let number : r.refusal ≡ videoNumber x d strike = ap (λ (y : BoardAnswer). y.refusal) e ∙ rw t in
+          let number : r.refusal ≡ video_number x d strike = ap (λ (y : BoardAnswer). y.refusal) e ∙ rw t in
           (number, λ q. absurd (eqb-false _ _ t (sym number ∙ q)))
 
   -- they are judged and set as they were where others are set before them
   module _ (b : Board) (d₀ : Dots) (strike₀ : ℕ) (bkgnd₀ rblank₀ : Bool) where
     abbrev between : Board
-    between = videoSet b d₀ strike₀ bkgnd₀ rblank₀
+    between = video_set b d₀ strike₀ bkgnd₀ rblank₀
 
-    judged-same : videoNumber between d strike ≡ videoNumber b d strike
-    unfolding videoCheck addressRefused
+    judged-same : video_number between d strike ≡ video_number b d strike
+    unfolding video_check address_refused
     judged-same = rw (judged b.page.version between.page.switches b.page.switches (switches-stay b.page.switches bkgnd₀ rblank₀).0)
 
-    set-over : videoSet between d strike bkgnd rblank ≡ videoSet b d strike bkgnd rblank
+    set-over : video_set between d strike bkgnd rblank ≡ video_set b d strike bkgnd rblank
     set-over =
         let stay = switches-stay b.page.switches bkgnd₀ rblank₀ in
-        let same : switchesSet between.page.switches bkgnd rblank ≡ switchesSet b.page.switches bkgnd rblank = rw (stay.0, stay.1) in
-        ap (λ (k : ℕ). withPage b (withDots (withSwitches b.page k) d strike)) same
+        let same : switches_set between.page.switches bkgnd rblank ≡ switches_set b.page.switches bkgnd rblank = rw (stay.0, stay.1) in
+        ap (λ (k : ℕ). with_page b (with_dots (with_switches b.page k) d strike)) same
 
-    pub set_last : {one two : BoardAnswer} → one ≡ videoAnswered b d₀ strike₀ bkgnd₀ rblank₀ → two ≡ videoAnswered one.board d strike bkgnd rblank
-        → (two.refusal ≡ videoNumber b d strike) × (two.refusal ≡ 0 → two.board ≡ videoSet b d strike bkgnd rblank)
-    unfolding setVideoOf
+    pub set_last : {one two : BoardAnswer} → one ≡ video_answered b d₀ strike₀ bkgnd₀ rblank₀ → two ≡ video_answered one.board d strike bkgnd rblank
+        → (two.refusal ≡ video_number b d strike) × (two.refusal ≡ 0 → two.board ≡ video_set b d strike bkgnd rblank)
+    unfolding set_video_of
     set_last {one} {two} e q = go (done_of (check b d₀ strike₀)) refl
       where
-        on : (x : Board) → one.board ≡ x → two ≡ videoAnswered x d strike bkgnd rblank
-        on x p = q ∙ ap (λ (y : Board). videoAnswered y d strike bkgnd rblank) p
+        on : (x : Board) → one.board ≡ x → two ≡ video_answered x d strike bkgnd rblank
+        on x p = q ∙ ap (λ (y : Board). video_answered y d strike bkgnd rblank) p
 
-        go : (t : Bool) → done_of (check b d₀ strike₀) ≡ t → (two.refusal ≡ videoNumber b d strike) × (two.refusal ≡ 0 → two.board ≡ videoSet b d strike bkgnd rblank)
+        go : (t : Bool) → done_of (check b d₀ strike₀) ≡ t → (two.refusal ≡ video_number b d strike) × (two.refusal ≡ 0 → two.board ≡ video_set b d strike bkgnd rblank)
         go false t = set_is b (on b (ap (λ (y : BoardAnswer). y.board) e ∙ rw t))
         go true t =
             let r = set_is between (on between (ap (λ (y : BoardAnswer). y.board) e ∙ rw t)) in

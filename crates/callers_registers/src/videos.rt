@@ -1,8 +1,8 @@
 // Dots, strike line, BKGND and RBLANK, which C sets.
 ghost use Rattle.std.specs.Prelude.{◌≡◌, not, eqb};
 ghost use Rattle.units.specs.Units.{dots};
-ghost use Rattle.registers.specs.Video.{videoSet};
-ghost use Rattle.callers_registers.specs.Videos.{videoNumber};
+ghost use Rattle.registers.specs.Video.{video_set};
+ghost use Rattle.callers_registers.specs.Videos.{video_number};
 
 use feldrime::BoardAnswer;
 
@@ -41,8 +41,8 @@ pub fn set_twice(
     bkgnd: u8,
     rblank: u8,
 ) -> BoardAnswer
-    ensures { (result.refusal ≡ videoNumber b (dots width) strike)
-        × (result.refusal ≡ 0 → result.board ≡ videoSet b (dots width) strike (not (eqb bkgnd 0)) (not (eqb rblank 0))) }
+    ensures { (result.refusal ≡ video_number b (dots width) strike)
+        × (result.refusal ≡ 0 → result.board ≡ video_set b (dots width) strike (not (eqb bkgnd 0)) (not (eqb rblank 0))) }
 {
     let once = feldrime::feldrime_set_video(b, old_width, old_strike, old_bkgnd, old_rblank);
     let board = once.board;

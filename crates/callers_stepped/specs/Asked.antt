@@ -9,41 +9,41 @@ use Rattle.std.proofs.Math.Dec.{leb}
 use Rattle.lists.specs.Choice.{pick, first_of, neither}
 use Rattle.units.specs.declared.Clocks.{Clocks}
 use Rattle.refusal.specs.declared.Refusal.TheVariants.{Done, Size, Reserved, BackPorch, LineShort, FrontPorch, Width, Range, Room, Address}
-use Rattle.refusal.specs.Number.{number_of, besideOf, done_of}
+use Rattle.refusal.specs.Number.{number_of, beside_of, done_of}
 use Rattle.refusal.specs.Laws.{done-is, passed, not-refused}
 use Rattle.board.specs.declared.Page.{Page}
 use Rattle.board.specs.declared.Board.{Board}
-use Rattle.board.specs.State.{powerOf}
-use Rattle.board.specs.Range.{memoriesRefused, addressRefused}
-use Rattle.timing.specs.Fields.{visibleOf, codedOf, table_of, hbpOf}
-use Rattle.timing.specs.Check.{reservedRefused, backPorchRefused, lineShort, frontPorchRefused, missing, widthRefused, pageCheck, size_of, stateRefused, callCheck}
+use Rattle.board.specs.State.{power_of}
+use Rattle.board.specs.Range.{memories_refused, address_refused}
+use Rattle.timing.specs.Fields.{visible_of, coded_of, table_of, hbp_of}
+use Rattle.timing.specs.Check.{reserved_refused, back_porch_refused, line_short, front_porch_refused, missing, width_refused, page_check, size_of, state_refused, call_check}
 use Rattle.timing.specs.Laws.{range-ok, call_ok}
-use Rattle.shape.specs.Font.{Font, fontOf, fontRefused, groupsRefused}
-use Rattle.line.specs.Line.{lineLength, lineDots, drawCheck, drawnOf}
-use Rattle.video.specs.At.{lentCheck}
-use Rattle.step.specs.Step.{steppedOf, stepCheck, step_of}
-use Rattle.files.specs.Page.{pageAt}
-use Rattle.numbers.specs.Numbers.{numbersRefused, numbersBoard, numbersCheck}
+use Rattle.shape.specs.Font.{Font, font_of, font_refused, groups_refused}
+use Rattle.line.specs.Line.{line_length, line_dots, draw_check, drawn_of}
+use Rattle.video.specs.At.{lent_check}
+use Rattle.step.specs.Step.{stepped_of, step_check, step_of}
+use Rattle.files.specs.Page.{page_at}
+use Rattle.numbers.specs.Numbers.{numbers_refused, numbers_board, numbers_check}
 use Rattle.feldrime.specs.declared.Answer.{Answer}
 use Rattle.feldrime.specs.declared.SizeAnswer.{SizeAnswer}
 use Rattle.feldrime.specs.declared.BoardAnswer.{BoardAnswer}
 use Rattle.feldrime.specs.declared.StepBy.{StepBy}
 use Rattle.feldrime.specs.Answers.{answer_of}
-use Rattle.feldrime.specs.Pages.{size_for, boardFor}
-use Rattle.feldrime.specs.LineDraw.{lineDrawCheck, lineDrawn}
-use Rattle.feldrime.specs.Step.{numbered, stepNumbers}
+use Rattle.feldrime.specs.Pages.{size_for, board_for}
+use Rattle.feldrime.specs.LineDraw.{line_draw_check, line_drawn}
+use Rattle.feldrime.specs.Step.{numbered, step_numbers}
 use Rattle.callers_stepped.specs.Lines.{Steppable}
 
 -- a number with none beside it
-abbrev pub aloneOf : ℕ → Answer
-aloneOf n = record { refusal = n; beside = 0 }
+abbrev pub alone_of : ℕ → Answer
+alone_of n = record { refusal = n; beside = 0 }
 
 -- ---- 3 is a size and nothing else
 
-page-not-three : (p : Page) → number_of (pageCheck p) ≡ 3 → ⊥
-unfolding pageCheck
+page-not-three : (p : Page) → number_of (page_check p) ≡ 3 → ⊥
+unfolding page_check
 page-not-three p =
-    go (addressRefused p) (reservedRefused p) (backPorchRefused p) (lineShort p) (frontPorchRefused p) (widthRefused p.video.dots)
+    go (address_refused p) (reserved_refused p) (back_porch_refused p) (line_short p) (front_porch_refused p) (width_refused p.video.dots)
   where
     n : Clocks
     n = missing p
@@ -61,125 +61,125 @@ page-not-three p =
 -- what is lent, by whether a size is wrong and whether a group is refused
 module _ (b : Board) where
   abbrev answered : (size group : Bool) → ℕ
-  answered size group = number_of (callCheck b (pick size Size (pick group Address Done)) false false)
+  answered size group = number_of (call_check b (pick size Size (pick group Address Done)) false false)
 
   -- where nothing of it is, the page's own answer and 7
-  own-else : (n : ℕ) → (n ≡ 7 → ⊥) → (n ≡ 0 → ⊥) → (number_of (pageCheck b.page) ≡ n → ⊥) → answered false false ≡ n → ⊥
-  unfolding callCheck
-  own-else n no-7 no-0 own = go (done_of (pageCheck b.page)) (stateRefused b || false)
+  own-else : (n : ℕ) → (n ≡ 7 → ⊥) → (n ≡ 0 → ⊥) → (number_of (page_check b.page) ≡ n → ⊥) → answered false false ≡ n → ⊥
+  unfolding call_check
+  own-else n no-7 no-0 own = go (done_of (page_check b.page)) (state_refused b || false)
     where
-      go : (d s : Bool) → number_of (pick (not d) (pageCheck b.page) (pick s Range Done)) ≡ n → ⊥
+      go : (d s : Bool) → number_of (pick (not d) (page_check b.page) (pick s Range Done)) ≡ n → ⊥
       go false s e = own e
       go true true e = no-7 (sym e)
       go true false e = no-0 (sym e)
 
   call-three : (size group : Bool) → answered size group ≡ 3 → size ≡ true
-  unfolding callCheck
+  unfolding call_check
   call-three true group e = refl
   call-three false true e = absurd (omega arith)
   call-three false false e = absurd (own-else 3 (λ q. omega arith) (λ q. omega arith) (page-not-three b.page) e)
 
-  call-twelve : (number_of (pageCheck b.page) ≡ 12 → ⊥) → (size group : Bool) → answered size group ≡ 12 → (size ≡ false) × (group ≡ true)
-  unfolding callCheck
+  call-twelve : (number_of (page_check b.page) ≡ 12 → ⊥) → (size group : Bool) → answered size group ≡ 12 → (size ≡ false) × (group ≡ true)
+  unfolding call_check
   call-twelve own true group e = absurd (omega arith)
   call-twelve own false true e = (refl, refl)
   call-twelve own false false e = absurd (own-else 12 (λ q. omega arith) (λ q. omega arith) own e)
 
   call-fine : (size group : Bool) → (answered size group ≡ 3 → ⊥) → (answered size group ≡ 12 → ⊥) → (size ≡ false) × (group ≡ false)
-  unfolding callCheck
+  unfolding call_check
   call-fine true group three twelve = absurd (three refl)
   call-fine false true three twelve = absurd (twelve refl)
   call-fine false false three twelve = (refl, refl)
 
 -- a step's own answer
-step-answer : (b : Board) (chars attrs : List ℕ) (f : Font) → (step_of b chars attrs f).refusal ≡ stepCheck b chars attrs f
-unfolding step_of steppedOf
-step-answer b chars attrs f = go (done_of (stepCheck b chars attrs f)) refl
+step-answer : (b : Board) (chars attrs : List ℕ) (f : Font) → (step_of b chars attrs f).refusal ≡ step_check b chars attrs f
+unfolding step_of stepped_of
+step-answer b chars attrs f = go (done_of (step_check b chars attrs f)) refl
   where
-    go : (t : Bool) → done_of (stepCheck b chars attrs f) ≡ t → (step_of b chars attrs f).refusal ≡ stepCheck b chars attrs f
+    go : (t : Bool) → done_of (step_check b chars attrs f) ≡ t → (step_of b chars attrs f).refusal ≡ step_check b chars attrs f
     go true t = rw t (sym (done-is _ t))
     go false t = rw t
 
-pub step-by-value : (b : Board) (chars attrs words flags unshifted shifted groups : List ℕ) {s : StepBy} → s ≡ stepNumbers b chars attrs words flags unshifted shifted groups
-    → s.answer.refusal ≡ number_of (stepCheck b chars attrs (fontOf words flags unshifted shifted groups))
+pub step-by-value : (b : Board) (chars attrs words flags unshifted shifted groups : List ℕ) {s : StepBy} → s ≡ step_numbers b chars attrs words flags unshifted shifted groups
+    → s.answer.refusal ≡ number_of (step_check b chars attrs (font_of words flags unshifted shifted groups))
 unfolding numbered
 step-by-value b chars attrs words flags unshifted shifted groups e =
-    ap (λ (x : StepBy). x.answer.refusal) e ∙ ap number_of (step-answer b chars attrs (fontOf words flags unshifted shifted groups))
+    ap (λ (x : StepBy). x.answer.refusal) e ∙ ap number_of (step-answer b chars attrs (font_of words flags unshifted shifted groups))
 
-pub step-beside : (b : Board) (chars attrs words flags unshifted shifted groups : List ℕ) {s : StepBy} → s ≡ stepNumbers b chars attrs words flags unshifted shifted groups
-    → s.answer.beside ≡ besideOf (stepCheck b chars attrs (fontOf words flags unshifted shifted groups))
+pub step-beside : (b : Board) (chars attrs words flags unshifted shifted groups : List ℕ) {s : StepBy} → s ≡ step_numbers b chars attrs words flags unshifted shifted groups
+    → s.answer.beside ≡ beside_of (step_check b chars attrs (font_of words flags unshifted shifted groups))
 unfolding numbered
 step-beside b chars attrs words flags unshifted shifted groups e =
-    ap (λ (x : StepBy). x.answer.beside) e ∙ ap besideOf (step-answer b chars attrs (fontOf words flags unshifted shifted groups))
+    ap (λ (x : StepBy). x.answer.beside) e ∙ ap beside_of (step-answer b chars attrs (font_of words flags unshifted shifted groups))
 
 -- ---- the calls, one after the other
 
-module _ (numbers chars attrs words flags unshifted shifted groups : List ℕ) (line room : ℕ) {m : BoardAnswer} (made : m ≡ boardFor numbers) where
+module _ (numbers chars attrs words flags unshifted shifted groups : List ℕ) (line room : ℕ) {m : BoardAnswer} (made : m ≡ board_for numbers) where
   -- what the call that draws answers
   abbrev answer : Answer
-  answer = answer_of (lineDrawCheck numbers chars attrs (fontOf words flags unshifted shifted groups) line room)
+  answer = answer_of (line_draw_check numbers chars attrs (font_of words flags unshifted shifted groups) line room)
 
-  made-is : m.refusal ≡ number_of (numbersCheck numbers)
-  unfolding boardFor
+  made-is : m.refusal ≡ number_of (numbers_check numbers)
+  unfolding board_for
   made-is = ap (λ (x : BoardAnswer). x.refusal) made
 
   -- its answer without the board
   abbrev own : Answer
   own = record { refusal = m.refusal; beside = m.beside }
 
-  own_is : own ≡ answer_of (numbersCheck numbers)
-  unfolding boardFor
+  own_is : own ≡ answer_of (numbers_check numbers)
+  unfolding board_for
   own_is = ap (λ (x : BoardAnswer). record { refusal = x.refusal; beside = x.beside }) made
 
   -- a size that is wrong, and a group that is refused
   abbrev short : Bool
-  short = memoriesRefused (length chars) (length attrs) || fontRefused (fontOf words flags unshifted shifted groups)
+  short = memories_refused (length chars) (length attrs) || font_refused (font_of words flags unshifted shifted groups)
 
   abbrev group : Bool
-  group = groupsRefused groups
+  group = groups_refused groups
 
   -- the page of the board that is made has no 12 of its own
-  made-page : number_of (pageCheck m.board.page) ≡ 12 → ⊥
-  unfolding boardFor numbersCheck pageCheck addressRefused codedOf table_of hbpOf
-  made-page e = go (done_of (numbersCheck numbers)) refl (ap (λ (x : BoardAnswer). number_of (pageCheck x.board.page)) (sym made) ∙ e)
+  made-page : number_of (page_check m.board.page) ≡ 12 → ⊥
+  unfolding board_for numbers_check page_check address_refused coded_of table_of hbp_of
+  made-page e = go (done_of (numbers_check numbers)) refl (ap (λ (x : BoardAnswer). number_of (page_check x.board.page)) (sym made) ∙ e)
     where
-      go : (t : Bool) → done_of (numbersCheck numbers) ≡ t → number_of (pageCheck (pick t (numbersBoard numbers) powerOf).page) ≡ 12 → ⊥
-      go true d q = let ok = (passed (numbersRefused numbers) Size _ refl (done-is _ d)).1 in omega (arith, sym (ap number_of ok) ∙ q)
+      go : (t : Bool) → done_of (numbers_check numbers) ≡ t → number_of (page_check (pick t (numbers_board numbers) power_of).page) ≡ 12 → ⊥
+      go true d q = let ok = (passed (numbers_refused numbers) Size _ refl (done-is _ d)).1 in omega (arith, sym (ap number_of ok) ∙ q)
       go false d q = omega arith
 
   -- 3 for the numbers, which a page's own answer never is
-  pub numbers-three : m.refusal ≡ 3 → aloneOf 3 ≡ answer
-  unfolding lineDrawCheck numbersCheck
-  numbers-three e = go (numbersRefused numbers) refl
+  pub numbers-three : m.refusal ≡ 3 → alone_of 3 ≡ answer
+  unfolding line_draw_check numbers_check
+  numbers-three e = go (numbers_refused numbers) refl
     where
-      go : (t : Bool) → numbersRefused numbers ≡ t → aloneOf 3 ≡ answer
+      go : (t : Bool) → numbers_refused numbers ≡ t → alone_of 3 ≡ answer
       go true t = rw t
-      go false t = absurd (page-not-three (pageAt numbers 1) (rw t at (sym made-is ∙ e)))
+      go false t = absurd (page-not-three (page_at numbers 1) (rw t at (sym made-is ∙ e)))
 
-  numbers-fine : (m.refusal ≡ 3 → ⊥) → numbersRefused numbers ≡ false
-  unfolding numbersCheck
-  numbers-fine e = go (numbersRefused numbers) refl
+  numbers-fine : (m.refusal ≡ 3 → ⊥) → numbers_refused numbers ≡ false
+  unfolding numbers_check
+  numbers-fine e = go (numbers_refused numbers) refl
     where
-      go : (t : Bool) → numbersRefused numbers ≡ t → numbersRefused numbers ≡ false
+      go : (t : Bool) → numbers_refused numbers ≡ t → numbers_refused numbers ≡ false
       go true t = absurd (e (made-is ∙ rw t))
       go false t = t
 
-  module _ {s : StepBy} (tried : s ≡ stepNumbers m.board chars attrs words flags unshifted shifted groups) where
-    step_is : s.answer.refusal ≡ number_of (stepCheck m.board chars attrs (fontOf words flags unshifted shifted groups))
+  module _ {s : StepBy} (tried : s ≡ step_numbers m.board chars attrs words flags unshifted shifted groups) where
+    step_is : s.answer.refusal ≡ number_of (step_check m.board chars attrs (font_of words flags unshifted shifted groups))
     step_is = step-by-value m.board chars attrs words flags unshifted shifted groups tried
 
     -- 3 for what is lent: a step answers it whatever the board is
-    pub lent-three : s.answer.refusal ≡ 3 → aloneOf 3 ≡ answer
-    unfolding lineDrawCheck drawCheck callCheck
-    lent-three e = rw (call-three m.board short group (sym step_is ∙ e)) (go (numbersRefused numbers))
+    pub lent-three : s.answer.refusal ≡ 3 → alone_of 3 ≡ answer
+    unfolding line_draw_check draw_check call_check
+    lent-three e = rw (call-three m.board short group (sym step_is ∙ e)) (go (numbers_refused numbers))
       where
-        go : (t : Bool) → aloneOf 3 ≡ answer_of (pick t Size Size)
+        go : (t : Bool) → alone_of 3 ≡ answer_of (pick t Size Size)
         go true = refl
         go false = refl
 
     -- then 12, which is the groups'
-    pub lent-twelve : (m.refusal ≡ 3 → ⊥) → s.answer.refusal ≡ 12 → aloneOf 12 ≡ answer
-    unfolding lineDrawCheck drawCheck callCheck
+    pub lent-twelve : (m.refusal ≡ 3 → ⊥) → s.answer.refusal ≡ 12 → alone_of 12 ≡ answer
+    unfolding line_draw_check draw_check call_check
     lent-twelve no-three e =
         let lent = call-twelve m.board made-page short group (sym step_is ∙ e) in
         rw (numbers-fine no-three, lent.0, lent.1)
@@ -190,99 +190,99 @@ module _ (numbers chars attrs words flags unshifted shifted groups : List ℕ) (
 
       -- then the page's own
       pub pages-own : (m.refusal ≡ 0 → ⊥) → own ≡ answer
-      unfolding lineDrawCheck drawCheck callCheck numbersCheck
+      unfolding line_draw_check draw_check call_check numbers_check
       pages-own e =
-          let page : own ≡ answer_of (pageCheck (pageAt numbers 1)) = own_is ∙ rw (numbers-fine no-three) in
-          let refused : done_of (pageCheck (pageAt numbers 1)) ≡ false = ne_eqb _ _ (λ q. e (ap (λ (x : Answer). x.refusal) page ∙ q)) in
+          let page : own ≡ answer_of (page_check (page_at numbers 1)) = own_is ∙ rw (numbers-fine no-three) in
+          let refused : done_of (page_check (page_at numbers 1)) ≡ false = ne_eqb _ _ (λ q. e (ap (λ (x : Answer). x.refusal) page ∙ q)) in
           rw (numbers-fine no-three, lent-fine.0, lent-fine.1, refused) page
 
       module _ (done : m.refusal ≡ 0) {z : SizeAnswer} (size : z ≡ size_for numbers) where
-        page-done : pageCheck (pageAt numbers 1) ≡ Done
-        unfolding numbersCheck
+        page-done : page_check (page_at numbers 1) ≡ Done
+        unfolding numbers_check
         page-done = done-is _ (eq-eqb _ _ (rw (numbers-fine no-three) at (sym made-is ∙ done)))
 
-        lines_are : z.lines ≡ (visibleOf (pageAt numbers 1)).0
+        lines_are : z.lines ≡ (visible_of (page_at numbers 1)).0
         unfolding size_for size_of
         lines_are = ap (λ (x : SizeAnswer). x.lines) size ∙ rw (numbers-fine no-three, page-done)
 
-        dots-are : z.dots ≡ lineLength (numbersBoard numbers)
+        dots-are : z.dots ≡ line_length (numbers_board numbers)
         unfolding size_for size_of
         dots-are = ap (λ (x : SizeAnswer). x.dots) size ∙ rw (numbers-fine no-three, page-done)
 
-        at_zero : stateRefused (numbersBoard numbers) ≡ false
-        at_zero = range-ok (numbersBoard numbers) (record { line-lt = omega arith; clock-lt = omega arith; beam-le = omega arith; row-le = omega arith; pointer-le = omega arith })
+        at_zero : state_refused (numbers_board numbers) ≡ false
+        at_zero = range-ok (numbers_board numbers) (record { line-lt = omega arith; clock-lt = omega arith; beam-le = omega arith; row-le = omega arith; pointer-le = omega arith })
 
         -- then 7 for a line that is not visible, 8 for a buffer that is too short
-        pub hidden : z.lines ≤ line → aloneOf 7 ≡ answer
-        unfolding lineDrawCheck drawCheck callCheck
-        hidden h = rw (numbers-fine no-three, lent-fine.0, lent-fine.1, page-done, le-leb (visibleOf (pageAt numbers 1)).0 line (rw lines_are at h), or-true (stateRefused (numbersBoard numbers)))
+        pub hidden : z.lines ≤ line → alone_of 7 ≡ answer
+        unfolding line_draw_check draw_check call_check
+        hidden h = rw (numbers-fine no-three, lent-fine.0, lent-fine.1, page-done, le-leb (visible_of (page_at numbers 1)).0 line (rw lines_are at h), or-true (state_refused (numbers_board numbers)))
 
-        pub no_room : line < z.lines → room < z.dots → aloneOf 8 ≡ answer
-        unfolding lineDrawCheck drawCheck callCheck
-        no_room h k = rw (numbers-fine no-three, lent-fine.0, lent-fine.1, page-done, lt-leb (visibleOf (pageAt numbers 1)).0 line (rw lines_are at h), at_zero, lt-ltb room (lineLength (numbersBoard numbers)) (rw dots-are at k))
+        pub no_room : line < z.lines → room < z.dots → alone_of 8 ≡ answer
+        unfolding line_draw_check draw_check call_check
+        no_room h k = rw (numbers-fine no-three, lent-fine.0, lent-fine.1, page-done, lt-leb (visible_of (page_at numbers 1)).0 line (rw lines_are at h), at_zero, lt-ltb room (line_length (numbers_board numbers)) (rw dots-are at k))
 
-        pub nothing : line < z.lines → z.dots ≤ room → aloneOf 0 ≡ answer
-        unfolding lineDrawCheck drawCheck callCheck
-        nothing h k = rw (numbers-fine no-three, lent-fine.0, lent-fine.1, page-done, lt-leb (visibleOf (pageAt numbers 1)).0 line (rw lines_are at h), at_zero, le-ltb room (lineLength (numbersBoard numbers)) (rw dots-are at k))
+        pub nothing : line < z.lines → z.dots ≤ room → alone_of 0 ≡ answer
+        unfolding line_draw_check draw_check call_check
+        nothing h k = rw (numbers-fine no-three, lent-fine.0, lent-fine.1, page-done, lt-leb (visible_of (page_at numbers 1)).0 line (rw lines_are at h), at_zero, le-ltb room (line_length (numbers_board numbers)) (rw dots-are at k))
 
 -- ---- a line that nothing refuses can be stepped, and what stepping leaves is the line drawn; on a refusal the buffer stays
 
-module _ (numbers chars attrs : List ℕ) (f : Font) (line : ℕ) (out : List ℕ) {r : Answer} (e : r ≡ answer_of (lineDrawCheck numbers chars attrs f line (length out))) where
-  number_is : r.refusal ≡ number_of (lineDrawCheck numbers chars attrs f line (length out))
+module _ (numbers chars attrs : List ℕ) (f : Font) (line : ℕ) (out : List ℕ) {r : Answer} (e : r ≡ answer_of (line_draw_check numbers chars attrs f line (length out))) where
+  number_is : r.refusal ≡ number_of (line_draw_check numbers chars attrs f line (length out))
   number_is = ap (λ (x : Answer). x.refusal) e
 
   pub kept : (r.refusal ≡ 0 → ⊥) → (field : ℕ)
-      → (r ≡ answer_of (lineDrawCheck numbers chars attrs f line (length out))) × (out ≡ lineDrawn numbers chars attrs f line field out)
-  unfolding lineDrawCheck lineDrawn drawnOf
-  kept n field = (e, go (numbersRefused numbers) refl)
+      → (r ≡ answer_of (line_draw_check numbers chars attrs f line (length out))) × (out ≡ line_drawn numbers chars attrs f line field out)
+  unfolding line_draw_check line_drawn drawn_of
+  kept n field = (e, go (numbers_refused numbers) refl)
     where
-      refused : done_of (lineDrawCheck numbers chars attrs f line (length out)) ≡ false
+      refused : done_of (line_draw_check numbers chars attrs f line (length out)) ≡ false
       refused = ne_eqb _ _ (λ q. n (number_is ∙ q))
 
-      go : (t : Bool) → numbersRefused numbers ≡ t → out ≡ lineDrawn numbers chars attrs f line field out
+      go : (t : Bool) → numbers_refused numbers ≡ t → out ≡ line_drawn numbers chars attrs f line field out
       go true t = rw t
       go false t = rw (t, rw t at refused)
 
-  module _ (z : r.refusal ≡ 0) {m : BoardAnswer} (made : m ≡ boardFor numbers) where
-    accepted : (numbersRefused numbers ≡ false) × (drawCheck (numbersBoard numbers) (lentCheck chars attrs f) line (length out) ≡ Done)
-    unfolding lineDrawCheck
-    accepted = passed (numbersRefused numbers) Size _ refl (done-is _ (eq-eqb _ _ (sym number_is ∙ z)))
+  module _ (z : r.refusal ≡ 0) {m : BoardAnswer} (made : m ≡ board_for numbers) where
+    accepted : (numbers_refused numbers ≡ false) × (draw_check (numbers_board numbers) (lent_check chars attrs f) line (length out) ≡ Done)
+    unfolding line_draw_check
+    accepted = passed (numbers_refused numbers) Size _ refl (done-is _ (eq-eqb _ _ (sym number_is ∙ z)))
 
     -- what the draw's checks passed
     record Steps : Type 0 where
-      page-ok : pageCheck (numbersBoard numbers).page ≡ Done
-      can-step : Steppable (numbersBoard numbers) chars attrs f line (length out)
+      page-ok : page_check (numbers_board numbers).page ≡ Done
+      can-step : Steppable (numbers_board numbers) chars attrs f line (length out)
 
     steps : Steps
-    unfolding drawCheck callCheck
+    unfolding draw_check call_check
     steps =
-        let b = numbersBoard numbers in
-        let s = not-refused (lentCheck chars attrs f) _ accepted.1 in
-        let p = not-refused (pageCheck b.page) _ s.1 in
-        let v = passed (stateRefused b || leb (visibleOf b.page).0 line) Range _ refl p.1 in
-        let n = neither (stateRefused b) (leb (visibleOf b.page).0 line) v.0 in
-        let o = passed (ltb (length out) (lineLength b)) Room _ refl v.1 in
+        let b = numbers_board numbers in
+        let s = not-refused (lent_check chars attrs f) _ accepted.1 in
+        let p = not-refused (page_check b.page) _ s.1 in
+        let v = passed (state_refused b || leb (visible_of b.page).0 line) Range _ refl p.1 in
+        let n = neither (state_refused b) (leb (visible_of b.page).0 line) v.0 in
+        let o = passed (ltb (length out) (line_length b)) Room _ refl v.1 in
         record {
           page-ok = p.0;
-          can-step = record { accepted = call_ok b (lentCheck chars attrs f) s.0 p.0 n.0; visible = leb-false _ _ n.1; roomy = ltb-false _ _ o.0 };
+          can-step = record { accepted = call_ok b (lent_check chars attrs f) s.0 p.0 n.0; visible = leb-false _ _ n.1; roomy = ltb-false _ _ o.0 };
         }
 
-    board-is : m.board ≡ numbersBoard numbers
-    unfolding boardFor numbersCheck
+    board-is : m.board ≡ numbers_board numbers
+    unfolding board_for numbers_check
     board-is = ap (λ (x : BoardAnswer). x.board) made ∙ rw (accepted.0, steps.page-ok)
 
     pub steppable : Steppable m.board chars attrs f line (length out)
     steppable = rw board-is steps.can-step
 
-    pub stepped : (field : ℕ) {out' : List ℕ} → out' ≡ lineDots m.board chars attrs f line field ++ drop (lineLength m.board) out
-        → (r ≡ answer_of (lineDrawCheck numbers chars attrs f line (length out))) × (out' ≡ lineDrawn numbers chars attrs f line field out)
-    unfolding lineDrawn drawnOf
+    pub stepped : (field : ℕ) {out' : List ℕ} → out' ≡ line_dots m.board chars attrs f line field ++ drop (line_length m.board) out
+        → (r ≡ answer_of (line_draw_check numbers chars attrs f line (length out))) × (out' ≡ line_drawn numbers chars attrs f line field out)
+    unfolding line_drawn drawn_of
     stepped field q = (e, rw (accepted.0, accepted.1) (rw board-is at q))
 
 -- two calls with the contract of the call that draws
 pub same-drawn : (numbers chars attrs : List ℕ) (f : Font) (line field : ℕ) (out other : List ℕ) {a b : Answer} {out' other' : List ℕ}
-    → (a ≡ answer_of (lineDrawCheck numbers chars attrs f line (length out))) × (out' ≡ lineDrawn numbers chars attrs f line field out)
-    → (b ≡ answer_of (lineDrawCheck numbers chars attrs f line (length other))) × (other' ≡ lineDrawn numbers chars attrs f line field other)
+    → (a ≡ answer_of (line_draw_check numbers chars attrs f line (length out))) × (out' ≡ line_drawn numbers chars attrs f line field out)
+    → (b ≡ answer_of (line_draw_check numbers chars attrs f line (length other))) × (other' ≡ line_drawn numbers chars attrs f line field other)
     → out ≡ other → ((eqb a.refusal b.refusal && eqb a.beside b.beside) ≡ true) × (out' ≡ other')
 same-drawn numbers chars attrs f line field out other {a} {b} p q e =
     let same : a ≡ b = p.0 ∙ rw e (sym q.0) in

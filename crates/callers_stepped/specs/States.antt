@@ -9,21 +9,21 @@ use Rattle.refusal.specs.declared.Refusal.TheVariants.{Done}
 use Rattle.refusal.specs.Number.{number_of, done_of}
 use Rattle.refusal.specs.Laws.{done-is}
 use Rattle.board.specs.declared.Board.{Board}
-use Rattle.shape.specs.Font.{Font, fontOf}
+use Rattle.shape.specs.Font.{Font, font_of}
 use Rattle.place.specs.State.{state_of}
-use Rattle.step.specs.Step.{stepCheck, step_of}
+use Rattle.step.specs.Step.{step_check, step_of}
 use Rattle.step.specs.After.{after}
 use Rattle.feldrime.specs.declared.BoardAnswer.{BoardAnswer}
 use Rattle.feldrime.specs.declared.StepBy.{StepBy}
-use Rattle.feldrime.specs.Answers.{boardAnswer}
-use Rattle.feldrime.specs.Step.{stepNumbers}
+use Rattle.feldrime.specs.Answers.{board_answer}
+use Rattle.feldrime.specs.Step.{step_numbers}
 use Rattle.agreement.specs.Steps.{at_once}
 use Rattle.callers_stepped.specs.Asked.{step-by-value, step-beside}
 
 -- what a step answers for the board; where that is 0, the board that is asked for at clock n, and else the old one
-unfoldable pub steppedTo : Board → (chars attrs : List ℕ) → Font → ℕ → BoardAnswer
-steppedTo b chars attrs f n =
-    boardAnswer (stepCheck b chars attrs f) (pick (done_of (stepCheck b chars attrs f)) (state_of b chars attrs n).board b)
+unfoldable pub stepped_to : Board → (chars attrs : List ℕ) → Font → ℕ → BoardAnswer
+stepped_to b chars attrs f n =
+    board_answer (step_check b chars attrs f) (pick (done_of (step_check b chars attrs f)) (state_of b chars attrs n).board b)
 
 -- the board after i single steps from where it stands
 unfoldable pub on : Board → (chars attrs : List ℕ) → Font → ℕ → Board
@@ -35,31 +35,31 @@ unfolding on after
 later b chars attrs f n zero = ap (after b chars attrs f) (sym (add-zero n))
 later b chars attrs f n (suc i) = ap (λ (x : Board). (step_of x chars attrs f).board) (later b chars attrs f n i) ∙ ap (after b chars attrs f) (sym (add-suc n i))
 
-pub goes : (chars attrs words flags unshifted shifted groups : List ℕ) (i : ℕ) (from : Board) {at : Board} → at ≡ on from chars attrs (fontOf words flags unshifted shifted groups) i
-    → {s : StepBy} → s ≡ stepNumbers at chars attrs words flags unshifted shifted groups → s.board ≡ on from chars attrs (fontOf words flags unshifted shifted groups) (i + 1)
+pub goes : (chars attrs words flags unshifted shifted groups : List ℕ) (i : ℕ) (from : Board) {at : Board} → at ≡ on from chars attrs (font_of words flags unshifted shifted groups) i
+    → {s : StepBy} → s ≡ step_numbers at chars attrs words flags unshifted shifted groups → s.board ≡ on from chars attrs (font_of words flags unshifted shifted groups) (i + 1)
 unfolding on
 goes chars attrs words flags unshifted shifted groups i from here e = rw (e, here, add-one i)
 
 module _ (b : Board) (chars attrs words flags unshifted shifted groups : List ℕ) where
   abbrev font : Font
-  font = fontOf words flags unshifted shifted groups
+  font = font_of words flags unshifted shifted groups
 
-  module _ (n : ℕ) {s : StepBy} (tried : s ≡ stepNumbers b chars attrs words flags unshifted shifted groups) where
-    pub not-stepped : (s.answer.refusal ≡ 0 → ⊥) → record { refusal = s.answer.refusal; beside = s.answer.beside; board = b } ≡ steppedTo b chars attrs font n
-    unfolding steppedTo
+  module _ (n : ℕ) {s : StepBy} (tried : s ≡ step_numbers b chars attrs words flags unshifted shifted groups) where
+    pub not-stepped : (s.answer.refusal ≡ 0 → ⊥) → record { refusal = s.answer.refusal; beside = s.answer.beside; board = b } ≡ stepped_to b chars attrs font n
+    unfolding stepped_to
     not-stepped e =
-        let r : s.answer.refusal ≡ number_of (stepCheck b chars attrs font) = step-by-value b chars attrs words flags unshifted shifted groups tried in
-        let refused : done_of (stepCheck b chars attrs font) ≡ false = ne_eqb _ _ (λ q. e (r ∙ q)) in
+        let r : s.answer.refusal ≡ number_of (step_check b chars attrs font) = step-by-value b chars attrs words flags unshifted shifted groups tried in
+        let refused : done_of (step_check b chars attrs font) ≡ false = ne_eqb _ _ (λ q. e (r ∙ q)) in
         let k = step-beside b chars attrs words flags unshifted shifted groups tried in
         rw refused (λ i. record { refusal = r i; beside = k i; board = b })
 
     -- the state asked for at a clock is that of the steps so far, and steps go on from there
-    pub stepped : s.answer.refusal ≡ 0 → (from i : ℕ) {a : BoardAnswer} → a ≡ boardAnswer (state_of b chars attrs from).refusal (state_of b chars attrs from).board
-        → {at : Board} → at ≡ on a.board chars attrs font i → from + i ≡ n → record { refusal = 0; beside = 0; board = at } ≡ steppedTo b chars attrs font n
-    unfolding steppedTo
+    pub stepped : s.answer.refusal ≡ 0 → (from i : ℕ) {a : BoardAnswer} → a ≡ board_answer (state_of b chars attrs from).refusal (state_of b chars attrs from).board
+        → {at : Board} → at ≡ on a.board chars attrs font i → from + i ≡ n → record { refusal = 0; beside = 0; board = at } ≡ stepped_to b chars attrs font n
+    unfolding stepped_to
     stepped e from i {a} asked here q =
-        let r : s.answer.refusal ≡ number_of (stepCheck b chars attrs font) = step-by-value b chars attrs words flags unshifted shifted groups tried in
-        let ok : stepCheck b chars attrs font ≡ Done = done-is _ (eq-eqb _ _ (sym r ∙ e)) in
+        let r : s.answer.refusal ≡ number_of (step_check b chars attrs font) = step-by-value b chars attrs words flags unshifted shifted groups tried in
+        let ok : step_check b chars attrs font ≡ Done = done-is _ (eq-eqb _ _ (sym r ∙ e)) in
         let start : a.board ≡ after b chars attrs font from = ap (λ (x : BoardAnswer). x.board) asked ∙ (at_once b chars attrs font ok from).1 in
         let last = here ∙ ap (λ (x : Board). on x chars attrs font i) start ∙ later b chars attrs font from i ∙ ap (after b chars attrs font) q ∙ sym (at_once b chars attrs font ok n).1 in
         rw ok (λ k. record { refusal = 0; beside = 0; board = last k })

@@ -1,21 +1,21 @@
 // A line drawn by stepping, dot by dot, beside the line drawn whole.
 ghost use Rattle.std.specs.Prelude.{◌≡◌, true, ◌<◌, length};
-ghost use Rattle.timing.specs.Fields.{visibleOf};
-ghost use Rattle.agreement.specs.Lines.{clockOf};
-ghost use Rattle.shape.specs.Font.{fontNow, lentFont};
+ghost use Rattle.timing.specs.Fields.{visible_of};
+ghost use Rattle.agreement.specs.Lines.{clock_of};
+ghost use Rattle.shape.specs.Font.{font_now, lent_font};
 ghost use Rattle.units.specs.Units.{clocks};
-ghost use Rattle.line.specs.Line.{lineOver};
+ghost use Rattle.line.specs.Line.{line_over};
 ghost use Rattle.feldrime.specs.Answers.{answer_of};
-ghost use Rattle.feldrime.specs.LineDraw.{lineDrawCheck, DrawsLineFor};
-ghost use Rattle.callers_stepped.specs.Asked.{aloneOf};
+ghost use Rattle.feldrime.specs.LineDraw.{line_draw_check, DrawsLineFor};
+ghost use Rattle.callers_stepped.specs.Asked.{alone_of};
 ghost use Rattle.callers_stepped.specs.Lines.{Steppable};
 
 use feldrime::Answer;
 
 // The board's clock at the first dot of a line, in the frame whose number is the field's.
 fn clock_of(b: board::Board, line: units::Lines, field: u8) -> units::Clocks
-    requires { line.0 < (visibleOf b.page).0 }
-    ensures { result ≡ clocks (clockOf b field line.0 0) }
+    requires { line.0 < (visible_of b.page).0 }
+    ensures { result ≡ clocks (clock_of b field line.0 0) }
 {
     let page = b.page;
     let t = timing::timing_of(page);
@@ -38,8 +38,8 @@ fn step_line(
     line: u32,
     field: u8,
 )
-    requires { Steppable b chars.now attrs.now (fontNow words flags unshifted shifted groups) line (length out.old) }
-    ensures { out.new ≡ lineOver b chars.now attrs.now (lentFont words flags unshifted shifted groups) line field out.old }
+    requires { Steppable b chars.now attrs.now (font_now words flags unshifted shifted groups) line (length out.old) }
+    ensures { out.new ≡ line_over b chars.now attrs.now (lent_font words flags unshifted shifted groups) line field out.old }
 {
     let page = b.page;
     let t = timing::timing_of(page);
@@ -61,7 +61,7 @@ fn step_line(
 
 // A number with none beside it.
 fn alone(number: u32) -> Answer
-    ensures { result ≡ aloneOf number }
+    ensures { result ≡ alone_of number }
 {
     Answer {
         refusal: number,
@@ -83,8 +83,8 @@ fn line_answer(
     line: u32,
     room: usize,
 ) -> Answer
-    ensures { let f = lentFont words flags unshifted shifted groups in
-        result ≡ answer_of (lineDrawCheck numbers.now chars.now attrs.now f line room) }
+    ensures { let f = lent_font words flags unshifted shifted groups in
+        result ≡ answer_of (line_draw_check numbers.now chars.now attrs.now f line room) }
 {
     let made = feldrime::feldrime_board_of(numbers);
     if made.refusal == 3 {
@@ -130,7 +130,7 @@ pub fn line_by_steps(
     field: u8,
     out: &mut [u8],
 ) -> Answer
-    ensures { DrawsLineFor numbers.now chars.now attrs.now (lentFont words flags unshifted shifted groups)
+    ensures { DrawsLineFor numbers.now chars.now attrs.now (lent_font words flags unshifted shifted groups)
         line field out.old result out.new }
 {
     let room = out.len();

@@ -1,8 +1,8 @@
 // A page moved to a row table and back, drawn over its picture and stepped.
 ghost use Rattle.std.specs.Prelude.{◌≡◌};
-ghost use Rattle.shape.specs.Font.{lentFont};
+ghost use Rattle.shape.specs.Font.{lent_font};
 ghost use Rattle.feldrime.specs.PictureDraw.{DrawsPictureFor};
-ghost use Rattle.agreement.specs.FromC.{stepC};
+ghost use Rattle.agreement.specs.FromC.{step_c};
 
 use feldrime::{Answer, StepAnswer};
 
@@ -19,7 +19,7 @@ pub fn moved_over_picture(
     field: u8,
     out: &mut [u8],
 ) -> Answer
-    ensures { DrawsPictureFor numbers.old chars.old attrs.now (lentFont words flags unshifted shifted groups)
+    ensures { DrawsPictureFor numbers.old chars.old attrs.now (lent_font words flags unshifted shifted groups)
         field out.old result out.new }
 {
     feldrime::feldrime_to_table(numbers, chars);
@@ -44,7 +44,7 @@ fn step_after(
     groups: &[u8],
     n: u32,
 ) -> StepAnswer
-    ensures { result ≡ stepC numbers.now chars.now attrs.now words.now flags.now unshifted.now shifted.now groups.now n }
+    ensures { result ≡ step_c numbers.now chars.now attrs.now words.now flags.now unshifted.now shifted.now groups.now n }
 {
     let made = feldrime::feldrime_board_of(numbers);
     let start = made.board;
@@ -71,7 +71,7 @@ pub fn moved_step(
     groups: &[u8],
     n: u32,
 ) -> StepAnswer
-    ensures { result ≡ stepC numbers.old chars.old attrs.now words.now flags.now unshifted.now shifted.now groups.now n }
+    ensures { result ≡ step_c numbers.old chars.old attrs.now words.now flags.now unshifted.now shifted.now groups.now n }
 {
     if there {
         feldrime::feldrime_to_table(numbers, chars);

@@ -1,5 +1,5 @@
 // A picture, and one of its lines drawn again over it.
-ghost use Rattle.shape.specs.Font.{lentFont};
+ghost use Rattle.shape.specs.Font.{lent_font};
 ghost use Rattle.feldrime.specs.PictureDraw.{DrawsPictureFor};
 
 use feldrime::Answer;
@@ -18,7 +18,7 @@ pub fn line_over_picture(
     field: u8,
     out: &mut [u8],
 ) -> Answer
-    ensures { DrawsPictureFor numbers.now chars.now attrs.now (lentFont words flags unshifted shifted groups)
+    ensures { DrawsPictureFor numbers.now chars.now attrs.now (lent_font words flags unshifted shifted groups)
         field out.old result out.new }
 {
     let drawn = feldrime::feldrime_picture_draw(

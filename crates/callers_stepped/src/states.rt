@@ -1,7 +1,7 @@
 // A state asked for, and stepped to.
 ghost use Rattle.std.specs.Prelude.{◌≡◌, ◌+◌};
-ghost use Rattle.shape.specs.Font.{lentFont};
-ghost use Rattle.callers_stepped.specs.States.{steppedTo};
+ghost use Rattle.shape.specs.Font.{lent_font};
+ghost use Rattle.callers_stepped.specs.States.{stepped_to};
 
 use feldrime::BoardAnswer;
 
@@ -19,7 +19,7 @@ pub fn stepped_to(
     from: u32,
     steps: u32,
 ) -> BoardAnswer
-    ensures { result ≡ steppedTo b chars.now attrs.now (lentFont words flags unshifted shifted groups) (from + steps) }
+    ensures { result ≡ stepped_to b chars.now attrs.now (lent_font words flags unshifted shifted groups) (from + steps) }
 {
     let tried = feldrime::step_numbers(b, chars, attrs, words, flags, unshifted, shifted, groups);
     let refused = tried.answer.refusal;

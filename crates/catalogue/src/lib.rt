@@ -2,14 +2,14 @@
 ghost use Rattle.std.specs.Prelude.{◌≡◌, ◌++◌, ◌+◌, ◌-◌, ◌*◌, ◌≤◌, ◌<◌, eqb, length, take, drop};
 ghost use Rattle.lists.specs.Choice.{pick};
 ghost use Rattle.lists.specs.Tab.{tab};
-ghost use Rattle.lists.specs.Search.{firstBelow};
+ghost use Rattle.lists.specs.Search.{first_below};
 ghost use Rattle.raster.specs.Moves.{Bounded};
-ghost use Rattle.timing.specs.Fields.{hactOf, bufferOf};
+ghost use Rattle.timing.specs.Fields.{hact_of, buffer_of};
 ghost use Rattle.timing.specs.Laws.{Accepted};
-ghost use Rattle.board.specs.Parts.{withPage};
-ghost use Rattle.catalogue.specs.ToTable.{tableSize, asTablePage, ownCheck, asTableOrder, MovesToTable};
-ghost use Rattle.catalogue.specs.ToSheet.{rowsApart, asSheetPage, asSheetOrder, asSheetCheck, asSheet};
-ghost use Rattle.catalogue.specs.Marks.{markedBy, freeIn, sheetPlace, entryByte, sheetCheck};
+ghost use Rattle.board.specs.Parts.{with_page};
+ghost use Rattle.catalogue.specs.ToTable.{table_size, as_table_page, own_check, as_table_order, MovesToTable};
+ghost use Rattle.catalogue.specs.ToSheet.{rows_apart, as_sheet_page, as_sheet_order, as_sheet_check, as_sheet};
+ghost use Rattle.catalogue.specs.Marks.{marked_by, free_in, sheet_place, entry_byte, sheet_check};
 
 // A board with its page moved, or the old one.
 #[derive(Drop)]
@@ -21,7 +21,7 @@ pub struct Moved {
 // Marks the cells that are fetched from a cell on, n of them.
 fn mark(marks: &mut [u8], buffer: raster::Buffer, start: raster::Cell, n: u32)
     requires { (length marks.old ≡ 16384) × Bounded buffer × (start.address < 16384) }
-    ensures { marks.new ≡ markedBy buffer start.address marks.old n }
+    ensures { marks.new ≡ marked_by buffer start.address marks.old n }
 {
     let mut cell = start;
     let mut i: u32 = 0;
@@ -43,7 +43,7 @@ fn begins_after(a: usize, x: usize, mark: u8) -> usize
 // The lowest stretch of n cells without a mark, or 16385 - n for none.
 fn lowest(marks: &[u8], n: usize) -> usize
     requires { (length marks.now ≡ 16384) × (1 ≤ n) × (n ≤ 16384) }
-    ensures { result ≡ firstBelow (freeIn marks.now n) (16385 - n) }
+    ensures { result ≡ first_below (free_in marks.now n) (16385 - n) }
 {
     let mut a: usize = 0;
     let mut x: usize = 0;
@@ -60,7 +60,7 @@ fn lowest(marks: &[u8], n: usize) -> usize
 // The place of a sheet's table, or where there is none the count of places.
 fn place_for(p: board::Page) -> usize
     requires { Accepted p }
-    ensures { result ≡ sheetPlace p }
+    ensures { result ≡ sheet_place p }
 {
     let t = timing::timing_of(p);
     let rows = t.counts.rows;
@@ -77,7 +77,7 @@ fn place_for(p: board::Page) -> usize
 fn put_table(out: &mut [u8], buffer: raster::Buffer, start: raster::Cell, columns: u32, rows: usize)
     requires { (2 * rows ≤ length out.old) × (rows ≤ 128) × (columns ≤ 256) × Bounded buffer × (start.address < 16384) }
     ensures { out.new
-        ≡ tab (2 * rows) (entryByte buffer start.address columns) ++ drop (2 * rows) out.old }
+        ≡ tab (2 * rows) (entry_byte buffer start.address columns) ++ drop (2 * rows) out.old }
 {
     let mut cell = start;
     let mut r: usize = 0;
@@ -91,7 +91,7 @@ fn put_table(out: &mut [u8], buffer: raster::Buffer, start: raster::Cell, column
 
 // The page's own refusals.
 fn own_check(b: board::Board, n: usize) -> refusal::Refusal
-    ensures { result ≡ ownCheck b n }
+    ensures { result ≡ own_check b n }
 {
     timing::call_check(b, refusal::wrong_size(n != 16384), false, false)
 }
@@ -99,7 +99,7 @@ fn own_check(b: board::Board, n: usize) -> refusal::Refusal
 // 16, 19, 17 for an accepted page.
 fn as_table_order(p: board::Page) -> refusal::Refusal
     requires { Accepted p }
-    ensures { result ≡ asTableOrder p (sheetPlace p) }
+    ensures { result ≡ as_table_order p (sheet_place p) }
 {
     if timing::table_of(p) {
         return refusal::Refusal::Kind;
@@ -115,7 +115,7 @@ fn as_table_order(p: board::Page) -> refusal::Refusal
 }
 
 fn as_table_check(b: board::Board, n: usize) -> refusal::Refusal
-    ensures { result ≡ sheetCheck b n }
+    ensures { result ≡ sheet_check b n }
 {
     let refused = own_check(b, n);
     if refusal::is_done(refused) {
@@ -126,7 +126,7 @@ fn as_table_check(b: board::Board, n: usize) -> refusal::Refusal
 
 // The page with a table at a place.
 fn as_table_page(p: board::Page, place: u16) -> board::Page
-    ensures { result ≡ asTablePage p place }
+    ensures { result ≡ as_table_page p place }
 {
     let mut n = p;
     n.irs[2] = n.irs[2] % 128 + 128;
@@ -135,7 +135,7 @@ fn as_table_page(p: board::Page, place: u16) -> board::Page
 }
 
 fn with_page(b: board::Board, p: board::Page) -> board::Board
-    ensures { result ≡ withPage b p }
+    ensures { result ≡ with_page b p }
 {
     let mut n = b;
     n.page = p;
@@ -144,10 +144,10 @@ fn with_page(b: board::Board, p: board::Page) -> board::Board
 
 // Writes a sheet's table from a place on.
 fn write_table(chars: &mut [u8], p: board::Page, place: usize)
-    requires { Accepted p × (place + tableSize p ≤ length chars.old) }
+    requires { Accepted p × (place + table_size p ≤ length chars.old) }
     ensures { chars.new ≡ take place chars.old
-        ++ (tab (tableSize p) (entryByte (bufferOf p) p.starts.start1 (hactOf p))
-        ++ drop (place + tableSize p) chars.old) }
+        ++ (tab (table_size p) (entry_byte (buffer_of p) p.starts.start1 (hact_of p))
+        ++ drop (place + table_size p) chars.old) }
 {
     let t = timing::timing_of(p);
     let start = raster::Cell {
@@ -187,7 +187,7 @@ pub fn to_table(b: board::Board, chars: &mut [u8]) -> Moved
 // Whether some row of the table is not where the one before it ended.
 fn rows_apart(p: board::Page, chars: &[u8]) -> bool
     requires { Accepted p × (length chars.now ≡ 16384) }
-    ensures { result ≡ rowsApart p chars.now }
+    ensures { result ≡ rows_apart p chars.now }
 {
     let t = timing::timing_of(p);
     let buffer = timing::buffer_of(p);
@@ -207,7 +207,7 @@ fn rows_apart(p: board::Page, chars: &[u8]) -> bool
 // 16, 19, 18 for an accepted page.
 fn as_sheet_order(p: board::Page, chars: &[u8]) -> refusal::Refusal
     requires { Accepted p × (length chars.now ≡ 16384) }
-    ensures { result ≡ asSheetOrder p chars.now }
+    ensures { result ≡ as_sheet_order p chars.now }
 {
     if !timing::table_of(p) {
         return refusal::Refusal::Kind;
@@ -222,7 +222,7 @@ fn as_sheet_order(p: board::Page, chars: &[u8]) -> refusal::Refusal
 }
 
 fn as_sheet_check(b: board::Board, chars: &[u8]) -> refusal::Refusal
-    ensures { result ≡ asSheetCheck b chars.now }
+    ensures { result ≡ as_sheet_check b chars.now }
 {
     let refused = own_check(b, chars.len());
     if refusal::is_done(refused) {
@@ -234,7 +234,7 @@ fn as_sheet_check(b: board::Board, chars: &[u8]) -> refusal::Refusal
 // The page without its table.
 fn as_sheet_page(p: board::Page, chars: &[u8]) -> board::Page
     requires { length chars.now ≡ 16384 }
-    ensures { result ≡ asSheetPage p chars.now }
+    ensures { result ≡ as_sheet_page p chars.now }
 {
     let first = fetch::entry(p, chars, 0);
     let mut n = p;
@@ -245,7 +245,7 @@ fn as_sheet_page(p: board::Page, chars: &[u8]) -> board::Page
 
 // A page whose rows follow one another becomes a sheet.
 pub fn to_sheet(b: board::Board, chars: &[u8]) -> Moved
-    ensures { result ≡ asSheet b chars.now }
+    ensures { result ≡ as_sheet b chars.now }
 {
     let refused = as_sheet_check(b, chars);
     if refusal::is_done(refused) {

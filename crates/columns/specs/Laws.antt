@@ -11,24 +11,24 @@ use Rattle.records.specs.declared.PhraseAnswer.{PhraseAnswer}
 use Rattle.records.specs.declared.PairAnswer.{PairAnswer}
 use Rattle.records.specs.declared.Asked.{Asked}
 use Rattle.records.specs.declared.Mate.{Mate}
-use Rattle.records.specs.Records.{none, phraseOfRow, phrasesDiffer}
-use Rattle.records.specs.Folds.{visitOf, searchTo, mateVisit, mateTo, mateOf, pairVisit, pairsTo}
+use Rattle.records.specs.Records.{none, phrase_of_row, phrases_differ}
+use Rattle.records.specs.Folds.{visit_of, search_to, mate_visit, mate_to, mate_of, pair_visit, pairs_to}
 use Rattle.phrases.specs.Laws.{mate-turn}
-use Rattle.columns.specs.Columns.{phraseBy, recordsOf}
+use Rattle.columns.specs.Columns.{phrase_by, records_of}
 
-pub records-length : (ls ns fs cs : List ℕ) → length (recordsOf ls ns fs cs) ≡ min (min (length ls) (length ns)) (min (length fs) (length cs))
-unfolding recordsOf
+pub records-length : (ls ns fs cs : List ℕ) → length (records_of ls ns fs cs) ≡ min (min (length ls) (length ns)) (min (length fs) (length cs))
+unfolding records_of
 records-length (l ∷ ls) (n ∷ ns) (f ∷ fs) (c ∷ cs) = omega (arith, records-length ls ns fs cs)
 records-length [] ns fs cs = omega arith
 records-length (l ∷ ls) [] fs cs = omega arith
 records-length (l ∷ ls) (n ∷ ns) [] cs = omega arith
 records-length (l ∷ ls) (n ∷ ns) (f ∷ fs) [] = omega arith
 
-pub each-column : (ls ns fs cs : List ℕ) {n i : ℕ} → n ≡ length (recordsOf ls ns fs cs) → i < n → (i < length ls) × (i < length ns) × (i < length fs) × (i < length cs)
+pub each-column : (ls ns fs cs : List ℕ) {n i : ℕ} → n ≡ length (records_of ls ns fs cs) → i < n → (i < length ls) × (i < length ns) × (i < length fs) × (i < length cs)
 each-column ls ns fs cs p k = let e = records-length ls ns fs cs in (omega (arith, e, p, k), omega (arith, e, p, k), omega (arith, e, p, k), omega (arith, e, p, k))
 
-pub record_is : (ls ns fs cs : List ℕ) (i : ℕ) → i < length (recordsOf ls ns fs cs) → get_or (recordsOf ls ns fs cs) i none ≡ phraseBy (get_or ls i 0) (get_or ns i 0) (get_or fs i 0) (get_or cs i 0)
-unfolding recordsOf
+pub record_is : (ls ns fs cs : List ℕ) (i : ℕ) → i < length (records_of ls ns fs cs) → get_or (records_of ls ns fs cs) i none ≡ phrase_by (get_or ls i 0) (get_or ns i 0) (get_or fs i 0) (get_or cs i 0)
+unfolding records_of
 record_is (l ∷ ls) (n ∷ ns) (f ∷ fs) (c ∷ cs) zero k = refl
 record_is (l ∷ ls) (n ∷ ns) (f ∷ fs) (c ∷ cs) (suc i) k = record_is ls ns fs cs i (omega (arith, k))
 record_is [] ns fs cs i k = absurd (omega (arith, k))
@@ -37,47 +37,47 @@ record_is (l ∷ ls) (n ∷ ns) [] cs i k = absurd (omega (arith, k))
 record_is (l ∷ ls) (n ∷ ns) (f ∷ fs) [] i k = absurd (omega (arith, k))
 
 -- the columns of records
-abbrev pub languagesOf : List Phrase → List ℕ
-languagesOf = map (λ (p : Phrase). p.language)
+abbrev pub languages_of : List Phrase → List ℕ
+languages_of = map (λ (p : Phrase). p.language)
 
-abbrev pub numbersOf : List Phrase → List ℕ
-numbersOf = map (λ (p : Phrase). p.number)
+abbrev pub numbers_of : List Phrase → List ℕ
+numbers_of = map (λ (p : Phrase). p.number)
 
-abbrev pub firstsOf : List Phrase → List ℕ
-firstsOf = map (λ (p : Phrase). p.first)
+abbrev pub firsts_of : List Phrase → List ℕ
+firsts_of = map (λ (p : Phrase). p.first)
 
-abbrev pub lengthsOf : List Phrase → List ℕ
-lengthsOf = map (λ (p : Phrase). p.length)
+abbrev pub lengths_of : List Phrase → List ℕ
+lengths_of = map (λ (p : Phrase). p.length)
 
 -- [R-6 columns]
 -- records taken apart into four columns are these records again
-pub records-back : (rs : List Phrase) → recordsOf (languagesOf rs) (numbersOf rs) (firstsOf rs) (lengthsOf rs) ≡ rs
-unfolding recordsOf
+pub records-back : (rs : List Phrase) → records_of (languages_of rs) (numbers_of rs) (firsts_of rs) (lengths_of rs) ≡ rs
+unfolding records_of
 records-back [] = refl
 records-back (p ∷ rs) = ap {B = List Phrase} (λ qs. p ∷ qs) (records-back rs)
 
 -- [R-6 columns]
 -- r is what the core answers on the records' columns, s what the call over records answers
 pub row-alike : (b : Board) (chars : List ℕ) (rs : List Phrase) (row : ℕ) {r s : PhraseAnswer}
-    → r ≡ phraseOfRow b chars (recordsOf (languagesOf rs) (numbersOf rs) (firstsOf rs) (lengthsOf rs)) row → s ≡ phraseOfRow b chars rs row → r ≡ s
-row-alike b chars rs row p q = p ∙ ap (λ (x : List Phrase). phraseOfRow b chars x row) (records-back rs) ∙ sym q
+    → r ≡ phrase_of_row b chars (records_of (languages_of rs) (numbers_of rs) (firsts_of rs) (lengths_of rs)) row → s ≡ phrase_of_row b chars rs row → r ≡ s
+row-alike b chars rs row p q = p ∙ ap (λ (x : List Phrase). phrase_of_row b chars x row) (records-back rs) ∙ sym q
 
 -- [R-6 columns]
 -- so too of two records that differ
 pub differ-alike : (rs : List Phrase) {r s : PairAnswer}
-    → r ≡ phrasesDiffer (recordsOf (languagesOf rs) (numbersOf rs) (firstsOf rs) (lengthsOf rs)) → s ≡ phrasesDiffer rs → r ≡ s
-differ-alike rs p q = p ∙ ap phrasesDiffer (records-back rs) ∙ sym q
+    → r ≡ phrases_differ (records_of (languages_of rs) (numbers_of rs) (firsts_of rs) (lengths_of rs)) → s ≡ phrases_differ rs → r ≡ s
+differ-alike rs p q = p ∙ ap phrases_differ (records-back rs) ∙ sym q
 
 -- ---- the loops: p is the record at i
 
 module _ (rs : List Phrase) (i : ℕ) {p : Phrase} (pe : p ≡ get_or rs i none) where
-  pub search-more : (a : Asked) {s r : PhraseAnswer} → s ≡ searchTo rs a i → r ≡ visitOf s p i a → r ≡ searchTo rs a (i + 1)
+  pub search-more : (a : Asked) {s r : PhraseAnswer} → s ≡ search_to rs a i → r ≡ visit_of s p i a → r ≡ search_to rs a (i + 1)
   search-more a se e = e ∙ rw (se, pe, add-one i)
 
-  pub mate-more : (after : ℕ) → after < i → {o : Phrase} → o ≡ get_or rs after none → {s r : Mate} → s ≡ mateTo rs after i → r ≡ mateVisit s p i o → r ≡ mateTo rs after (i + 1)
+  pub mate-more : (after : ℕ) → after < i → {o : Phrase} → o ≡ get_or rs after none → {s r : Mate} → s ≡ mate_to rs after i → r ≡ mate_visit s p i o → r ≡ mate_to rs after (i + 1)
   mate-more after l oe se e = e ∙ rw (se, pe, oe, add-one i) (mate-turn rs after i l)
 
-pub pair-more : (rs : List Phrase) (i : ℕ) {m : Mate} → m ≡ mateOf rs i → {s r : PairAnswer} → s ≡ pairsTo rs i → r ≡ pairVisit s m i → r ≡ pairsTo rs (i + 1)
+pub pair-more : (rs : List Phrase) (i : ℕ) {m : Mate} → m ≡ mate_of rs i → {s r : PairAnswer} → s ≡ pairs_to rs i → r ≡ pair_visit s m i → r ≡ pairs_to rs (i + 1)
 pair-more rs i me se e = e ∙ rw (se, me, add-one i)
 
 pub ended : {A : Type 0} (f : ℕ → A) {s : A} {i n m : ℕ} → s ≡ f i → i ≤ n → n ≤ i → n ≡ m → s ≡ f m

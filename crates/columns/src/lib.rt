@@ -2,9 +2,9 @@
 // A record stands at each position that all four columns have, so the shortest column ends the list. What is decided of
 // a record is the crate `records`'.
 ghost use Rattle.std.specs.Prelude.{◌≡◌, min, ◌<◌, length, get_or};
-ghost use Rattle.records.specs.Records.{none, phraseOfRow, phrasesDiffer};
-ghost use Rattle.records.specs.Folds.{searchOf, mateOf};
-ghost use Rattle.columns.specs.Columns.{recordsNow, lentRecords};
+ghost use Rattle.records.specs.Records.{none, phrase_of_row, phrases_differ};
+ghost use Rattle.records.specs.Folds.{search_of, mate_of};
+ghost use Rattle.columns.specs.Columns.{records_now, lent_records};
 
 fn shorter(a: usize, b: usize) -> usize
     ensures { result ≡ min a b }
@@ -14,7 +14,7 @@ fn shorter(a: usize, b: usize) -> usize
 
 // How many records there are.
 fn count(languages: &[u32], numbers: &[u32], firsts: &[u32], lengths: &[u32]) -> usize
-    ensures { result ≡ length (lentRecords languages numbers firsts lengths) }
+    ensures { result ≡ length (lent_records languages numbers firsts lengths) }
 {
     shorter(
         shorter(languages.len(), numbers.len()),
@@ -31,7 +31,7 @@ fn record_at(
     i: usize,
 ) -> records::Phrase
     requires { (i < length languages.now) × (i < length numbers.now) × (i < length firsts.now) × (i < length lengths.now) }
-    ensures { result ≡ get_or (lentRecords languages numbers firsts lengths) i none }
+    ensures { result ≡ get_or (lent_records languages numbers firsts lengths) i none }
 {
     records::Phrase {
         language: languages[i],
@@ -49,7 +49,7 @@ fn search(
     lengths: &[u32],
     asked: records::Asked,
 ) -> records::PhraseAnswer
-    ensures { result ≡ searchOf (lentRecords languages numbers firsts lengths) asked }
+    ensures { result ≡ search_of (lent_records languages numbers firsts lengths) asked }
 {
     let n = count(languages, numbers, firsts, lengths);
     let mut s = records::start(asked);
@@ -72,7 +72,7 @@ pub fn record_of_row(
     lengths: &[u32],
     row: u32,
 ) -> records::PhraseAnswer
-    ensures { result ≡ phraseOfRow b chars.now (lentRecords languages numbers firsts lengths) row }
+    ensures { result ≡ phrase_of_row b chars.now (lent_records languages numbers firsts lengths) row }
 {
     let asked = records::row_asked(b, chars, row);
     search(languages, numbers, firsts, lengths, asked)
@@ -86,8 +86,8 @@ fn mate_of(
     lengths: &[u32],
     after: usize,
 ) -> records::Mate
-    requires { after < length (recordsNow languages numbers firsts lengths) }
-    ensures { result ≡ mateOf (lentRecords languages numbers firsts lengths) after }
+    requires { after < length (records_now languages numbers firsts lengths) }
+    ensures { result ≡ mate_of (lent_records languages numbers firsts lengths) after }
 {
     let n = count(languages, numbers, firsts, lengths);
     let o = record_at(languages, numbers, firsts, lengths, after);
@@ -108,7 +108,7 @@ pub fn records_differ(
     firsts: &[u32],
     lengths: &[u32],
 ) -> records::PairAnswer
-    ensures { result ≡ phrasesDiffer (lentRecords languages numbers firsts lengths) }
+    ensures { result ≡ phrases_differ (lent_records languages numbers firsts lengths) }
 {
     let n = count(languages, numbers, firsts, lengths);
     let mut s = records::start_pair();

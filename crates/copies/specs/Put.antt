@@ -20,8 +20,8 @@ pub length_part : (xs : List ℕ) (a n : ℕ) → a + n ≤ length xs → length
 length_part xs a n l = length-take-le n (drop a xs) (rw (length-drop a xs) (omega arith))
 
 -- as much as dst holds, from a place on
-abbrev pub takenFrom : (at : ℕ) (src dst : List ℕ) → List ℕ
-takenFrom at src dst = take (length dst) (drop at src)
+abbrev pub taken_from : (at : ℕ) (src dst : List ℕ) → List ℕ
+taken_from at src dst = take (length dst) (drop at src)
 
 -- all of part over what stands from a place on; the rest stays
 abbrev pub put_at : (at : ℕ) (part out : List ℕ) → List ℕ

@@ -1,6 +1,6 @@
 // Bytes copied from one buffer into another. Each caller sees to it that there is room.
 ghost use Rattle.std.specs.Prelude.{◌≡◌, ◌+◌, ◌≤◌, length};
-ghost use Rattle.copies.specs.Put.{put_at, takenFrom};
+ghost use Rattle.copies.specs.Put.{put_at, taken_from};
 
 // All of src into dst, which is as long.
 fn copy_all(src: &[u8], dst: &mut [u8])
@@ -13,7 +13,7 @@ fn copy_all(src: &[u8], dst: &mut [u8])
 // As many bytes of src as dst has room for, from a place on.
 pub fn take_from(src: &[u8], at: usize, dst: &mut [u8])
     requires { at + length dst.old ≤ length src.now }
-    ensures { dst.new ≡ takenFrom at src.now dst.old }
+    ensures { dst.new ≡ taken_from at src.now dst.old }
 {
     let end = at + dst.len();
     copy_all(&src[at..end], dst);

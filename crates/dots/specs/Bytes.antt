@@ -9,8 +9,8 @@ use Rattle.std.proofs.Math.Nat.{zero-mul}
 use Rattle.std.proofs.Math.Arith.{mod-mul}
 use Rattle.std.specs.Int.Bits.{bit_and}
 use Rattle.lists.specs.Choice.{both}
-use Rattle.video.specs.Cell.{bits, shadeOf}
-use Rattle.dots.specs.Stores.{spread_of, blend_of, mixOf}
+use Rattle.video.specs.Cell.{bits, shade_of}
+use Rattle.dots.specs.Stores.{spread_of, blend_of, mix_of}
 
 -- ---- bits to bytes
 
@@ -71,12 +71,12 @@ four-of-eight w =
 -- ---- bytes of 0 and 1 to bytes of two levels
 
 -- n bytes of 1
-unfoldable onesOf : ℕ → ℕ
-onesOf zero = 0
-onesOf (suc n) = 1 + 256 * onesOf n
+unfoldable ones_of : ℕ → ℕ
+ones_of zero = 0
+ones_of (suc n) = 1 + 256 * ones_of n
 
-spread-le : (n w : ℕ) → spread_of n w ≤ onesOf n
-unfolding spread_of onesOf
+spread-le : (n w : ℕ) → spread_of n w ≤ ones_of n
+unfolding spread_of ones_of
 spread-le zero w = omega arith
 spread-le (suc n) w = omega (arith, spread-le n (w / 2))
 
@@ -92,20 +92,20 @@ module _ (symbol surround : ℕ) where
       let e : 1 + 256 * o - (1 + 256 * s) ≡ 256 * (o - s) = omega arith in
       rw e (omega (arith, add-mul 1 (256 * s) symbol, one-mul symbol, mul_assoc 256 s symbol, mul_assoc 256 (o - s) surround))
 
-  by_bit : (b s o : ℕ) → b < 2 → s ≤ o → (b + 256 * s) * symbol + (1 + 256 * o - (b + 256 * s)) * surround ≡ shadeOf symbol surround b + 256 * (s * symbol + (o - s) * surround)
+  by_bit : (b s o : ℕ) → b < 2 → s ≤ o → (b + 256 * s) * symbol + (1 + 256 * o - (b + 256 * s)) * surround ≡ shade_of symbol surround b + 256 * (s * symbol + (o - s) * surround)
   by_bit zero s o h l = zero-first s o l
   by_bit (suc zero) s o h l = one-first s o l
   by_bit (suc (suc b)) s o h l = absurd (not-suc-le-zero (le_of_suc-le-suc (le_of_suc-le-suc h)))
 
-  blended : (n w : ℕ) → spread_of n w * symbol + (onesOf n - spread_of n w) * surround ≡ blend_of symbol surround n w
-  unfolding spread_of blend_of onesOf
+  blended : (n w : ℕ) → spread_of n w * symbol + (ones_of n - spread_of n w) * surround ≡ blend_of symbol surround n w
+  unfolding spread_of blend_of ones_of
   blended zero w = omega (arith, zero-mul symbol, zero-mul surround)
   blended (suc n) w = rw (← blended n (w / 2)) (by_bit (w % 2) _ _ (omega arith) (spread-le n (w / 2)))
 
-  pub mixed : (w : ℕ) → mixOf (spread_of 8 w) symbol surround ≡ blend_of symbol surround 8 w
-  unfolding onesOf
+  pub mixed : (w : ℕ) → mix_of (spread_of 8 w) symbol surround ≡ blend_of symbol surround 8 w
+  unfolding ones_of
   mixed w = blended 8 w
 
 pub spread-ones : (w : ℕ) → spread_of 8 w ≤ 72340172838076673
-unfolding onesOf
+unfolding ones_of
 spread-ones w = spread-le 8 w

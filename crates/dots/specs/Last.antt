@@ -5,8 +5,8 @@ use Rattle.std.proofs.Math.Path.{ap}
 use Rattle.std.proofs.lemmas.List.{take-append-le}
 use Rattle.std.proofs.Math.Seq.{drop-append-add}
 use Rattle.lists.specs.Fill.{lent}
-use Rattle.video.specs.Cell.{shadeOf}
-use Rattle.dots.specs.Stores.{spread_of, mixOf, bytes_of}
+use Rattle.video.specs.Cell.{shade_of}
+use Rattle.dots.specs.Stores.{spread_of, mix_of, bytes_of}
 use Rattle.dots.specs.Width.{shades, take-shades, add-shades, length-shades}
 use Rattle.dots.specs.Bytes.{low_bits, four-of-eight, spread-ones}
 use Rattle.dots.specs.Spread.{stored-shades}
@@ -14,11 +14,11 @@ use Rattle.dots.specs.Spread.{stored-shades}
 module _ (y u : ℕ) where
   low-shades : (x : ℕ) → shades y u 4 (x % 16) ≡ shades y u 4 x
   unfolding shades
-  low-shades x = ap (map (shadeOf y u)) (low_bits 4 x)
+  low-shades x = ap (map (shade_of y u)) (low_bits 4 x)
 
   -- four dots from four spread bits
-  pub four-shades : y < 256 → u < 256 → (v x : ℕ) → v ≡ mixOf (spread_of 4 x) y u → bytes_of 4 v ≡ shades y u 4 x
-  four-shades p q v x e = stored-shades y u p q v 4 (x % 16) (e ∙ ap (λ (s : ℕ). mixOf s y u) (four-of-eight x)) (omega arith) ∙ low-shades x
+  pub four-shades : y < 256 → u < 256 → (v x : ℕ) → v ≡ mix_of (spread_of 4 x) y u → bytes_of 4 v ≡ shades y u 4 x
+  four-shades p q v x e = stored-shades y u p q v 4 (x % 16) (e ∙ ap (λ (s : ℕ). mix_of s y u) (four-of-eight x)) (omega arith) ∙ low-shades x
 
   -- they are put into a part that was lent
   pub last-put : (d v w : ℕ) (out ys : List ℕ) → 8 ≤ d → d ≤ length out → bytes_of 4 v ≡ shades y u 4 w

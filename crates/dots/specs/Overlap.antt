@@ -6,7 +6,7 @@ use Rattle.std.proofs.lemmas.List.{take-append-le}
 use Rattle.std.proofs.Math.Seq.{drop-append-add}
 use Rattle.std.proofs.lemmas.List.Edits.{sets-eq}
 use Rattle.lists.specs.Fill.{lent}
-use Rattle.dots.specs.Stores.{bytes_of, overlapOf}
+use Rattle.dots.specs.Stores.{bytes_of, overlap_of}
 
 pub length-bytes : (n v : ℕ) → length (bytes_of n v) ≡ n
 unfolding bytes_of
@@ -38,8 +38,8 @@ stored-four v o h =
 -- the first n, then the last n into a part that was lent
 pub overlapped : (n d a z : ℕ) (o o1 ys : List ℕ) → n ≤ d → d ≤ n + n → d ≤ length o → o1 ≡ bytes_of n a ++ drop n o
     → ys ≡ bytes_of n z ++ drop n (take (length o1 - (d - n)) (drop (d - n) o1))
-    → take (d - n) o1 ++ (ys ++ drop (length o1 - (d - n)) (drop (d - n) o1)) ≡ overlapOf n d a z ++ drop d o
-unfolding overlapOf
+    → take (d - n) o1 ++ (ys ++ drop (length o1 - (d - n)) (drop (d - n) o1)) ≡ overlap_of n d a z ++ drop d o
+unfolding overlap_of
 overlapped n d a z o o1 ys h m r p q =
     let e : ℕ = d - n in
     let k : length (bytes_of n a) ≡ n = length-bytes n a in
@@ -66,8 +66,8 @@ add-bytes (suc e) n v =
     let k : v / 256 ^ suc e ≡ v / 256 / 256 ^ e = rw (pow-suc 256 e, mul_comm (256 ^ e) 256) (sym (div-div-eq-div-mul v 256 (256 ^ e))) in
     rw (k, suc-add e n) (ap (λ (l : List ℕ). (v % 256) ∷ l) (add-bytes e n (v / 256)))
 
-pub overlap-bytes : (n d v : ℕ) → n ≤ d → d ≤ n + n → overlapOf n d v (v / 256 ^ (d - n)) ≡ bytes_of d v
-unfolding overlapOf
+pub overlap-bytes : (n d v : ℕ) → n ≤ d → d ≤ n + n → overlap_of n d v (v / 256 ^ (d - n)) ≡ bytes_of d v
+unfolding overlap_of
 overlap-bytes n d v l m =
     let k : d - n + n ≡ d = omega arith in
     rw (take-bytes (d - n) n v (omega arith)) (add-bytes (d - n) n v ∙ ap (λ (i : ℕ). bytes_of i v) k)
@@ -79,6 +79,6 @@ bytes_pow (suc e) =
     rw k (simp pow-suc (omega (arith, bytes_pow e)))
 
 -- the first four, then the last four of a number's bytes
-pub narrowed : (d v : ℕ) (out rest : List ℕ) → 4 ≤ d → d ≤ 8 → out ≡ overlapOf 4 d v (v / 2 ^ (8 * (d - 4))) ++ rest → out ≡ bytes_of d v ++ rest
+pub narrowed : (d v : ℕ) (out rest : List ℕ) → 4 ≤ d → d ≤ 8 → out ≡ overlap_of 4 d v (v / 2 ^ (8 * (d - 4))) ++ rest → out ≡ bytes_of d v ++ rest
 narrowed d v out rest l m o =
-    o ∙ ap (λ (x : List ℕ). x ++ rest) (ap (λ (i : ℕ). overlapOf 4 d v (v / i)) (bytes_pow (d - 4)) ∙ overlap-bytes 4 d v l m)
+    o ∙ ap (λ (x : List ℕ). x ++ rest) (ap (λ (i : ℕ). overlap_of 4 d v (v / i)) (bytes_pow (d - 4)) ∙ overlap-bytes 4 d v l m)

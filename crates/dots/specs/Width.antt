@@ -5,8 +5,8 @@ use Rattle.std.proofs.Math.Nat.{div-div-eq-div-mul}
 use Rattle.std.proofs.lemmas.List.{length-map}
 use Rattle.lists.specs.Choice.{pick}
 use Rattle.video.specs.declared.Look.{Look}
-use Rattle.video.specs.Cell.{bits, lead, cellBits, lit_bits, shadeOf, cellDots}
-use Rattle.dots.specs.Stores.{wide_of, underOf, reachOf}
+use Rattle.video.specs.Cell.{bits, lead, cell_bits, lit_bits, shade_of, cell_dots}
+use Rattle.dots.specs.Stores.{wide_of, under_of, reach_of}
 
 pub take-bits : (d n w : ℕ) → d ≤ n → take d (bits n w) ≡ bits d w
 unfolding bits
@@ -25,28 +25,28 @@ twice n w =
     let z : 2 * w % 2 ≡ 0 = omega arith in
     let h : 2 * w / 2 ≡ w = omega arith in rw (z, h)
 
-narrow : (w d : ℕ) → w < 1024 → d ≤ 10 → cellBits w d ≡ bits d w
-unfolding cellBits lead
+narrow : (w d : ℕ) → w < 1024 → d ≤ 10 → cell_bits w d ≡ bits d w
+unfolding cell_bits lead
 narrow w d h k = rw (le-ltb 10 d k, top w h) (take-bits d 11 w (omega arith))
 
-broad : (w d : ℕ) → w < 1024 → 10 < d → d ≤ 12 → cellBits w d ≡ bits d (2 * w)
-unfolding cellBits lead
+broad : (w d : ℕ) → w < 1024 → 10 < d → d ≤ 12 → cell_bits w d ≡ bits d (2 * w)
+unfolding cell_bits lead
 broad w d h k m = rw (lt-ltb 10 d k, top w h, ← twice 11 w) (take-bits d 12 (2 * w) m)
 
-by-test : (b : Bool) (w d : ℕ) → w < 1024 → d ≤ 12 → ltb 10 d ≡ b → cellBits w d ≡ bits d (pick b (2 * w) w)
+by-test : (b : Bool) (w d : ℕ) → w < 1024 → d ≤ 12 → ltb 10 d ≡ b → cell_bits w d ≡ bits d (pick b (2 * w) w)
 by-test true w d h m e = broad w d h (ltb-true _ _ e) m
 by-test false w d h m e = narrow w d h (ltb-false _ _ e)
 
 -- [strength width] facts on cell width are proved once over 6 to 12
 -- [dots width]
 -- the dots of a cell are the low bits of one number, once for all widths to 12
-pub wide-right : (w d : ℕ) → w < 1024 → d ≤ 12 → cellBits w d ≡ bits d (wide_of w d)
+pub wide-right : (w d : ℕ) → w < 1024 → d ≤ 12 → cell_bits w d ≡ bits d (wide_of w d)
 unfolding wide_of
 wide-right w d h m = by-test (ltb 10 d) w d h m refl
 
 -- n dots from the low bits of w
 unfoldable pub shades : ℕ → ℕ → ℕ → ℕ → List ℕ
-shades symbol surround n w = map (shadeOf symbol surround) (bits n w)
+shades symbol surround n w = map (shade_of symbol surround) (bits n w)
 
 all-symbol : (y n w : ℕ) → shades y y n w ≡ replicate n y
 unfolding shades bits
@@ -57,17 +57,17 @@ all-symbol y (suc n) w = ap₂ (λ (x : ℕ) (l : List ℕ). x ∷ l) (go (eqb (
     go true = refl
     go false = refl
 
-all-lit : (y u n : ℕ) → map (shadeOf y u) (replicate n 1) ≡ replicate n y
+all-lit : (y u n : ℕ) → map (shade_of y u) (replicate n 1) ≡ replicate n y
 all-lit y u zero = refl
 all-lit y u (suc n) = ap (λ (l : List ℕ). y ∷ l) (all-lit y u n)
 
-unlit : (y u d w : ℕ) → cellBits w d ≡ bits d (wide_of w d) → shades y u d (wide_of w d) ≡ map (shadeOf y u) (cellBits w d)
+unlit : (y u d w : ℕ) → cell_bits w d ≡ bits d (wide_of w d) → shades y u d (wide_of w d) ≡ map (shade_of y u) (cell_bits w d)
 unfolding shades
 unlit y u d w e = rw e
 
 -- a cell's dots, lit or not, are those of its number in two levels
-pub cell-shades : (k : Look) (w d : ℕ) → w < 1024 → d ≤ 12 → shades k.symbol (underOf k) d (wide_of w d) ≡ cellDots k w d
-unfolding cellDots lit_bits
+pub cell-shades : (k : Look) (w d : ℕ) → w < 1024 → d ≤ 12 → shades k.symbol (under_of k) d (wide_of w d) ≡ cell_dots k w d
+unfolding cell_dots lit_bits
 cell-shades k w d h m = go k.lit
   where
     y : ℕ
@@ -76,11 +76,11 @@ cell-shades k w d h m = go k.lit
     u : ℕ
     u = k.surround
 
-    go : (t : Bool) → shades y (pick t y u) d (wide_of w d) ≡ map (shadeOf y u) (pick t (replicate d 1) (cellBits w d))
+    go : (t : Bool) → shades y (pick t y u) d (wide_of w d) ≡ map (shade_of y u) (pick t (replicate d 1) (cell_bits w d))
     go true = all-symbol y d (wide_of w d) ∙ sym (all-lit y u d)
     go false = unlit y u d w (wide-right w d h m)
 
-pub shades-more : (symbol surround d k w : ℕ) → k < d → shades symbol surround (d - k) w ≡ shadeOf symbol surround (w % 2) ∷ shades symbol surround (d - (k + 1)) (w / 2)
+pub shades-more : (symbol surround d k w : ℕ) → k < d → shades symbol surround (d - k) w ≡ shade_of symbol surround (w % 2) ∷ shades symbol surround (d - (k + 1)) (w / 2)
 unfolding shades bits
 shades-more symbol surround d k w h = let e : d - k ≡ suc (d - (k + 1)) = omega arith in rw e
 
@@ -99,30 +99,30 @@ length-shades symbol surround n w = rw (length-map, length-bits)
 
 -- [strength width]
 -- a cell has as many dots as its width says
-pub length-cell : (k : Look) (w d : ℕ) → w < 1024 → d ≤ 12 → length (cellDots k w d) ≡ d
-length-cell k w d h m = rw (← cell-shades k w d h m) (length-shades k.symbol (underOf k) d (wide_of w d))
+pub length-cell : (k : Look) (w d : ℕ) → w < 1024 → d ≤ 12 → length (cell_dots k w d) ≡ d
+length-cell k w d h m = rw (← cell-shades k w d h m) (length-shades k.symbol (under_of k) d (wide_of w d))
 
 -- the front of the dots, and dots put together
 pub take-shades : (y u e n w : ℕ) → e ≤ n → take e (shades y u n w) ≡ shades y u e w
 unfolding shades bits
 take-shades y u zero n w h = refl
 take-shades y u (suc e) zero w h = absurd (not-suc-le-zero h)
-take-shades y u (suc e) (suc n) w h = ap (λ (l : List ℕ). shadeOf y u (w % 2) ∷ l) (take-shades y u e n (w / 2) (le_of_suc-le-suc h))
+take-shades y u (suc e) (suc n) w h = ap (λ (l : List ℕ). shade_of y u (w % 2) ∷ l) (take-shades y u e n (w / 2) (le_of_suc-le-suc h))
 
 pub add-shades : (y u e n w : ℕ) → shades y u e w ++ shades y u n (w / 2 ^ e) ≡ shades y u (e + n) w
 unfolding shades bits
 add-shades y u zero n w = rw (zero-add, div-one)
 add-shades y u (suc e) n w =
     let k : w / 2 ^ suc e ≡ w / 2 / 2 ^ e = rw (pow-suc 2 e, mul_comm (2 ^ e) 2) (sym (div-div-eq-div-mul w 2 (2 ^ e))) in
-    rw (k, suc-add e n) (ap (λ (l : List ℕ). shadeOf y u (w % 2) ∷ l) (add-shades y u e n (w / 2)))
+    rw (k, suc-add e n) (ap (λ (l : List ℕ). shade_of y u (w % 2) ∷ l) (add-shades y u e n (w / 2)))
 
 -- ---- a cell at the front of a buffer; what stands beyond stays
 
-abbrev pub cellPut : (levels word d : ℕ) → (tight : Bool) → (out : List ℕ) → List ℕ
-cellPut levels word d tight out = shades (levels % 4) (levels / 4) (reachOf tight d) word ++ drop (reachOf tight d) out
+abbrev pub cell_put : (levels word d : ℕ) → (tight : Bool) → (out : List ℕ) → List ℕ
+cell_put levels word d tight out = shades (levels % 4) (levels / 4) (reach_of tight d) word ++ drop (reach_of tight d) out
 
-abbrev pub cellWritten : (symbol surround word d : ℕ) → (out : List ℕ) → List ℕ
-cellWritten symbol surround word d out = shades symbol surround d (wide_of word d) ++ drop d out
+abbrev pub cell_written : (symbol surround word d : ℕ) → (out : List ℕ) → List ℕ
+cell_written symbol surround word d out = shades symbol surround d (wide_of word d) ++ drop d out
 
-abbrev pub cellDrawn : Look → (word d : ℕ) → (out : List ℕ) → List ℕ
-cellDrawn look word d out = cellDots look word d ++ drop d out
+abbrev pub cell_drawn : Look → (word d : ℕ) → (out : List ℕ) → List ℕ
+cell_drawn look word d out = cell_dots look word d ++ drop d out

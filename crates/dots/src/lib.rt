@@ -1,10 +1,10 @@
 // The dots of a cell into a buffer, a byte each and several to a store.
 ghost use Rattle.std.specs.Prelude.{◌≡◌, ◌++◌, ◌-◌, ◌*◌, ◌/◌, ◌%◌, ◌^◌, ◌≤◌, ◌<◌, length, take, drop};
 ghost use Rattle.std.specs.Int.Bits.{bit_xor};
-ghost use Rattle.dots.specs.Stores.{wide_of, underOf, spread_of, blend_of, mixOf, bytes_of, overlapOf, inkOf, reachOf, inkTable};
+ghost use Rattle.dots.specs.Stores.{wide_of, under_of, spread_of, blend_of, mix_of, bytes_of, overlap_of, ink_of, reach_of, ink_table};
 ghost use Rattle.lists.specs.Tab.{tab};
-ghost use Rattle.dots.specs.Width.{shades, cellPut, cellWritten, cellDrawn};
-ghost use Rattle.dots.specs.Half.{halfBy, halved};
+ghost use Rattle.dots.specs.Width.{shades, cell_put, cell_written, cell_drawn};
+ghost use Rattle.dots.specs.Half.{half_by, halved};
 
 // Four bits, each in a byte of its own: the product has each at the lowest place of a byte, which the mask keeps.
 fn nibble(w: u16) -> u64
@@ -31,7 +31,7 @@ pub fn wide(word: u16, d: usize) -> u16
 // The symbol's level in the bytes of s that are 1, the surround's in those that are 0.
 fn mix(s: u64, symbol: u8, surround: u8) -> u64
     requires { s ≤ 72340172838076673 }
-    ensures { result ≡ mixOf s symbol surround }
+    ensures { result ≡ mix_of s symbol surround }
 {
     s * symbol as u64 + (0x0101_0101_0101_0101 - s) * surround as u64
 }
@@ -75,7 +75,7 @@ fn narrow(out: &mut [u8], v: u64, d: usize)
 // Eight to sixteen bytes: the first eight and the last eight.
 fn broad(out: &mut [u8], first: u64, last: u64, d: usize)
     requires { (8 ≤ d) × (d ≤ 16) × (d ≤ length out.old) }
-    ensures { out.new ≡ overlapOf 8 d first last ++ drop d out.old }
+    ensures { out.new ≡ overlap_of 8 d first last ++ drop d out.old }
 {
     eight(out, first);
     let e = d - 8;
@@ -94,7 +94,7 @@ fn change(from: u64, to: u64) -> u64
 // looks the surround in every byte, and what makes the symbol of it.
 fn ink(i: usize) -> u64
     requires { i < 288 }
-    ensures { result ≡ inkOf i }
+    ensures { result ≡ ink_of i }
 {
     if i < 256 {
         return 255 * spread(i as u16);
@@ -109,7 +109,7 @@ fn ink(i: usize) -> u64
 // The table of them.
 pub fn inks(table: &mut [u64])
     requires { length table.old ≡ 288 }
-    ensures { table.new ≡ inkTable }
+    ensures { table.new ≡ ink_table }
 {
     let mut i: usize = 0;
     while i < 288 {
@@ -120,7 +120,7 @@ pub fn inks(table: &mut [u64])
 
 // Eight dots, from the low bits of a word and a look.
 fn blend(inks: &[u64], levels: u8, word: u16) -> u64
-    requires { (inks.now ≡ tab 288 inkOf) × (levels < 16) }
+    requires { (inks.now ≡ tab 288 ink_of) × (levels < 16) }
     ensures { result ≡ blend_of (levels % 4) (levels / 4) 8 word }
 {
     let look = levels as usize;
@@ -130,8 +130,8 @@ fn blend(inks: &[u64], levels: u8, word: u16) -> u64
 // A cell from its word, in which the low d bits are its dots. A cell of fewer than eight dots is stored as eight unless it
 // is tight: the next cell is then drawn over what is too much.
 pub fn put_cell(out: &mut [u8], inks: &[u64], levels: u8, word: u16, d: usize, tight: bool)
-    requires { (inks.now ≡ tab 288 inkOf) × (levels < 16) × (6 ≤ d) × (d ≤ 12) × (reachOf tight d ≤ length out.old) }
-    ensures { out.new ≡ cellPut levels word d tight out.old }
+    requires { (inks.now ≡ tab 288 ink_of) × (levels < 16) × (6 ≤ d) × (d ≤ 12) × (reach_of tight d ≤ length out.old) }
+    ensures { out.new ≡ cell_put levels word d tight out.old }
 {
     let first = blend(inks, levels, word);
     if 8 < d {
@@ -157,7 +157,7 @@ fn last_four(out: &mut [u8], symbol: u8, surround: u8, w: u16, d: usize)
 // A cell from its word. To spread the last eight dots too would cost more than it saves: four reach, and overlap.
 pub fn write_cell(out: &mut [u8], symbol: u8, surround: u8, word: u16, d: usize)
     requires { (word < 1024) × (6 ≤ d) × (d ≤ 12) × (d ≤ length out.old) }
-    ensures { out.new ≡ cellWritten symbol surround word d out.old }
+    ensures { out.new ≡ cell_written symbol surround word d out.old }
 {
     let w = wide(word, d);
     let first = mix(spread(w), symbol, surround);
@@ -173,7 +173,7 @@ pub fn write_cell(out: &mut [u8], symbol: u8, surround: u8, word: u16, d: usize)
 
 // The level beneath a cell's symbol: a lit cell shows its symbol's level only.
 pub fn under(look: video::Look) -> u8
-    ensures { result ≡ underOf look }
+    ensures { result ≡ under_of look }
 {
     if look.lit { look.symbol } else { look.surround }
 }
@@ -181,7 +181,7 @@ pub fn under(look: video::Look) -> u8
 // The same of a cell's look, as wide as a page's cells are.
 pub fn draw_cell(out: &mut [u8], look: video::Look, word: u16, width: units::Dots)
     requires { (word < 1024) × (6 ≤ width.0) × (width.0 ≤ 12) × (width.0 ≤ length out.old) }
-    ensures { out.new ≡ cellDrawn look word width.0 out.old }
+    ensures { out.new ≡ cell_drawn look word width.0 out.old }
 {
     write_cell(out, look.symbol, under(look), word, width.places());
 }
@@ -201,7 +201,7 @@ pub fn halve(out: &mut [u8], cell: &[u8], from: usize, d: usize)
 // So many dots, each twice. The compiler makes vectors of it.
 fn pairs(out: &mut [u8], dots: &[u8], n: usize)
     requires { (2 * n ≤ length out.old) × (n ≤ length dots.now) × (n ≤ 4096) }
-    ensures { out.new ≡ tab (2 * n) (halfBy dots.now 0) ++ drop (2 * n) out.old }
+    ensures { out.new ≡ tab (2 * n) (half_by dots.now 0) ++ drop (2 * n) out.old }
 {
     let mut i = 0;
     while i < n {

@@ -6,38 +6,38 @@ use Rattle.lists.specs.Choice.{pick}
 use Rattle.refusal.specs.declared.Refusal.{Refusal}
 use Rattle.refusal.specs.declared.Refusal.TheVariants.{Size}
 use Rattle.catalogue.specs.declared.Moved.{Moved}
-use Rattle.catalogue.specs.ToTable.{as_table, asTableLeft}
-use Rattle.catalogue.specs.ToSheet.{asSheet}
-use Rattle.numbers.specs.Numbers.{numbersRefused, numbersBoard, pageOrOwn}
+use Rattle.catalogue.specs.ToTable.{as_table, as_table_left}
+use Rattle.catalogue.specs.ToSheet.{as_sheet}
+use Rattle.numbers.specs.Numbers.{numbers_refused, numbers_board, page_or_own}
 
 -- the moved page in the place of the numbers' own; a refusal leaves them
-abbrev pub movedNumbers : Moved → List ℕ → List ℕ
-movedNumbers m numbers = pageOrOwn m.refusal m.board.page numbers
+abbrev pub moved_numbers : Moved → List ℕ → List ℕ
+moved_numbers m numbers = page_or_own m.refusal m.board.page numbers
 
 -- 3 for the numbers, then the move's own
-unfoldable pub toTableCheck : (numbers chars : List ℕ) → Refusal
-toTableCheck numbers chars = pick (numbersRefused numbers) Size (as_table (numbersBoard numbers) chars).refusal
+unfoldable pub to_table_check : (numbers chars : List ℕ) → Refusal
+to_table_check numbers chars = pick (numbers_refused numbers) Size (as_table (numbers_board numbers) chars).refusal
 
-unfoldable pub toSheetCheck : (numbers chars : List ℕ) → Refusal
-toSheetCheck numbers chars = pick (numbersRefused numbers) Size (asSheet (numbersBoard numbers) chars).refusal
+unfoldable pub to_sheet_check : (numbers chars : List ℕ) → Refusal
+to_sheet_check numbers chars = pick (numbers_refused numbers) Size (as_sheet (numbers_board numbers) chars).refusal
 
 -- the numbers afterwards
-unfoldable pub toTableNumbers : (numbers chars : List ℕ) → List ℕ
-toTableNumbers numbers chars = pick (numbersRefused numbers) numbers (movedNumbers (as_table (numbersBoard numbers) chars) numbers)
+unfoldable pub to_table_numbers : (numbers chars : List ℕ) → List ℕ
+to_table_numbers numbers chars = pick (numbers_refused numbers) numbers (moved_numbers (as_table (numbers_board numbers) chars) numbers)
 
-unfoldable pub toSheetNumbers : (numbers chars : List ℕ) → List ℕ
-toSheetNumbers numbers chars = pick (numbersRefused numbers) numbers (movedNumbers (asSheet (numbersBoard numbers) chars) numbers)
+unfoldable pub to_sheet_numbers : (numbers chars : List ℕ) → List ℕ
+to_sheet_numbers numbers chars = pick (numbers_refused numbers) numbers (moved_numbers (as_sheet (numbers_board numbers) chars) numbers)
 
 -- character memory afterwards
-unfoldable pub toTableChars : (numbers chars : List ℕ) → List ℕ
-toTableChars numbers chars = pick (numbersRefused numbers) chars (asTableLeft (numbersBoard numbers) chars)
+unfoldable pub to_table_chars : (numbers chars : List ℕ) → List ℕ
+to_table_chars numbers chars = pick (numbers_refused numbers) chars (as_table_left (numbers_board numbers) chars)
 
 -- ---- the calls: the answer, the numbers and character memory afterwards
 
-abbrev pub MovesToTableFor : (numbers chars : List ℕ) → Answer → (numbersLeft charsLeft : List ℕ) → Type 0
-MovesToTableFor numbers chars r numbersLeft charsLeft =
-    (r ≡ answer_of (toTableCheck numbers chars)) × (numbersLeft ≡ toTableNumbers numbers chars) × (charsLeft ≡ toTableChars numbers chars)
+abbrev pub MovesToTableFor : (numbers chars : List ℕ) → Answer → (numbers_left chars_left : List ℕ) → Type 0
+MovesToTableFor numbers chars r numbers_left chars_left =
+    (r ≡ answer_of (to_table_check numbers chars)) × (numbers_left ≡ to_table_numbers numbers chars) × (chars_left ≡ to_table_chars numbers chars)
 
 -- [demand untouched]
 abbrev pub MovesToSheetFor : (numbers chars : List ℕ) → Answer → (left : List ℕ) → Type 0
-MovesToSheetFor numbers chars r left = (r ≡ answer_of (toSheetCheck numbers chars)) × (left ≡ toSheetNumbers numbers chars)
+MovesToSheetFor numbers chars r left = (r ≡ answer_of (to_sheet_check numbers chars)) × (left ≡ to_sheet_numbers numbers chars)

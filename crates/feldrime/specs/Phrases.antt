@@ -4,25 +4,25 @@ use Rattle.lists.specs.Choice.{pick}
 use Rattle.records.specs.declared.Phrase.{Phrase}
 use Rattle.records.specs.declared.PhraseAnswer.{PhraseAnswer}
 use Rattle.records.specs.declared.Asked.{Asked}
-use Rattle.records.specs.Records.{phraseAnswer, phraseOfRow}
+use Rattle.records.specs.Records.{phrase_answer, phrase_of_row}
 use Rattle.records.specs.Ends.{asked, asked_of}
-use Rattle.records.specs.Folds.{searchOf}
+use Rattle.records.specs.Folds.{search_of}
 use Rattle.phrases.specs.Laws.{held-refused, row-held}
-use Rattle.numbers.specs.Numbers.{numbersRefused, numbersBoard}
+use Rattle.numbers.specs.Numbers.{numbers_refused, numbers_board}
 
 -- [R-6 refusals]
 -- 3 for the numbers, then the call's own
-unfoldable pub phraseFor : (numbers chars : List ℕ) → List Phrase → (row : ℕ) → PhraseAnswer
-phraseFor numbers chars rs row = pick (numbersRefused numbers) (phraseAnswer 3 0 0 0) (phraseOfRow (numbersBoard numbers) chars rs row)
+unfoldable pub phrase_for : (numbers chars : List ℕ) → List Phrase → (row : ℕ) → PhraseAnswer
+phrase_for numbers chars rs row = pick (numbers_refused numbers) (phrase_answer 3 0 0 0) (phrase_of_row (numbers_board numbers) chars rs row)
 
 -- what is asked of each record
-unfoldable pub askedFor : (numbers chars : List ℕ) → (row : ℕ) → Asked
-askedFor numbers chars row = pick (numbersRefused numbers) (asked 3 0 0 0) (asked_of (numbersBoard numbers) chars row)
+unfoldable pub asked_for : (numbers chars : List ℕ) → (row : ℕ) → Asked
+asked_for numbers chars row = pick (numbers_refused numbers) (asked 3 0 0 0) (asked_of (numbers_board numbers) chars row)
 
-pub numbers-held : (numbers chars : List ℕ) (rs : List Phrase) (row : ℕ) → searchOf rs (askedFor numbers chars row) ≡ phraseFor numbers chars rs row
-unfolding phraseFor askedFor
-numbers-held numbers chars rs row = go (numbersRefused numbers)
+pub numbers-held : (numbers chars : List ℕ) (rs : List Phrase) (row : ℕ) → search_of rs (asked_for numbers chars row) ≡ phrase_for numbers chars rs row
+unfolding phrase_for asked_for
+numbers-held numbers chars rs row = go (numbers_refused numbers)
   where
-    go : (t : Bool) → searchOf rs (pick t (asked 3 0 0 0) (asked_of (numbersBoard numbers) chars row)) ≡ pick t (phraseAnswer 3 0 0 0) (phraseOfRow (numbersBoard numbers) chars rs row)
+    go : (t : Bool) → search_of rs (pick t (asked 3 0 0 0) (asked_of (numbers_board numbers) chars row)) ≡ pick t (phrase_answer 3 0 0 0) (phrase_of_row (numbers_board numbers) chars rs row)
     go true = held-refused rs 3 0 refl
-    go false = row-held (numbersBoard numbers) chars rs row
+    go false = row-held (numbers_board numbers) chars rs row

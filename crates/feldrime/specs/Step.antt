@@ -1,9 +1,9 @@
 -- The step for C: its answer in numbers.
 use Rattle.std.specs.Prelude.{◌≡◌, ℕ, List}
 use Rattle.lists.specs.Choice.{pick}
-use Rattle.refusal.specs.Number.{number_of, besideOf}
+use Rattle.refusal.specs.Number.{number_of, beside_of}
 use Rattle.board.specs.declared.Board.{Board}
-use Rattle.shape.specs.Font.{fontOf}
+use Rattle.shape.specs.Font.{font_of}
 use Rattle.step.specs.declared.Stepped.{Stepped}
 use Rattle.step.specs.Step.{step_of}
 use Rattle.feldrime.specs.declared.StepAnswer.{StepAnswer}
@@ -13,7 +13,7 @@ use Rattle.feldrime.specs.declared.StepBy.{StepBy}
 unfoldable pub numbered : Stepped → StepAnswer
 numbered s = record {
   refusal = number_of s.refusal;
-  beside = besideOf s.refusal;
+  beside = beside_of s.refusal;
   hsync = pick s.signals.hsync 1 0;
   vsync = pick s.signals.vsync 1 0;
   blank = pick s.signals.blank 1 0;
@@ -24,14 +24,14 @@ numbered s = record {
 }
 
 -- [dots step]
-abbrev pub stepNumbers : Board → (chars attrs words flags unshifted shifted groups : List ℕ) → StepBy
-stepNumbers b chars attrs words flags unshifted shifted groups = record {
-  answer = numbered (step_of b chars attrs (fontOf words flags unshifted shifted groups));
-  board = (step_of b chars attrs (fontOf words flags unshifted shifted groups)).board;
+abbrev pub step_numbers : Board → (chars attrs words flags unshifted shifted groups : List ℕ) → StepBy
+step_numbers b chars attrs words flags unshifted shifted groups = record {
+  answer = numbered (step_of b chars attrs (font_of words flags unshifted shifted groups));
+  board = (step_of b chars attrs (font_of words flags unshifted shifted groups)).board;
 }
 
 -- the call that alters the board where it stands: the answer, and the board afterwards
 abbrev pub StepsFor : Board → (chars attrs words flags unshifted shifted groups : List ℕ) → StepAnswer → (left : Board) → Type 0
 StepsFor b chars attrs words flags unshifted shifted groups r left =
-    (r ≡ (stepNumbers b chars attrs words flags unshifted shifted groups).answer)
-    × (left ≡ (stepNumbers b chars attrs words flags unshifted shifted groups).board)
+    (r ≡ (step_numbers b chars attrs words flags unshifted shifted groups).answer)
+    × (left ≡ (step_numbers b chars attrs words flags unshifted shifted groups).board)

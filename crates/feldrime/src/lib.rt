@@ -1,23 +1,23 @@
 // What C calls. Only numbers and slices cross; every call checks what it is given, so none has a condition to meet.
 ghost use Rattle.std.specs.Prelude.{◌≡◌};
 ghost use Rattle.lists.specs.Choice.{pick};
-ghost use Rattle.board.specs.State.{powerOf};
-ghost use Rattle.shape.specs.Font.{lentFont, leftFont};
-ghost use Rattle.records.specs.Records.{phrasesDiffer};
-ghost use Rattle.numbers.specs.Numbers.{numbersCheck};
-ghost use Rattle.feldrime.specs.Answers.{archiveVersion, answer_of, boardAnswer};
-ghost use Rattle.feldrime.specs.Pages.{size_for, runFor, boardFor, ReadsPageFor, WritesPageFor, groupsRead, ReadsFontFor, GivesNumbersFor};
+ghost use Rattle.board.specs.State.{power_of};
+ghost use Rattle.shape.specs.Font.{lent_font, left_font};
+ghost use Rattle.records.specs.Records.{phrases_differ};
+ghost use Rattle.numbers.specs.Numbers.{numbers_check};
+ghost use Rattle.feldrime.specs.Answers.{archive_version, answer_of, board_answer};
+ghost use Rattle.feldrime.specs.Pages.{size_for, run_for, board_for, ReadsPageFor, WritesPageFor, groups_read, ReadsFontFor, GivesNumbersFor};
 ghost use Rattle.feldrime.specs.LineDraw.{DrawsLineFor};
 ghost use Rattle.feldrime.specs.PictureDraw.{DrawsPictureFor};
 ghost use Rattle.feldrime.specs.RowCells.{GivesCellsFor};
 ghost use Rattle.feldrime.specs.Catalogue.{MovesToTableFor, MovesToSheetFor};
-ghost use Rattle.feldrime.specs.Phrases.{phraseFor, askedFor};
-ghost use Rattle.feldrime.specs.Step.{numbered, stepNumbers, StepsFor};
-ghost use Rattle.feldrime.specs.Boards.{setVideoFor, writeFor, readFor, stateFor};
+ghost use Rattle.feldrime.specs.Phrases.{phrase_for, asked_for};
+ghost use Rattle.feldrime.specs.Step.{numbered, step_numbers, StepsFor};
+ghost use Rattle.feldrime.specs.Boards.{set_video_for, write_for, read_for, state_for};
 
 #[unsafe(no_mangle)]
 pub extern "C" fn feldrime_version() -> u32
-    ensures { result ≡ archiveVersion }
+    ensures { result ≡ archive_version }
 {
     8
 }
@@ -41,7 +41,7 @@ fn answered(r: refusal::Refusal) -> Answer
 
 #[unsafe(no_mangle)]
 pub extern "C" fn feldrime_page_check(numbers: &[u8]) -> Answer
-    ensures { result ≡ answer_of (numbersCheck numbers.now) }
+    ensures { result ≡ answer_of (numbers_check numbers.now) }
 {
     answered(numbers::numbers_check(numbers))
 }
@@ -117,7 +117,7 @@ pub struct FontAnswer {
 }
 
 fn groups_read(r: refusal::Refusal, file: &[u8]) -> u32
-    ensures { result ≡ groupsRead r file.now }
+    ensures { result ≡ groups_read r file.now }
 {
     if refusal::is_done(r) {
         return files::groups_in(file) as u32;
@@ -135,7 +135,7 @@ pub extern "C" fn feldrime_font_read(
     shifted: &mut [u8],
     groups: &mut [u8],
 ) -> FontAnswer
-    ensures { ReadsFontFor file.now (lentFont words flags unshifted shifted groups) result (leftFont words flags unshifted shifted groups) }
+    ensures { ReadsFontFor file.now (lent_font words flags unshifted shifted groups) result (left_font words flags unshifted shifted groups) }
 {
     let refused = files::read_font(file, words, flags, unshifted, shifted, groups);
     FontAnswer {
@@ -160,7 +160,7 @@ pub extern "C" fn feldrime_line_draw(
     field: u8,
     out: &mut [u8],
 ) -> Answer
-    ensures { DrawsLineFor numbers.now chars.now attrs.now (lentFont words flags unshifted shifted groups)
+    ensures { DrawsLineFor numbers.now chars.now attrs.now (lent_font words flags unshifted shifted groups)
         line field out.old result out.new }
 {
     if numbers::numbers_refused(numbers) {
@@ -197,7 +197,7 @@ pub extern "C" fn feldrime_picture_draw(
     field: u8,
     out: &mut [u8],
 ) -> Answer
-    ensures { DrawsPictureFor numbers.now chars.now attrs.now (lentFont words flags unshifted shifted groups)
+    ensures { DrawsPictureFor numbers.now chars.now attrs.now (lent_font words flags unshifted shifted groups)
         field out.old result out.new }
 {
     if numbers::numbers_refused(numbers) {
@@ -222,7 +222,7 @@ pub struct RunAnswer {
 
 #[unsafe(no_mangle)]
 pub extern "C" fn feldrime_row_run(numbers: &[u8], chars: &[u8], row: u32) -> RunAnswer
-    ensures { result ≡ runFor numbers.now chars.now row }
+    ensures { result ≡ run_for numbers.now chars.now row }
 {
     if numbers::numbers_refused(numbers) {
         return RunAnswer {
@@ -309,7 +309,7 @@ pub extern "C" fn feldrime_to_sheet(numbers: &mut [u8], chars: &[u8]) -> Answer
 
 // What a row asks of each record.
 fn numbers_asked(numbers: &[u8], chars: &[u8], row: u32) -> records::Asked
-    ensures { result ≡ askedFor numbers.now chars.now row }
+    ensures { result ≡ asked_for numbers.now chars.now row }
 {
     if numbers::numbers_refused(numbers) {
         return records::Asked {
@@ -330,7 +330,7 @@ pub extern "C" fn feldrime_phrase_of_row(
     phrases: &[records::Phrase],
     row: u32,
 ) -> records::PhraseAnswer
-    ensures { result ≡ phraseFor numbers.now chars.now phrases.now row }
+    ensures { result ≡ phrase_for numbers.now chars.now phrases.now row }
 {
     let asked = numbers_asked(numbers, chars, row);
     phrases::search(phrases, asked)
@@ -339,7 +339,7 @@ pub extern "C" fn feldrime_phrase_of_row(
 // The first two records with the same language and number that differ in first cell or length.
 #[unsafe(no_mangle)]
 pub extern "C" fn feldrime_phrases_differ(phrases: &[records::Phrase]) -> records::PairAnswer
-    ensures { result ≡ phrasesDiffer phrases.now }
+    ensures { result ≡ phrases_differ phrases.now }
 {
     phrases::phrases_differ(phrases)
 }
@@ -354,7 +354,7 @@ pub struct BoardAnswer {
 }
 
 fn with_board(r: refusal::Refusal, b: board::Board) -> BoardAnswer
-    ensures { result ≡ boardAnswer r b }
+    ensures { result ≡ board_answer r b }
 {
     BoardAnswer {
         refusal: refusal::number(r),
@@ -365,7 +365,7 @@ fn with_board(r: refusal::Refusal, b: board::Board) -> BoardAnswer
 
 #[unsafe(no_mangle)]
 pub extern "C" fn feldrime_power() -> board::Board
-    ensures { result ≡ powerOf }
+    ensures { result ≡ power_of }
 {
     board::power()
 }
@@ -373,7 +373,7 @@ pub extern "C" fn feldrime_power() -> board::Board
 // An active board at clock 0, pointer at IR0; on a refusal the board that power gives.
 #[unsafe(no_mangle)]
 pub extern "C" fn feldrime_board_of(numbers: &[u8]) -> BoardAnswer
-    ensures { result ≡ boardFor numbers.now }
+    ensures { result ≡ board_for numbers.now }
 {
     let refused = numbers::numbers_check(numbers);
     if refusal::is_done(refused) {
@@ -399,7 +399,7 @@ pub extern "C" fn feldrime_set_video(
     bkgnd: u8,
     rblank: u8,
 ) -> BoardAnswer
-    ensures { result ≡ setVideoFor b width strike bkgnd rblank }
+    ensures { result ≡ set_video_for b width strike bkgnd rblank }
 {
     let s = registers::set_video(
         b,
@@ -415,7 +415,7 @@ pub extern "C" fn feldrime_set_video(
 
 #[unsafe(no_mangle)]
 pub extern "C" fn feldrime_register_write(b: board::Board, address: u8, byte: u8) -> BoardAnswer
-    ensures { result ≡ writeFor b address byte }
+    ensures { result ≡ write_for b address byte }
 {
     let w = registers::write(b, address, byte);
     let refused = w.refusal;
@@ -433,7 +433,7 @@ pub struct ByteAnswer {
 
 #[unsafe(no_mangle)]
 pub extern "C" fn feldrime_register_read(b: board::Board, address: u8) -> ByteAnswer
-    ensures { result ≡ readFor b address }
+    ensures { result ≡ read_for b address }
 {
     let read = registers::read(b, address);
     let refused = read.refusal;
@@ -452,7 +452,7 @@ pub extern "C" fn feldrime_state_at(
     attrs: &[u8],
     n: u32,
 ) -> BoardAnswer
-    ensures { result ≡ stateFor b chars.now attrs.now n }
+    ensures { result ≡ state_for b chars.now attrs.now n }
 {
     let s = place::state_at(b, chars, attrs, units::Clocks(n));
     let refused = s.refusal;
@@ -517,7 +517,7 @@ pub fn step_numbers(
     shifted: &[u8],
     groups: &[u8],
 ) -> StepBy
-    ensures { result ≡ stepNumbers b chars.now attrs.now
+    ensures { result ≡ step_numbers b chars.now attrs.now
         words.now flags.now unshifted.now shifted.now groups.now }
 {
     let s = step::step(b, chars, attrs, words, flags, unshifted, shifted, groups);

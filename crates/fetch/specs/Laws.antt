@@ -9,116 +9,116 @@ use Rattle.std.proofs.Math.ListN.{length, length-drop}
 use Rattle.lists.specs.Choice.{pick}
 use Rattle.refusal.specs.declared.Refusal.{Refusal}
 use Rattle.refusal.specs.declared.Refusal.TheVariants.{Done}
-use Rattle.refusal.specs.Number.{done_of, wrongSize}
+use Rattle.refusal.specs.Number.{done_of, wrong_size}
 use Rattle.refusal.specs.Laws.{done-is, size-right}
-use Rattle.raster.specs.Moves.{advanceBy, advanceBy-lt}
+use Rattle.raster.specs.Moves.{advance_by, advance_by-lt}
 use Rattle.raster.specs.declared.Code.{Code}
 use Rattle.raster.specs.Wide.{code_of, is_wide}
 use Rattle.raster.specs.Cells.{Fed, Tallied, start-lt}
 use Rattle.board.specs.declared.Page.{Page}
 use Rattle.board.specs.declared.Board.{Board}
-use Rattle.board.specs.Range.{memoryRefused}
+use Rattle.board.specs.Range.{memory_refused}
 use Rattle.board.specs.Laws.{memory-all}
-use Rattle.timing.specs.Fields.{codedOf, rows_of, hactOf, table_of, bufferOf, countsOf}
+use Rattle.timing.specs.Fields.{coded_of, rows_of, hact_of, table_of, buffer_of, counts_of}
 use Rattle.timing.specs.Laws.{Accepted, call-passed}
-use Rattle.fetch.specs.Feed.{feedIn, tallyIn, start-fed, accepted-fed, accepted-tallied}
+use Rattle.fetch.specs.Feed.{feed_in, tally_in, start-fed, accepted-fed, accepted-tallied}
 use Rattle.fetch.specs.declared.Span.{Span}
-use Rattle.fetch.specs.Rows.{entry_of, code_at, wideAt, rowStart, fetchAt, fetchedOf, fetchedBefore, movedOf, cell_at}
-use Rattle.fetch.specs.Run.{runCheck, runCount, span, span_of, run_of}
+use Rattle.fetch.specs.Rows.{entry_of, code_at, wide_at, row_start, fetch_at, fetched_of, fetched_before, moved_of, cell_at}
+use Rattle.fetch.specs.Run.{run_check, run_count, span, span_of, run_of}
 
 pub entry_lt : (p : Page) (chars : List ℕ) (r : ℕ) → entry_of p chars r < 16384
 unfolding entry_of
 entry_lt p chars r = omega arith
 
 -- without IR0[7] every row is plain
-pub no-codes : (p : Page) (chars : List ℕ) → codedOf p ≡ false → (r : ℕ) → code_at p chars r ≡ 0
+pub no-codes : (p : Page) (chars : List ℕ) → coded_of p ≡ false → (r : ℕ) → code_at p chars r ≡ 0
 unfolding code_at
 no-codes p chars e r = rw e
 
 module _ (p : Page) (chars : List ℕ) (a : Accepted p) where
-  pub fed : Fed (feedIn p chars)
+  pub fed : Fed (feed_in p chars)
   fed = accepted-fed p (entry_of p chars) (code_at p chars) a (entry_lt p chars)
 
-  pub tallied : Tallied (countsOf p) (feedIn p chars) (tallyIn p chars)
+  pub tallied : Tallied (counts_of p) (feed_in p chars) (tally_in p chars)
   tallied = accepted-tallied p (entry_of p chars) (code_at p chars) a (no-codes p chars)
 
-  pub row-start-lt : (r : ℕ) → rowStart p chars r < 16384
-  row-start-lt r = rw (start-fed p chars r) (start-lt (countsOf p) (feedIn p chars) (tallyIn p chars) fed tallied r)
+  pub row-start-lt : (r : ℕ) → row_start p chars r < 16384
+  row-start-lt r = rw (start-fed p chars r) (start-lt (counts_of p) (feed_in p chars) (tally_in p chars) fed tallied r)
 
 pub cell-at-lt : (p : Page) (chars : List ℕ) (r c : ℕ) → cell_at p chars r c < 16384
-unfolding cell_at fetchAt
-cell-at-lt p chars r c = advanceBy-lt (bufferOf p) (movedOf p chars r c) (rowStart p chars r)
+unfolding cell_at fetch_at
+cell-at-lt p chars r c = advance_by-lt (buffer_of p) (moved_of p chars r c) (row_start p chars r)
 
 -- ---- the definitions as the code has them
 
-pub moves-fit : (p : Page) (r : ℕ) → r < 8192 → r * hactOf p < 2 ^ 32
+pub moves-fit : (p : Page) (r : ℕ) → r < 8192 → r * hact_of p < 2 ^ 32
 moves-fit p r h =
     let a : r ≤ 8192 = omega arith in
-    let b : hactOf p ≤ 256 = omega arith in
+    let b : hact_of p ≤ 256 = omega arith in
     omega (arith, mul-le-mul a b)
 
 module _ (p : Page) (chars : List ℕ) (r : ℕ) where
-  pub start-table : table_of p ≡ true → entry_of p chars r ≡ rowStart p chars r
-  unfolding rowStart
+  pub start-table : table_of p ≡ true → entry_of p chars r ≡ row_start p chars r
+  unfolding row_start
   start-table e = rw e
 
-  pub start-sheet : table_of p ≡ false → advanceBy (bufferOf p) (r * hactOf p) p.starts.start1 ≡ rowStart p chars r
-  unfolding rowStart
+  pub start-sheet : table_of p ≡ false → advance_by (buffer_of p) (r * hact_of p) p.starts.start1 ≡ row_start p chars r
+  unfolding row_start
   start-sheet e = rw e
 
-  pub cell-moved : (c : ℕ) → fetchAt p chars r (movedOf p chars r c) ≡ cell_at p chars r c
+  pub cell-moved : (c : ℕ) → fetch_at p chars r (moved_of p chars r c) ≡ cell_at p chars r c
   unfolding cell_at
   cell-moved c = refl
 
-  moved_in : (c : ℕ) → c < hactOf p → movedOf p chars r c ≡ pick (wideAt p chars r) (c / 2) c
-  unfolding movedOf
-  moved_in c h = rw (lt-ltb c (hactOf p) h)
+  moved_in_lem : (c : ℕ) → c < hact_of p → moved_of p chars r c ≡ pick (wide_at p chars r) (c / 2) c
+  unfolding moved_of
+  moved_in_lem c h = rw (lt-ltb c (hact_of p) h)
 
   -- within the row a column shows the cell of its own place, or of half of it where the row is of double width
-  pub cell-shown : (c : ℕ) → c < hactOf p → fetchAt p chars r (pick (wideAt p chars r) (c / 2) c) ≡ cell_at p chars r c
-  cell-shown c h = ap (fetchAt p chars r) (sym (moved_in c h)) ∙ cell-moved c
+  pub cell-shown : (c : ℕ) → c < hact_of p → fetch_at p chars r (pick (wide_at p chars r) (c / 2) c) ≡ cell_at p chars r c
+  cell-shown c h = ap (fetch_at p chars r) (sym (moved_in_lem c h)) ∙ cell-moved c
 
 -- ---- a row's code, as the code has it
 
 module _ (p : Page) (chars : List ℕ) (r : ℕ) where
   -- whether the row is of double width
-  pub wide_is : {t : Bool} {k : Code} {byte : ℕ} → t ≡ is_wide k → k ≡ code_of byte → byte ≡ code_at p chars r → t ≡ wideAt p chars r
+  pub wide_is : {t : Bool} {k : Code} {byte : ℕ} → t ≡ is_wide k → k ≡ code_of byte → byte ≡ code_at p chars r → t ≡ wide_at p chars r
   wide_is e f g = rw (e, f, g)
 
-  pub fetched-by : {t : Bool} → t ≡ wideAt p chars r → pick t ((hactOf p + 1) / 2) (hactOf p) ≡ fetchedOf p chars r
-  unfolding fetchedOf
+  pub fetched-by : {t : Bool} → t ≡ wide_at p chars r → pick t ((hact_of p + 1) / 2) (hact_of p) ≡ fetched_of p chars r
+  unfolding fetched_of
   fetched-by e = rw e
 
-  pub moved_by : {t : Bool} (c : ℕ) → t ≡ wideAt p chars r → ltb c (hactOf p) ≡ true → pick t (c / 2) c ≡ movedOf p chars r c
-  unfolding movedOf
+  pub moved_by : {t : Bool} (c : ℕ) → t ≡ wide_at p chars r → ltb c (hact_of p) ≡ true → pick t (c / 2) c ≡ moved_of p chars r c
+  unfolding moved_of
   moved_by c e h = rw (h, e)
 
-  pub moved-past : (c : ℕ) → ltb c (hactOf p) ≡ false → fetchedOf p chars r ≡ movedOf p chars r c
-  unfolding movedOf
+  pub moved-past : (c : ℕ) → ltb c (hact_of p) ≡ false → fetched_of p chars r ≡ moved_of p chars r c
+  unfolding moved_of
   moved-past c h = rw h
 
-  pub begun-by : {t : Bool} (c : ℕ) → t ≡ wideAt p chars r → pick t ((min c (hactOf p) + 1) / 2) (min c (hactOf p)) ≡ fetchedBefore p chars r c
-  unfolding fetchedBefore
+  pub begun-by : {t : Bool} (c : ℕ) → t ≡ wide_at p chars r → pick t ((min c (hact_of p) + 1) / 2) (min c (hact_of p)) ≡ fetched_before p chars r c
+  unfolding fetched_before
   begun-by c e = rw e
 
-  pub begun-least : (c : ℕ) → fetchedBefore p chars r (min c (hactOf p)) ≡ fetchedBefore p chars r c
-  unfolding fetchedBefore
+  pub begun-least : (c : ℕ) → fetched_before p chars r (min c (hact_of p)) ≡ fetched_before p chars r c
+  unfolding fetched_before
   begun-least c =
-      let m : min (min c (hactOf p)) (hactOf p) ≡ min c (hactOf p) = omega arith in
+      let m : min (min c (hact_of p)) (hact_of p) ≡ min c (hact_of p) = omega arith in
       rw m
 
   -- at the row's end all of them
-  pub begun_all : fetchedBefore p chars r (hactOf p) ≡ fetchedOf p chars r
-  unfolding fetchedBefore fetchedOf
+  pub begun_all : fetched_before p chars r (hact_of p) ≡ fetched_of p chars r
+  unfolding fetched_before fetched_of
   begun_all =
-      let m : min (hactOf p) (hactOf p) ≡ hactOf p = omega arith in
+      let m : min (hact_of p) (hact_of p) ≡ hact_of p = omega arith in
       rw m
 
-pub fetched-small : (p : Page) (chars : List ℕ) (r : ℕ) → (0 < fetchedOf p chars r) × (fetchedOf p chars r ≤ 256)
-unfolding fetchedOf
-fetched-small p chars r = go (wideAt p chars r)
+pub fetched-small : (p : Page) (chars : List ℕ) (r : ℕ) → (0 < fetched_of p chars r) × (fetched_of p chars r ≤ 256)
+unfolding fetched_of
+fetched-small p chars r = go (wide_at p chars r)
   where
-    go : (t : Bool) → (0 < pick t ((hactOf p + 1) / 2) (hactOf p)) × (pick t ((hactOf p + 1) / 2) (hactOf p) ≤ 256)
+    go : (t : Bool) → (0 < pick t ((hact_of p + 1) / 2) (hact_of p)) × (pick t ((hact_of p + 1) / 2) (hact_of p) ≤ 256)
     go true = (omega arith, omega arith)
     go false = (omega arith, omega arith)
 
@@ -129,32 +129,32 @@ pub record Run (b : Board) (n row : ℕ) : Type 0 where
   pub whole : n ≡ 16384
   pub row_lt : row < rows_of b.page
 
-pub run-passed : (b : Board) (n row : ℕ) → runCheck b n row ≡ Done → Run b n row
-unfolding runCheck
+pub run-passed : (b : Board) (n row : ℕ) → run_check b n row ≡ Done → Run b n row
+unfolding run_check
 run-passed b n row e =
-    let k = call-passed b (wrongSize (memoryRefused n)) (leb (rows_of b.page) row) false e in
+    let k = call-passed b (wrong_size (memory_refused n)) (leb (rows_of b.page) row) false e in
     record { page = k.page; whole = memory-all n (size-right _ k.lent-fine); row_lt = leb-false _ _ k.in_reach }
 
-count-some : (p : Page) (n s : ℕ) → 0 < n → s < 16384 → 0 < runCount p n s
-unfolding runCount
+count-some : (p : Page) (n s : ℕ) → 0 < n → s < 16384 → 0 < run_count p n s
+unfolding run_count
 count-some p n s k h = omega arith
 
-count_fits : (p : Page) (n s : ℕ) → s < 16384 → s + runCount p n s ≤ 16384
-unfolding runCount
+count_fits : (p : Page) (n s : ℕ) → s < 16384 → s + run_count p n s ≤ 16384
+unfolding run_count
 count_fits p n s h = omega arith
 
 module _ (b : Board) (chars : List ℕ) (row : ℕ) where
   -- the run lies in 16,384 cells, and in character memory whatever its size
   pub span_small : ((span_of b chars row).start + (span_of b chars row).count ≤ 16384) × ((span_of b chars row).start + (span_of b chars row).count ≤ length chars)
   unfolding span_of
-  span_small = go (done_of (runCheck b (length chars) row)) refl
+  span_small = go (done_of (run_check b (length chars) row)) refl
     where
-      go : (t : Bool) → done_of (runCheck b (length chars) row) ≡ t
+      go : (t : Bool) → done_of (run_check b (length chars) row) ≡ t
           → ((span_of b chars row).start + (span_of b chars row).count ≤ 16384) × ((span_of b chars row).start + (span_of b chars row).count ≤ length chars)
       go true q =
           let k : Run b (length chars) row = run-passed b (length chars) row (done-is _ q) in
-          let l : rowStart b.page chars row < 16384 = row-start-lt b.page chars k.page row in
-          let f = count_fits b.page (fetchedOf b.page chars row) (rowStart b.page chars row) l in
+          let l : row_start b.page chars row < 16384 = row-start-lt b.page chars k.page row in
+          let f = count_fits b.page (fetched_of b.page chars row) (row_start b.page chars row) l in
           rw q (f, omega (arith, f, k.whole))
       go false q = rw q (omega arith, omega arith)
 
@@ -168,36 +168,36 @@ module _ (b : Board) (chars : List ℕ) (row : ℕ) where
       let n : s.start + s.count - s.start ≡ s.count = omega arith in
       rw (n, e)
 
-  pub span-number : (s : Span) → s ≡ span_of b chars row → s.refusal ≡ runCheck b (length chars) row
+  pub span-number : (s : Span) → s ≡ span_of b chars row → s.refusal ≡ run_check b (length chars) row
   unfolding span_of
-  span-number s e = rw e (go (done_of (runCheck b (length chars) row)))
+  span-number s e = rw e (go (done_of (run_check b (length chars) row)))
     where
       x : Refusal
-      x = runCheck b (length chars) row
+      x = run_check b (length chars) row
 
       a : ℕ
-      a = rowStart b.page chars row
+      a = row_start b.page chars row
 
-      go : (t : Bool) → (pick t (span x a (runCount b.page (fetchedOf b.page chars row) a)) (span x 0 0)).refusal ≡ x
+      go : (t : Bool) → (pick t (span x a (run_count b.page (fetched_of b.page chars row) a)) (span x 0 0)).refusal ≡ x
       go true = refl
       go false = refl
 
-  counted : done_of (runCheck b (length chars) row) ≡ true → rowStart b.page chars row < 16384 → 0 < (span_of b chars row).count
+  counted : done_of (run_check b (length chars) row) ≡ true → row_start b.page chars row < 16384 → 0 < (span_of b chars row).count
   unfolding span_of
-  counted e h = rw e (count-some b.page (fetchedOf b.page chars row) (rowStart b.page chars row) (fetched-small b.page chars row).0 h)
+  counted e h = rw e (count-some b.page (fetched_of b.page chars row) (row_start b.page chars row) (fetched-small b.page chars row).0 h)
 
   -- [fetch run]
   -- a refusal shows an empty part, and nothing else does
-  pub run-refused : done_of (runCheck b (length chars) row) ≡ false → length (run_of b chars row) ≡ 0
+  pub run-refused : done_of (run_check b (length chars) row) ≡ false → length (run_of b chars row) ≡ 0
   unfolding run_of span_of
   run-refused q = rw q
 
   -- [fetch run]
   -- a run that is not refused has a cell
-  pub run-some : done_of (runCheck b (length chars) row) ≡ true → 0 < length (run_of b chars row)
+  pub run-some : done_of (run_check b (length chars) row) ≡ true → 0 < length (run_of b chars row)
   unfolding run_of
   run-some q =
       let k : Run b (length chars) row = run-passed b (length chars) row (done-is _ q) in
-      let l : rowStart b.page chars row < 16384 = row-start-lt b.page chars k.page row in
+      let l : row_start b.page chars row < 16384 = row-start-lt b.page chars k.page row in
       let room : (span_of b chars row).count ≤ length (drop (span_of b chars row).start chars) = rw length-drop (omega (arith, span_fits)) in
       rw (length-take-le (span_of b chars row).count (drop (span_of b chars row).start chars) room) (counted q l)

@@ -6,38 +6,38 @@ use Rattle.refusal.specs.declared.Refusal.{Refusal}
 use Rattle.refusal.specs.Number.{done_of}
 use Rattle.board.specs.declared.Page.{Page}
 use Rattle.board.specs.declared.Board.{Board}
-use Rattle.board.specs.Range.{memoryRefused}
+use Rattle.board.specs.Range.{memory_refused}
 use Rattle.fetch.specs.declared.RowCells.{RowCells}
-use Rattle.fetch.specs.Rows.{fetchedOf, fetchAt}
-use Rattle.fetch.specs.Run.{rowCheck}
+use Rattle.fetch.specs.Rows.{fetched_of, fetch_at}
+use Rattle.fetch.specs.Run.{row_check}
 
 -- [more cells] a row's cells are the addresses that it fetches, wraps included; elements beyond stay
 -- the addresses of the cells that a row fetches
 unfoldable pub cells_of : Page → List ℕ → ℕ → List ℕ
-cells_of p chars row = tab (fetchedOf p chars row) (fetchAt p chars row)
+cells_of p chars row = tab (fetched_of p chars row) (fetch_at p chars row)
 
 -- [more cells]
 -- 3 for a character memory of n cells, or room for fewer than 256, the most that a row can have; then 12, 4, 13, 14, 15, 6, 7
-unfoldable pub cellsCheck : Board → (n row room : ℕ) → Refusal
-cellsCheck b n row room = rowCheck b (memoryRefused n || ltb room 256) row
+unfoldable pub cells_check : Board → (n row room : ℕ) → Refusal
+cells_check b n row room = row_check b (memory_refused n || ltb room 256) row
 
 abbrev pub row_of : Refusal → ℕ → RowCells
 row_of r n = record { refusal = r; count = n }
 
 -- how many there are, none on a refusal
-unfoldable pub cellsGiven : Board → (chars : List ℕ) → (row room : ℕ) → RowCells
-cellsGiven b chars row room =
-    row_of (cellsCheck b (length chars) row room) (pick (done_of (cellsCheck b (length chars) row room)) (fetchedOf b.page chars row) 0)
+unfoldable pub cells_given : Board → (chars : List ℕ) → (row room : ℕ) → RowCells
+cells_given b chars row room =
+    row_of (cells_check b (length chars) row room) (pick (done_of (cells_check b (length chars) row room)) (fetched_of b.page chars row) 0)
 
 -- [more cells]
 -- the buffer afterwards: elements beyond the row's cells stay, and all of it on a refusal
-unfoldable pub cellsPut : Board → (chars : List ℕ) → ℕ → List ℕ → List ℕ
-cellsPut b chars row cells =
-    pick (done_of (cellsCheck b (length chars) row (length cells)))
-    (cells_of b.page chars row ++ drop (fetchedOf b.page chars row) cells)
+unfoldable pub cells_put : Board → (chars : List ℕ) → ℕ → List ℕ → List ℕ
+cells_put b chars row cells =
+    pick (done_of (cells_check b (length chars) row (length cells)))
+    (cells_of b.page chars row ++ drop (fetched_of b.page chars row) cells)
     cells
 
 -- [demand untouched] [more cells]
 -- the call: the count, and the buffer afterwards
 abbrev pub GivesCells : Board → (chars : List ℕ) → (row : ℕ) → (cells : List ℕ) → RowCells → (left : List ℕ) → Type 0
-GivesCells b chars row cells r left = (r ≡ cellsGiven b chars row (length cells)) × (left ≡ cellsPut b chars row cells)
+GivesCells b chars row cells r left = (r ≡ cells_given b chars row (length cells)) × (left ≡ cells_put b chars row cells)

@@ -5,48 +5,48 @@ use borrow.Author.Tests.{leb-true, ltb-true}
 use Rattle.std.proofs.Math.Dec.{leb}
 use Rattle.lists.specs.Choice.{pick, both}
 use Rattle.refusal.specs.declared.Refusal.{Refusal}
-use Rattle.refusal.specs.Number.{done_of, number_of, wrongSize}
+use Rattle.refusal.specs.Number.{done_of, number_of, wrong_size}
 use Rattle.raster.specs.declared.Buffer.{Buffer}
-use Rattle.raster.specs.Moves.{toLast, advanceBy, by_near}
+use Rattle.raster.specs.Moves.{to_last, advance_by, by_near}
 use Rattle.board.specs.declared.Page.{Page}
 use Rattle.board.specs.declared.Board.{Board}
-use Rattle.board.specs.Range.{memoryRefused}
-use Rattle.timing.specs.Fields.{rows_of, bufferOf}
-use Rattle.timing.specs.Check.{callCheck}
+use Rattle.board.specs.Range.{memory_refused}
+use Rattle.timing.specs.Fields.{rows_of, buffer_of}
+use Rattle.timing.specs.Check.{call_check}
 use Rattle.fetch.specs.declared.Span.{Span}
-use Rattle.fetch.specs.Rows.{rowStart, fetchedOf}
+use Rattle.fetch.specs.Rows.{row_start, fetched_of}
 
 -- a call that asks for a row: 3 where a lent part has a wrong size, 12, 4, 13, 14, 15, 6, 7
-abbrev pub rowCheck : Board → (size : Bool) → (row : ℕ) → Refusal
-rowCheck b size row = callCheck b (wrongSize size) (leb (rows_of b.page) row) false
+abbrev pub row_check : Board → (size : Bool) → (row : ℕ) → Refusal
+row_check b size row = call_check b (wrong_size size) (leb (rows_of b.page) row) false
 
 -- [refusal kinds]
 -- 3 for a character memory of n cells
-unfoldable pub runCheck : Board → (n row : ℕ) → Refusal
-runCheck b n row = rowCheck b (memoryRefused n) row
+unfoldable pub run_check : Board → (n row : ℕ) → Refusal
+run_check b n row = row_check b (memory_refused n) row
 
 -- [fetch run]
 -- so many cells to the row's end, so many to the last buffer address, so many to 16383
-unfoldable pub runCount : Page → (cells start : ℕ) → ℕ
-runCount p cells start = min cells (min (toLast (bufferOf p) start + 1) (16384 - start))
+unfoldable pub run_count : Page → (cells start : ℕ) → ℕ
+run_count p cells start = min cells (min (to_last (buffer_of p) start + 1) (16384 - start))
 
 -- whether n cells from an address on are one run
-unfoldable pub oneRun : Buffer → (start n : ℕ) → Bool
-oneRun b start n = (ltb start 16384 && leb n (toLast b start + 1)) && leb n (16384 - start % 16384)
+unfoldable pub one_run : Buffer → (start n : ℕ) → Bool
+one_run b start n = (ltb start 16384 && leb n (to_last b start + 1)) && leb n (16384 - start % 16384)
 
 -- then they stand side by side in memory
-module _ (b : Buffer) (start n : ℕ) (e : oneRun b start n ≡ true) where
-  tests : ((start < 16384) × (n ≤ toLast b start + 1)) × (n ≤ 16384 - start % 16384)
-  unfolding oneRun
+module _ (b : Buffer) (start n : ℕ) (e : one_run b start n ≡ true) where
+  tests : ((start < 16384) × (n ≤ to_last b start + 1)) × (n ≤ 16384 - start % 16384)
+  unfolding one_run
   tests =
-      let q = both (ltb start 16384 && leb n (toLast b start + 1)) (leb n (16384 - start % 16384)) e in
-      let r = both (ltb start 16384) (leb n (toLast b start + 1)) q.0 in
+      let q = both (ltb start 16384 && leb n (to_last b start + 1)) (leb n (16384 - start % 16384)) e in
+      let r = both (ltb start 16384) (leb n (to_last b start + 1)) q.0 in
       ((ltb-true _ _ r.0, leb-true _ _ r.1), leb-true _ _ q.1)
 
   pub run_fits : start + n ≤ 16384
   run_fits = omega (arith, tests.0.0, tests.1)
 
-  pub run_at : (i : ℕ) → i < n → advanceBy b i start ≡ start + i
+  pub run_at : (i : ℕ) → i < n → advance_by b i start ≡ start + i
   run_at i l = by_near b i start (omega (arith, tests.0.1)) ∙ omega (arith, run_fits)
 
 abbrev pub span : Refusal → ℕ → ℕ → Span
@@ -54,9 +54,9 @@ span r s n = record { refusal = r; start = s; count = n }
 
 unfoldable pub span_of : Board → List ℕ → ℕ → Span
 span_of b chars row =
-    pick (done_of (runCheck b (length chars) row))
-    (span (runCheck b (length chars) row) (rowStart b.page chars row) (runCount b.page (fetchedOf b.page chars row) (rowStart b.page chars row)))
-    (span (runCheck b (length chars) row) 0 0)
+    pick (done_of (run_check b (length chars) row))
+    (span (run_check b (length chars) row) (row_start b.page chars row) (run_count b.page (fetched_of b.page chars row) (row_start b.page chars row)))
+    (span (run_check b (length chars) row) 0 0)
 
 -- [fetch run] the row's first run of cells as a part of character memory; only a refusal shows an empty part
 -- the part; a refusal shows an empty part
@@ -76,4 +76,4 @@ GivesRun b chars row lent from cells block offset number =
     (cells ≡ run_of b chars row)
     × (block ≡ lent)
     × (offset ≡ from + (span_of b chars row).start)
-    × (number ≡ number_of (runCheck b (length chars) row))
+    × (number ≡ number_of (run_check b (length chars) row))

@@ -2,10 +2,10 @@
 ghost use Rattle.std.specs.Prelude.{◌≡◌, ◌++◌, min, ◌<◌, ◌≤◌, ◌+◌, length, drop};
 ghost use Rattle.lists.specs.Tab.{tab};
 ghost use Rattle.raster.specs.Moves.{cell, Bounded};
-ghost use Rattle.fetch.specs.Rows.{byte_at, entry_of, code_at, rowStart, cell_at, fetchedOf, movedOf, fetchedBefore};
-ghost use Rattle.fetch.specs.Run.{rowCheck, runCheck, runCount, oneRun, GivesSpan, GivesRun};
-ghost use Rattle.fetch.specs.RowCells.{cellsCheck, GivesCells};
-ghost use Rattle.fetch.specs.RowLaws.{columnBy};
+ghost use Rattle.fetch.specs.Rows.{byte_at, entry_of, code_at, row_start, cell_at, fetched_of, moved_of, fetched_before};
+ghost use Rattle.fetch.specs.Run.{row_check, run_check, run_count, one_run, GivesSpan, GivesRun};
+ghost use Rattle.fetch.specs.RowCells.{cells_check, GivesCells};
+ghost use Rattle.fetch.specs.RowLaws.{column_by};
 
 // A row's first run: from a cell on, so many.
 #[derive(Drop)]
@@ -69,7 +69,7 @@ pub fn code_at(p: board::Page, chars: &[u8], row: u32) -> u8
 // How many cells a row fetches.
 pub fn fetched_of(p: board::Page, chars: &[u8], row: u32) -> u32
     requires { (length chars.now ≡ 16384) × (row < 8192) }
-    ensures { result ≡ fetchedOf p chars.now row }
+    ensures { result ≡ fetched_of p chars.now row }
 {
     let t = timing::timing_of(p);
     let hact = t.counts.hact;
@@ -83,7 +83,7 @@ pub fn fetched_of(p: board::Page, chars: &[u8], row: u32) -> u32
 // How many of them it has moved on from by a column.
 fn moved_of(p: board::Page, chars: &[u8], row: u32, column: units::Clocks) -> u32
     requires { (length chars.now ≡ 16384) × (row < 8192) }
-    ensures { result ≡ movedOf p chars.now row column.0 }
+    ensures { result ≡ moved_of p chars.now row column.0 }
 {
     let t = timing::timing_of(p);
     if column.below(t.counts.hact) {
@@ -99,7 +99,7 @@ fn moved_of(p: board::Page, chars: &[u8], row: u32, column: units::Clocks) -> u3
 // How many it has fetched before a column.
 pub fn fetched_before(p: board::Page, chars: &[u8], row: u32, column: units::Clocks) -> u32
     requires { (length chars.now ≡ 16384) × (row < 8192) }
-    ensures { result ≡ fetchedBefore p chars.now row column.0 }
+    ensures { result ≡ fetched_before p chars.now row column.0 }
 {
     let t = timing::timing_of(p);
     let n = column.least(t.counts.hact);
@@ -113,7 +113,7 @@ pub fn fetched_before(p: board::Page, chars: &[u8], row: u32, column: units::Clo
 // A row's start.
 pub fn row_start(p: board::Page, chars: &[u8], row: u32) -> raster::Cell
     requires { (length chars.now ≡ 16384) × (row < 8192) }
-    ensures { result ≡ cell (rowStart p chars.now row) }
+    ensures { result ≡ cell (row_start p chars.now row) }
 {
     if timing::table_of(p) {
         return entry(p, chars, row);
@@ -139,7 +139,7 @@ pub fn cell_at(p: board::Page, chars: &[u8], row: u32, column: units::Clocks) ->
 // How many of a row's cells stand side by side from its start on.
 fn run_count(p: board::Page, cells: u32, start: u16) -> u32
     requires { start < 16384 }
-    ensures { result ≡ runCount p cells start }
+    ensures { result ≡ run_count p cells start }
 {
     let b = timing::buffer_of(p);
     let at = start as u32;
@@ -149,7 +149,7 @@ fn run_count(p: board::Page, cells: u32, start: u16) -> u32
 
 // Whether n cells from a cell on are one run: neither the last buffer address nor 16383 comes before the last of them.
 pub fn one_run(b: raster::Buffer, start: raster::Cell, n: usize) -> bool
-    ensures { result ≡ oneRun b start.address n }
+    ensures { result ≡ one_run b start.address n }
 {
     let at = start.address as usize;
     let to_last = (b.last as usize + 16384 - at % 16384) % 16384;
@@ -158,7 +158,7 @@ pub fn one_run(b: raster::Buffer, start: raster::Cell, n: usize) -> bool
 
 // What a call for a row is refused by; whether a lent part has a wrong size is the call's to say.
 fn row_check(b: board::Board, size: bool, row: u32) -> refusal::Refusal
-    ensures { result ≡ rowCheck b size row }
+    ensures { result ≡ row_check b size row }
 {
     let page = b.page;
     let t = timing::timing_of(page);
@@ -166,7 +166,7 @@ fn row_check(b: board::Board, size: bool, row: u32) -> refusal::Refusal
 }
 
 fn run_check(b: board::Board, n: usize, row: u32) -> refusal::Refusal
-    ensures { result ≡ runCheck b n row }
+    ensures { result ≡ run_check b n row }
 {
     row_check(b, n != 16384, row)
 }
@@ -207,7 +207,7 @@ pub fn row_run<'a>(b: board::Board, chars: &'a [u8], row: u32, refusal: &mut u32
 }
 
 fn cells_check(b: board::Board, n: usize, row: u32, room: usize) -> refusal::Refusal
-    ensures { result ≡ cellsCheck b n row room }
+    ensures { result ≡ cells_check b n row room }
 {
     row_check(b, (n != 16384) | (room < 256), row)
 }
@@ -215,7 +215,7 @@ fn cells_check(b: board::Board, n: usize, row: u32, room: usize) -> refusal::Ref
 // Puts the addresses of n cells at the front of cells, from a row's start on.
 fn put_cells(cells: &mut [u16], buffer: raster::Buffer, start: raster::Cell, n: usize)
     requires { Bounded buffer × (start.address < 16384) × (n ≤ length cells.old) }
-    ensures { cells.new ≡ tab n (columnBy buffer start.address) ++ drop n cells.old }
+    ensures { cells.new ≡ tab n (column_by buffer start.address) ++ drop n cells.old }
 {
     let mut cell = start;
     let mut c = 0;

@@ -1,14 +1,14 @@
 // Page and font files, read and written.
 ghost use Rattle.std.specs.Prelude.{◌≡◌, ◌+◌, ◌*◌, ◌/◌, ◌%◌, ◌≤◌, ◌<◌, ◌++◌, length, take, drop, eqb};
-ghost use Rattle.board.specs.Layout.{layoutOf, pageLength, lengthField, charsPlace, attrsPlace, fileSize};
-ghost use Rattle.files.specs.Page.{word_at, startsAt, videoOf, versionIn, chipAt, irsAt, pageAt, boardAt, longBytes, tailOf, pageBytes};
-ghost use Rattle.files.specs.File.{longAt, versionRefused, lengthRefused, fileCheck, readCheck, pageHead, fileOf, writeCheck, ReadsPage, WritesPage};
-ghost use Rattle.files.specs.FontFile.{words_of, byteOf, bytesIn, groupCount, fontSize, fileGroups, fontCheck, fontVersion, fontHead, fontFileOf, fontWriteCheck, ReadsFont, WritesFont};
+ghost use Rattle.board.specs.Layout.{layout_of, page_length, length_field, chars_place, attrs_place, file_size};
+ghost use Rattle.files.specs.Page.{word_at, starts_at, video_of, version_in, chip_at, irs_at, page_at, board_at, long_bytes, tail_of, page_bytes};
+ghost use Rattle.files.specs.File.{long_at, version_refused, length_refused, file_check, read_check, page_head, file_of, write_check, ReadsPage, WritesPage};
+ghost use Rattle.files.specs.FontFile.{words_of, byte_of, bytes_in, group_count, font_size, file_groups, font_check, font_version, font_head, font_file_of, font_write_check, ReadsFont, WritesFont};
 ghost use Rattle.copies.specs.Put.{put_at};
 ghost use Rattle.lists.specs.Choice.{pick};
 ghost use Rattle.lists.specs.Tab.{tab};
 ghost use Rattle.refusal.specs.declared.Refusal.{Refusal};
-ghost use Rattle.shape.specs.Font.{fontNow, lentFont, leftFont, Whole};
+ghost use Rattle.shape.specs.Font.{font_now, lent_font, left_font, Whole};
 
 #[derive(Drop)]
 pub struct PageRead {
@@ -33,7 +33,7 @@ fn word_at(bytes: &[u8], i: usize) -> u16
 // The first n of a record's fifteen IRs; the others are zeros.
 fn irs_at(bytes: &[u8], at: usize, n: usize) -> [u8; 15]
     requires { (at + n ≤ length bytes.now) × (n ≤ 15) }
-    ensures { result ≡ irsAt n bytes.now at }
+    ensures { result ≡ irs_at n bytes.now at }
 {
     let mut irs = [0u8; 15];
     copies::take_from(bytes, at, &mut irs[..n]);
@@ -43,7 +43,7 @@ fn irs_at(bytes: &[u8], at: usize, n: usize) -> [u8; 15]
 // The three addresses.
 fn starts_at(bytes: &[u8], at: usize) -> board::Starts
     requires { at + 6 ≤ length bytes.now }
-    ensures { result ≡ startsAt bytes.now at }
+    ensures { result ≡ starts_at bytes.now at }
 {
     board::Starts {
         start1: word_at(bytes, at),
@@ -53,7 +53,7 @@ fn starts_at(bytes: &[u8], at: usize) -> board::Starts
 }
 
 fn video(dots: u8, strike: u8, chip: u8) -> board::Video
-    ensures { result ≡ videoOf dots strike chip }
+    ensures { result ≡ video_of dots strike chip }
 {
     board::Video {
         dots: units::Dots(dots as u32),
@@ -65,7 +65,7 @@ fn video(dots: u8, strike: u8, chip: u8) -> board::Video
 // The chip, which stands in a page of version 3 alone.
 fn chip_at(version: u8, bytes: &[u8], at: usize) -> u8
     requires { version ≡ 3 → at < length bytes.now }
-    ensures { result ≡ chipAt version bytes.now at }
+    ensures { result ≡ chip_at version bytes.now at }
 {
     if version == 3 {
         return bytes[at];
@@ -75,8 +75,8 @@ fn chip_at(version: u8, bytes: &[u8], at: usize) -> u8
 
 // The version, which stands first, and the bytes that stand between a page file's length and its character memory.
 pub fn page_at(bytes: &[u8], at: usize) -> board::Page
-    requires { at + pageLength (versionIn bytes.now) ≤ length bytes.now }
-    ensures { result ≡ pageAt bytes.now at }
+    requires { at + page_length (version_in bytes.now) ≤ length bytes.now }
+    ensures { result ≡ page_at bytes.now at }
 {
     let version = bytes[0];
     let n = board::irs_of(version);
@@ -96,8 +96,8 @@ pub fn page_at(bytes: &[u8], at: usize) -> board::Page
 
 // "A page read gives an active board at clock 0, pointer at IR0."
 pub fn board_at(bytes: &[u8], at: usize) -> board::Board
-    requires { at + pageLength (versionIn bytes.now) ≤ length bytes.now }
-    ensures { result ≡ boardAt bytes.now at }
+    requires { at + page_length (version_in bytes.now) ≤ length bytes.now }
+    ensures { result ≡ board_at bytes.now at }
 {
     board::Board {
         page: page_at(bytes, at),
@@ -110,14 +110,14 @@ pub fn board_at(bytes: &[u8], at: usize) -> board::Board
 // Four bytes big-endian.
 fn long_at(bytes: &[u8], i: usize) -> u32
     requires { i + 4 ≤ length bytes.now }
-    ensures { result ≡ longAt bytes.now i }
+    ensures { result ≡ long_at bytes.now i }
 {
     word_at(bytes, i) as u32 * 65536 + word_at(bytes, i + 2) as u32
 }
 
 // 1, where versions from 1 to the newest are known.
 pub fn version_refused(file: &[u8], newest: u8) -> bool
-    ensures { result ≡ versionRefused file.now newest }
+    ensures { result ≡ version_refused file.now newest }
 {
     if file.len() == 0 {
         return true;
@@ -128,7 +128,7 @@ pub fn version_refused(file: &[u8], newest: u8) -> bool
 // 2, where n bytes follow the length.
 fn length_refused(file: &[u8], n: u32) -> bool
     requires { n ≤ 65536 }
-    ensures { result ≡ lengthRefused file.now n }
+    ensures { result ≡ length_refused file.now n }
 {
     if file.len() != n as usize + 5 {
         return true;
@@ -139,7 +139,7 @@ fn length_refused(file: &[u8], n: u32) -> bool
 // 1, 2, 3, where n bytes follow the length.
 fn file_check(file: &[u8], newest: u8, n: u32, size: bool) -> refusal::Refusal
     requires { n ≤ 65536 }
-    ensures { result ≡ fileCheck file.now newest n size Refusal.Done }
+    ensures { result ≡ file_check file.now newest n size Refusal.Done }
 {
     if version_refused(file, newest) {
         return refusal::Refusal::Version;
@@ -155,21 +155,21 @@ fn file_check(file: &[u8], newest: u8, n: u32, size: bool) -> refusal::Refusal
 
 // Where a page file's character memory begins.
 pub fn chars_place(version: u8) -> usize
-    ensures { result ≡ charsPlace version }
+    ensures { result ≡ chars_place version }
 {
     board::page_length(version) + 5
 }
 
 // The bytes that follow a page file's length.
 fn length_field(version: u8) -> u32
-    ensures { (result ≡ lengthField version) × (result < 65536) }
+    ensures { (result ≡ length_field version) × (result < 65536) }
 {
     board::page_length(version) as u32 + 32768
 }
 
 // The version byte, which says how long the file is; an empty file has none, which 1 refuses.
 fn version_in(file: &[u8]) -> u8
-    ensures { result ≡ versionIn file.now }
+    ensures { result ≡ version_in file.now }
 {
     if file.len() == 0 {
         return 0;
@@ -179,7 +179,7 @@ fn version_in(file: &[u8]) -> u8
 
 // 1, 2, 3, then the page's own; whether a lent part has a wrong size is the caller's to say.
 pub fn read_check(file: &[u8], size: bool) -> refusal::Refusal
-    ensures { result ≡ readCheck file.now size }
+    ensures { result ≡ read_check file.now size }
 {
     let n = length_field(version_in(file));
     let refused = file_check(file, board::NEWEST_VERSION, n, size);
@@ -225,7 +225,7 @@ fn low(x: u16) -> u8
 // The bytes that stand behind the IRs, the chip last.
 fn tail_of(p: board::Page) -> [u8; 10]
     requires { p.video.dots.0 ≤ 12 }
-    ensures { result ≡ tailOf p }
+    ensures { result ≡ tail_of p }
 {
     let s = p.starts;
     [
@@ -244,8 +244,8 @@ fn tail_of(p: board::Page) -> [u8; 10]
 
 // The bytes that `page_at` reads behind the version, put into out from a place on.
 pub fn put_bytes(p: board::Page, at: usize, out: &mut [u8])
-    requires { (p.video.dots.0 ≤ 12) × (at + pageLength p.version ≤ length out.old) }
-    ensures { out.new ≡ put_at at (pageBytes p) out.old }
+    requires { (p.video.dots.0 ≤ 12) × (at + page_length p.version ≤ length out.old) }
+    ensures { out.new ≡ put_at at (page_bytes p) out.old }
 {
     let irs = p.irs;
     let tail = tail_of(p);
@@ -258,7 +258,7 @@ pub fn put_bytes(p: board::Page, at: usize, out: &mut [u8])
 
 // The version and the length in four bytes.
 fn head_of(p: board::Page) -> [u8; 5]
-    ensures { result ≡ pageHead p }
+    ensures { result ≡ page_head p }
 {
     let n = length_field(p.version) as u16;
     [board::version_of(p), 0, 0, high(n), low(n)]
@@ -267,8 +267,8 @@ fn head_of(p: board::Page) -> [u8; 5]
 // A page's file into the front of out; bytes beyond it stay.
 fn put_file(p: board::Page, chars: &[u8], attrs: &[u8], out: &mut [u8])
     requires { (p.video.dots.0 ≤ 12)
-        × (length chars.now ≡ 16384) × (length attrs.now ≡ 16384) × (fileSize p.version ≤ length out.old) }
-    ensures { out.new ≡ fileOf p chars.now attrs.now ++ drop (fileSize p.version) out.old }
+        × (length chars.now ≡ 16384) × (length attrs.now ≡ 16384) × (file_size p.version ≤ length out.old) }
+    ensures { out.new ≡ file_of p chars.now attrs.now ++ drop (file_size p.version) out.old }
 {
     let head = head_of(p);
     let start = chars_place(p.version);
@@ -283,14 +283,14 @@ pub const LONGEST_PAGE: usize = 32798;
 
 // How long a page file is.
 pub fn file_size(version: u8) -> usize
-    ensures { result ≡ fileSize version }
+    ensures { result ≡ file_size version }
 {
     board::page_length(version) + 32773
 }
 
 // 3, 12, 4, 13, 14, 15, 6, 7.
 fn write_check(b: board::Board, chars: usize, attrs: usize, out: usize) -> refusal::Refusal
-    ensures { result ≡ writeCheck b chars attrs out }
+    ensures { result ≡ write_check b chars attrs out }
 {
     let short = out < file_size(b.page.version);
     let size = board::memories_refused(chars, attrs) | short;
@@ -322,7 +322,7 @@ fn read_words(src: &[u8], dst: &mut [u16])
 
 fn byte_of(words: &[u16], k: usize) -> u8
     requires { k + 1 ≤ 2 * length words.now }
-    ensures { result ≡ byteOf words.now k }
+    ensures { result ≡ byte_of words.now k }
 {
     let w = words[k / 2];
     if k % 2 == 0 { high(w) } else { low(w) }
@@ -331,7 +331,7 @@ fn byte_of(words: &[u16], k: usize) -> u8
 // As many bytes of the words as dst has room for.
 fn write_words(src: &[u16], dst: &mut [u8])
     requires { length dst.old ≤ 2 * length src.now }
-    ensures { dst.new ≡ tab (length dst.old) (byteOf src.now) }
+    ensures { dst.new ≡ tab (length dst.old) (byte_of src.now) }
 {
     let mut i = 0;
     while i < dst.len() {
@@ -342,7 +342,7 @@ fn write_words(src: &[u16], dst: &mut [u8])
 
 // How many groups a font file has.
 fn group_count(version: u8) -> usize
-    ensures { result ≡ groupCount version }
+    ensures { result ≡ group_count version }
 {
     if version == 2 {
         return 16;
@@ -352,7 +352,7 @@ fn group_count(version: u8) -> usize
 
 // How many groups this one has.
 pub fn groups_in(file: &[u8]) -> usize
-    ensures { result ≡ groupCount (versionIn file.now) }
+    ensures { result ≡ group_count (version_in file.now) }
 {
     group_count(version_in(file))
 }
@@ -362,14 +362,14 @@ pub const LONGEST_FONT: usize = 2471;
 
 // How long a font file is.
 fn font_size(version: u8) -> usize
-    ensures { result ≡ fontSize version }
+    ensures { result ≡ font_size version }
 {
     2455 + group_count(version)
 }
 
 // 1, 2, 3, then 12; whether a lent part has a wrong size is the caller's to say.
 fn font_check(file: &[u8], size: bool) -> refusal::Refusal
-    ensures { result ≡ fontCheck file.now size }
+    ensures { result ≡ font_check file.now size }
 {
     let n = font_size(version_in(file)) - 5;
     let refused = file_check(file, 2, n as u32, size);
@@ -381,8 +381,8 @@ fn font_check(file: &[u8], size: bool) -> refusal::Refusal
 
 // The groups of a file of version 2.
 fn read_groups(file: &[u8], groups: &mut [u8])
-    requires { versionIn file.now ≡ 2 → (2471 ≤ length file.now) × (length groups.old ≡ 16) }
-    ensures { groups.new ≡ pick (eqb (versionIn file.now) 2) (fileGroups file.now) groups.old }
+    requires { version_in file.now ≡ 2 → (2471 ≤ length file.now) × (length groups.old ≡ 16) }
+    ensures { groups.new ≡ pick (eqb (version_in file.now) 2) (file_groups file.now) groups.old }
 {
     if version_in(file) == 2 {
         copies::take_from(file, 2455, groups);
@@ -398,7 +398,7 @@ pub fn read_font(
     shifted: &mut [u8],
     groups: &mut [u8],
 ) -> refusal::Refusal
-    ensures { ReadsFont file.now (lentFont words flags unshifted shifted groups) result (leftFont words flags unshifted shifted groups) }
+    ensures { ReadsFont file.now (lent_font words flags unshifted shifted groups) result (left_font words flags unshifted shifted groups) }
 {
     let size = shape::font_refused(words, flags, unshifted, shifted, groups)
         | ((version_in(file) == 2) & (groups.len() == 0));
@@ -416,7 +416,7 @@ pub fn read_font(
 // The words of a font into a font file, from a place on.
 fn put_words(words: &[u16], at: usize, out: &mut [u8])
     requires { (length words.now ≡ 1152) × (at + 2304 ≤ length out.old) }
-    ensures { out.new ≡ put_at at (bytesIn words.now) out.old }
+    ensures { out.new ≡ put_at at (bytes_in words.now) out.old }
 {
     let end = at + 2304;
     write_words(words, &mut out[at..end]);
@@ -434,7 +434,7 @@ fn font_version(groups: usize) -> u8
 
 // The version, and the length in four bytes.
 fn font_head(version: u8) -> [u8; 5]
-    ensures { result ≡ fontHead version }
+    ensures { result ≡ font_head version }
 {
     let n = (font_size(version) - 5) as u16;
     [version, 0, 0, high(n), low(n)]
@@ -449,10 +449,10 @@ fn put_font(
     groups: &[u8],
     out: &mut [u8],
 )
-    requires { Whole (fontNow words flags unshifted shifted groups)
-        × (fontSize (fontVersion (fontNow words flags unshifted shifted groups)) ≤ length out.old) }
-    ensures { out.new ≡ fontFileOf (lentFont words flags unshifted shifted groups)
-        ++ drop (fontSize (fontVersion (lentFont words flags unshifted shifted groups))) out.old }
+    requires { Whole (font_now words flags unshifted shifted groups)
+        × (font_size (font_version (font_now words flags unshifted shifted groups)) ≤ length out.old) }
+    ensures { out.new ≡ font_file_of (lent_font words flags unshifted shifted groups)
+        ++ drop (font_size (font_version (lent_font words flags unshifted shifted groups))) out.old }
 {
     let head = font_head(font_version(groups.len()));
     copies::put(&head, 0, out);
@@ -472,7 +472,7 @@ fn font_write_check(
     groups: &[u8],
     out: usize,
 ) -> refusal::Refusal
-    ensures { result ≡ fontWriteCheck (lentFont words flags unshifted shifted groups) out }
+    ensures { result ≡ font_write_check (lent_font words flags unshifted shifted groups) out }
 {
     if shape::font_refused(words, flags, unshifted, shifted, groups)
         | (out < font_size(font_version(groups.len())))
@@ -491,7 +491,7 @@ pub fn write_font(
     groups: &[u8],
     out: &mut [u8],
 ) -> refusal::Refusal
-    ensures { WritesFont (lentFont words flags unshifted shifted groups) out.old result out.new }
+    ensures { WritesFont (lent_font words flags unshifted shifted groups) out.old result out.new }
 {
     let refused = font_write_check(words, flags, unshifted, shifted, groups, out.len());
     if refusal::is_done(refused) {

@@ -1,9 +1,9 @@
 // Which attributes are valid when a cell is reached (000, field mode), searched back from it.
 ghost use Rattle.std.specs.Prelude.{◌≡◌, true, ℕ, max, ◌<◌, ◌≤◌, length, get_or};
-ghost use Rattle.raster.specs.Latch.{lastSet};
-ghost use Rattle.board.specs.Modes.{fieldMode};
+ghost use Rattle.raster.specs.Latch.{last_set};
+ghost use Rattle.board.specs.Modes.{field_mode};
 ghost use Rattle.latch.specs.Held.{held_at};
-ghost use Rattle.latch.specs.Laws.{rowByte};
+ghost use Rattle.latch.specs.Laws.{row_byte};
 
 fn higher(a: u8, b: u8) -> u8
     ensures { result ≡ max a b }
@@ -26,7 +26,7 @@ fn highest(bytes: &[u8]) -> u8
 
 // The last byte with AFLG, or 0. Most rows have none, which one look at the highest byte tells.
 fn last_set(bytes: &[u8]) -> u8
-    ensures { result ≡ lastSet (λ i. get_or bytes.now i 0) 0 (length bytes.now) }
+    ensures { result ≡ last_set (λ i. get_or bytes.now i 0) 0 (length bytes.now) }
 {
     if highest(bytes) < 128 {
         return 0;
@@ -45,7 +45,7 @@ fn last_set(bytes: &[u8]) -> u8
 // The byte of the last with AFLG of n cells from a cell on, or 0. They are found round the buffer, one by one.
 fn last_round(attrs: &[u8], buffer: raster::Buffer, start: raster::Cell, n: u32) -> u8
     requires { length attrs.now ≡ 16384 }
-    ensures { result ≡ lastSet (rowByte attrs.now buffer start.address) 0 n }
+    ensures { result ≡ last_set (row_byte attrs.now buffer start.address) 0 n }
 {
     let mut left = n;
     while 0 < left {
@@ -62,7 +62,7 @@ fn last_round(attrs: &[u8], buffer: raster::Buffer, start: raster::Cell, n: u32)
 // The same. Cells that are one run are looked at where they stand.
 fn last_in_row(attrs: &[u8], buffer: raster::Buffer, start: raster::Cell, n: u32) -> u8
     requires { length attrs.now ≡ 16384 }
-    ensures { result ≡ lastSet (rowByte attrs.now buffer start.address) 0 n }
+    ensures { result ≡ last_set (row_byte attrs.now buffer start.address) 0 n }
 {
     let count = n as usize;
     if fetch::one_run(buffer, start, count) {
@@ -75,7 +75,7 @@ fn last_in_row(attrs: &[u8], buffer: raster::Buffer, start: raster::Cell, n: u32
 
 // What is valid at the start of a row: the rows above it are looked through, the nearest first.
 fn held_above(p: board::Page, chars: &[u8], attrs: &[u8], row: u32) -> u8
-    requires { (length chars.now ≡ 16384) × (length attrs.now ≡ 16384) × (row < 8192) × (fieldMode p ≡ true) }
+    requires { (length chars.now ≡ 16384) × (length attrs.now ≡ 16384) × (row < 8192) × (field_mode p ≡ true) }
     ensures { result ≡ held_at p chars.now attrs.now row 0 }
 {
     let buffer = timing::buffer_of(p);

@@ -2,13 +2,13 @@
 ghost use Rattle.std.specs.Prelude.{◌≡◌, ◌++◌, ◌*◌, ◌≤◌, ◌<◌, length, drop, ltb, leb};
 ghost use Rattle.lists.specs.Join.{joined};
 ghost use Rattle.units.specs.Units.{lines};
-ghost use Rattle.shape.specs.Font.{lentFont, wordBy};
-ghost use Rattle.timing.specs.Fields.{hactOf, rows_of, visibleOf};
+ghost use Rattle.shape.specs.Font.{lent_font, word_by};
+ghost use Rattle.timing.specs.Fields.{hact_of, rows_of, visible_of};
 ghost use Rattle.timing.specs.Laws.{Accepted};
-ghost use Rattle.dots.specs.Half.{shownOf, fetchedFor};
+ghost use Rattle.dots.specs.Half.{shown_of, fetched_for};
 ghost use Rattle.video.specs.Lent.{Lent};
-ghost use Rattle.line.specs.Line.{rowFor, scanFor, lineLength, drawCheck, DrawsLine};
-ghost use Rattle.line.specs.Walk.{last_of, walk_of, heldFor, dotsFor, columnFor, shapedOver, Ready};
+ghost use Rattle.line.specs.Line.{row_for, scan_for, line_length, draw_check, DrawsLine};
+ghost use Rattle.line.specs.Walk.{last_of, walk_of, held_for, dots_for, column_for, shaped_over, Ready};
 
 // What is the same for all cells of a line: what its scan line takes from the font, and the width of a cell.
 #[derive(Drop)]
@@ -22,7 +22,7 @@ fn put(out: &mut [u8], w: Walk, looks: &[u8], words: &[u16], flags: &[u8], numbe
     requires looks_len { (length looks.now ≡ 128) × (length words.now ≡ 1152) × (length flags.now ≡ 128) × (number < 65536) }
     requires d_value { (d ≡ w.width.0) × (6 ≤ d) × (d ≤ 12) × (d ≤ length out.old) }
     ensures { out.new
-        ≡ dotsFor w looks.now words.now flags.now number ++ drop w.width.0 out.old }
+        ≡ dots_for w looks.now words.now flags.now number ++ drop w.width.0 out.old }
 {
     let mark = (number / 512) as usize;
     let levels = looks[mark];
@@ -37,7 +37,7 @@ fn cells(out: &mut [u8], w: Walk, row: &[u16], looks: &[u8], words: &[u16], flag
     requires ready { Ready w row.now looks.now words.now flags.now n }
     requires width_in_bounds { n * w.width.0 ≤ length out.old }
     ensures { out.new
-        ≡ joined 0 n (columnFor w row.now looks.now words.now flags.now)
+        ≡ joined 0 n (column_for w row.now looks.now words.now flags.now)
         ++ drop (n * w.width.0) out.old }
 {
     let d = w.width.places();
@@ -60,10 +60,10 @@ fn columns(
     flags: &[u8],
     n: units::Clocks,
 )
-    requires ready { Ready w row.now looks.now words.now flags.now (fetchedFor wide n.0) × (n.0 ≤ 256) }
+    requires ready { Ready w row.now looks.now words.now flags.now (fetched_for wide n.0) × (n.0 ≤ 256) }
     requires width_in_bounds { n.0 * w.width.0 ≤ length out.old }
     ensures { out.new
-        ≡ joined 0 n.0 (shownOf wide (columnFor w row.now looks.now words.now flags.now))
+        ≡ joined 0 n.0 (shown_of wide (column_for w row.now looks.now words.now flags.now))
         ++ drop (n.0 * w.width.0) out.old }
 {
     if wide {
@@ -88,7 +88,7 @@ fn walk_of(p: board::Page, line: shape::FontLine) -> Walk
 // What is valid before a row, as far as it counts. A row whose first cell sets attributes needs no search.
 fn held_for(p: board::Page, chars: &[u8], attrs: &[u8], row: u32, start: raster::Cell) -> u8
     requires { (length chars.now ≡ 16384) × (length attrs.now ≡ 16384) × (row < 8192) × (start.address < 16384) }
-    ensures { result ≡ heldFor p chars.now attrs.now row start.address }
+    ensures { result ≡ held_for p chars.now attrs.now row start.address }
 {
     let first = attrs[start.address as usize];
     if first < 128 {
@@ -100,7 +100,7 @@ fn held_for(p: board::Page, chars: &[u8], attrs: &[u8], row: u32, start: raster:
 // 7 for a line that is not visible, 8 for a buffer that is too short; of an accepted page the line's dots are few enough to count.
 fn line_check(p: board::Page, line: units::Lines, room: usize) -> refusal::Refusal
     requires { Accepted p }
-    ensures { result ≡ last_of (leb (visibleOf p).0 line.0) (ltb room (hactOf p * p.video.dots.0)) }
+    ensures { result ≡ last_of (leb (visible_of p).0 line.0) (ltb room (hact_of p * p.video.dots.0)) }
 {
     let t = timing::timing_of(p);
     if timing::visible_of(p).at_most(line) {
@@ -118,7 +118,7 @@ fn draw_check(
     line: units::Lines,
     room: usize,
 ) -> refusal::Refusal
-    ensures { result ≡ drawCheck b lent line.0 room }
+    ensures { result ≡ draw_check b lent line.0 room }
 {
     let refused = timing::call_check(b, lent, false, false);
     if refusal::is_done(refused) {
@@ -129,8 +129,8 @@ fn draw_check(
 
 // The scan line that a visible line shows.
 pub fn scan_for(b: board::Board, chars: &[u8], line: units::Lines) -> units::Lines
-    requires { (length chars.now ≡ 16384) × (rowFor b line.0 < rows_of b.page) }
-    ensures { result ≡ lines (scanFor b chars.now line.0) }
+    requires { (length chars.now ≡ 16384) × (row_for b line.0 < rows_of b.page) }
+    ensures { result ≡ lines (scan_for b chars.now line.0) }
 {
     let page = b.page;
     let row = timing::row_of(page, line);
@@ -152,9 +152,9 @@ pub fn whole_line(
     field: u8,
 )
     requires lent { Lent b chars.now attrs.now words.now flags.now }
-    requires scan_value { (scan ≡ lines (scanFor b chars.now line.0)) × (rowFor b line.0 < rows_of b.page) × (lineLength b ≤ length out.old) }
+    requires scan_value { (scan ≡ lines (scan_for b chars.now line.0)) × (row_for b line.0 < rows_of b.page) × (line_length b ≤ length out.old) }
     ensures { out.new
-        ≡ shapedOver b chars.now attrs.now (wordBy words.now flags.now font)
+        ≡ shaped_over b chars.now attrs.now (word_by words.now flags.now font)
         line.0 field out.old }
 {
     let page = b.page;
@@ -205,7 +205,7 @@ pub fn draw_line(
     field: u8,
     out: &mut [u8],
 ) -> refusal::Refusal
-    ensures { DrawsLine b chars.now attrs.now (lentFont words flags unshifted shifted groups)
+    ensures { DrawsLine b chars.now attrs.now (lent_font words flags unshifted shifted groups)
         line.0 field out.old result out.new }
 {
     let lent = video::lent_check(chars, attrs, words, flags, unshifted, shifted, groups);

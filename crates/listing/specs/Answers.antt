@@ -8,19 +8,19 @@ use Rattle.refusal.specs.declared.Refusal.TheVariants.{Done}
 use Rattle.refusal.specs.Number.{done_of}
 use Rattle.refusal.specs.Laws.{done-is}
 use Rattle.listing.specs.declared.Listed.{Listed}
-use Rattle.listing.specs.Listing.{listed_of, listedIn}
+use Rattle.listing.specs.Listing.{listed_of, listed_in}
 
 abbrev pub listed : Refusal → ℕ → Listed
 listed r n = record { refusal = r; count = n }
 
 module _ (r x : Refusal) (bytes out₀ : List ℕ) (e : r ≡ x) where
-  pub refused-so : done_of x ≡ false → (l : Listed) → l ≡ listed r 0 → (l ≡ listed_of x bytes) × (out₀ ≡ listedIn x bytes out₀)
-  unfolding listed_of listedIn
+  pub refused-so : done_of x ≡ false → (l : Listed) → l ≡ listed r 0 → (l ≡ listed_of x bytes) × (out₀ ≡ listed_in x bytes out₀)
+  unfolding listed_of listed_in
   refused-so t l q = rw (← e, ap done_of e ∙ t) (q, refl)
 
   pub done-so : done_of x ≡ true → (out : List ℕ) (n : ℕ) → length bytes ≡ n → out ≡ bytes ++ drop n out₀
-      → (listed r n ≡ listed_of x bytes) × (out ≡ listedIn x bytes out₀)
-  unfolding listed_of listedIn
+      → (listed r n ≡ listed_of x bytes) × (out ≡ listed_in x bytes out₀)
+  unfolding listed_of listed_in
   done-so t out n l q = rw (e, t, l) (refl, q)
 
 -- what was written lies in the buffer

@@ -8,13 +8,13 @@ use Rattle.io.specs.Digits.{last_digits, IsDigitCount}
 use Rattle.listing.specs.declared.Digits.{Digits}
 
 -- the last digit, and before it those of the tenth where there are any; `most` bounds how many
-unfoldable pub digitsBy : (most n : ℕ) → List ℕ
-digitsBy zero n = []
-digitsBy (suc most) n = pick (ltb n 10) [] (digitsBy most (n / 10)) ++ ((48 + n % 10) ∷ [])
+unfoldable pub digits_by : (most n : ℕ) → List ℕ
+digits_by zero n = []
+digits_by (suc most) n = pick (ltb n 10) [] (digits_by most (n / 10)) ++ ((48 + n % 10) ∷ [])
 
 -- the digits from the most significant on, with no zero in front; n has at most n + 1
 unfoldable pub decimal : ℕ → List ℕ
-decimal n = digitsBy (suc n) n
+decimal n = digits_by (suc n) n
 
 -- ---- a number below 10 ^ (k + 1) has at most k + 1 digits
 
@@ -22,12 +22,12 @@ pick-short : (t : Bool) (l : List ℕ) (k : ℕ) → length l ≤ k → length (
 pick-short true l k h = zero-le
 pick-short false l k h = h
 
-digits-short : (k most n : ℕ) → n < 10 ^ suc k → length (digitsBy most n) ≤ suc k
-unfolding digitsBy
+digits-short : (k most n : ℕ) → n < 10 ^ suc k → length (digits_by most n) ≤ suc k
+unfolding digits_by
 digits-short k zero n h = zero-le
 digits-short zero (suc most) n h = rw (lt-ltb n 10 h) (omega arith)
 digits-short (suc k) (suc most) n h =
-    let l = digitsBy most (n / 10) in
+    let l = digits_by most (n / 10) in
     rw (length-append (pick (ltb n 10) [] l) ((48 + n % 10) ∷ []))
     (omega (arith, pick-short (ltb n 10) l (suc k) (digits-short k most (n / 10) (omega (arith, pow-suc 10 (suc k))))))
 
@@ -42,8 +42,8 @@ below_power zero = omega arith
 below_power (suc k) = omega (arith, pow-suc 10 k, below_power k)
 
 -- k + 1 digits, where n has no fewer
-same_digits : (k most n : ℕ) → k ≤ most → n < 10 ^ suc k → (0 < k → 10 ^ k ≤ n) → last_digits 10 (suc k) n ≡ digitsBy (suc most) n
-unfolding digitsBy
+same_digits : (k most n : ℕ) → k ≤ most → n < 10 ^ suc k → (0 < k → 10 ^ k ≤ n) → last_digits 10 (suc k) n ≡ digits_by (suc most) n
+unfolding digits_by
 same_digits zero most n l h g = rw (lt-ltb n 10 h, lt-ltb (n % 10) 10 (omega arith))
 same_digits (suc k) zero n l h g = absurd (omega arith)
 same_digits (suc k) (suc most) n l h g =

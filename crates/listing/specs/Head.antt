@@ -10,49 +10,49 @@ use Rattle.refusal.specs.Number.{done_of}
 use Rattle.refusal.specs.Laws.{passed, not-refused}
 use Rattle.board.specs.declared.Page.{Page}
 use Rattle.timing.specs.declared.PageSize.{PageSize}
-use Rattle.timing.specs.Check.{pageCheck, size_of}
+use Rattle.timing.specs.Check.{page_check, size_of}
 use Rattle.listing.specs.declared.Digits.{Digits}
 use Rattle.listing.specs.declared.Listed.{Listed}
 use Rattle.listing.specs.Decimal.{Spelled}
-use Rattle.listing.specs.Listing.{lineFeed, space, listingHead, headCheck, listed_of, listedIn}
+use Rattle.listing.specs.Listing.{line_feed, space, listing_head, head_check, listed_of, listed_in}
 use Rattle.listing.specs.Bytes.{two-parts}
 use Rattle.listing.specs.Answers.{listed, refused-so, done-so, listed-within}
 
-pub head-fits : (p : Page) (room : ℕ) → pageCheck p ≡ Done → length (listingHead p) ≤ room → headCheck p room ≡ Done
-unfolding headCheck
-head-fits p room e h = rw (e, le-ltb room (length (listingHead p)) h)
+pub head-fits : (p : Page) (room : ℕ) → page_check p ≡ Done → length (listing_head p) ≤ room → head_check p room ≡ Done
+unfolding head_check
+head-fits p room e h = rw (e, le-ltb room (length (listing_head p)) h)
 
-pub head-within : (p : Page) (room : ℕ) → (listed_of (headCheck p room) (listingHead p)).count ≤ room
-unfolding headCheck
+pub head-within : (p : Page) (room : ℕ) → (listed_of (head_check p room) (listing_head p)).count ≤ room
+unfolding head_check
 head-within p room =
-    let t = ltb room (length (listingHead p)) in
-    listed-within (headCheck p room) (listingHead p) room
-    (λ e. ltb-false room (length (listingHead p)) (passed t Room Done refl (not-refused (pageCheck p) (pick t Room Done) e).1).0)
+    let t = ltb room (length (listing_head p)) in
+    listed-within (head_check p room) (listing_head p) room
+    (λ e. ltb-false room (length (listing_head p)) (passed t Room Done refl (not-refused (page_check p) (pick t Room Done) e).1).0)
 
 -- an accepted page's size, and its two numbers in digits
 pub record Measured (p : Page) (size : PageSize) (l d : Digits) : Type 0 where
-  pub page : pageCheck p ≡ Done
+  pub page : page_check p ≡ Done
   pub whole : size ≡ size_of p
   pub lines : Spelled l size.lines.0
   pub dots : Spelled d size.dots.0
 
 module _ (p : Page) (out : List ℕ) where
   abbrev check : Refusal
-  check = headCheck p (length out)
+  check = head_check p (length out)
 
-  pub head-refused : (r : Refusal) → r ≡ pageCheck p → done_of (pageCheck p) ≡ false → (x : Listed) → x ≡ listed r 0
-      → (x ≡ listed_of check (listingHead p)) × (out ≡ listedIn check (listingHead p) out)
-  unfolding headCheck
+  pub head-refused : (r : Refusal) → r ≡ page_check p → done_of (page_check p) ≡ false → (x : Listed) → x ≡ listed r 0
+      → (x ≡ listed_of check (listing_head p)) × (out ≡ listed_in check (listing_head p) out)
+  unfolding head_check
   head-refused r e t x q =
-      let same : check ≡ pageCheck p = rw t in
-      refused-so r check (listingHead p) out (e ∙ sym same) (ap done_of same ∙ t) x q
+      let same : check ≡ page_check p = rw t in
+      refused-so r check (listing_head p) out (e ∙ sym same) (ap done_of same ∙ t) x q
 
   module _ (size : PageSize) (l d : Digits) (m : Measured p size l d) where
     abbrev first : List ℕ
     first = take l.count l.bytes ++ (space ∷ [])
 
     abbrev second : List ℕ
-    second = take d.count d.bytes ++ (lineFeed ∷ [])
+    second = take d.count d.bytes ++ (line_feed ∷ [])
 
     abbrev a : ℕ
     a = l.count + 1
@@ -60,8 +60,8 @@ module _ (p : Page) (out : List ℕ) where
     abbrev n : ℕ
     n = l.count + 1 + d.count + 1
 
-    is-head : first ++ second ≡ listingHead p
-    unfolding listingHead
+    is-head : first ++ second ≡ listing_head p
+    unfolding listing_head
     is-head = rw (m.lines.front, m.dots.front, m.whole)
 
     length-first : length first ≡ a
@@ -70,20 +70,20 @@ module _ (p : Page) (out : List ℕ) where
     length-second : length second ≡ d.count + 1
     length-second = simp (length-append, length-take) (omega (arith, m.dots.digits-within))
 
-    length-head : length (listingHead p) ≡ n
+    length-head : length (listing_head p) ≡ n
     length-head = rw (← is-head, length-append first second, length-first, length-second) (omega arith)
 
-    pub head-short : length out < n → (x : Listed) → x ≡ listed Room 0 → (x ≡ listed_of check (listingHead p)) × (out ≡ listedIn check (listingHead p) out)
-    unfolding headCheck
+    pub head-short : length out < n → (x : Listed) → x ≡ listed Room 0 → (x ≡ listed_of check (listing_head p)) × (out ≡ listed_in check (listing_head p) out)
+    unfolding head_check
     head-short h x q =
-        let short : check ≡ Room = rw (m.page, lt-ltb (length out) (length (listingHead p)) (omega (arith, length-head))) in
-        refused-so Room check (listingHead p) out (sym short) (ap done_of short) x q
+        let short : check ≡ Room = rw (m.page, lt-ltb (length out) (length (listing_head p)) (omega (arith, length-head))) in
+        refused-so Room check (listing_head p) out (sym short) (ap done_of short) x q
 
-    pub head-put : (r : Refusal) (x y : List ℕ) → r ≡ pageCheck p → n ≤ length out
+    pub head-put : (r : Refusal) (x y : List ℕ) → r ≡ page_check p → n ≤ length out
         → x ≡ first ++ drop a out → y ≡ second ++ drop (d.count + 1) (take (length x - a) (drop a x))
-        → (listed r n ≡ listed_of check (listingHead p)) × (take a x ++ (y ++ drop (length x - a) (drop a x)) ≡ listedIn check (listingHead p) out)
+        → (listed r n ≡ listed_of check (listing_head p)) × (take a x ++ (y ++ drop (length x - a) (drop a x)) ≡ listed_in check (listing_head p) out)
     head-put r x y e h ex ey =
         let fits : check ≡ Done = head-fits p (length out) m.page (omega (arith, length-head)) in
         let same : a + (d.count + 1) ≡ n = omega arith in
-        done-so r check (listingHead p) out (e ∙ (m.page ∙ sym fits)) (ap done_of fits) _ n length-head
+        done-so r check (listing_head p) out (e ∙ (m.page ∙ sym fits)) (ap done_of fits) _ n length-head
         (two-parts out x y first second a (d.count + 1) length-first (omega arith) ex ey ∙ rw (is-head, same))

@@ -10,22 +10,22 @@ use Rattle.refusal.specs.Number.{done_of}
 use Rattle.refusal.specs.Laws.{done-is, passed, not-refused}
 use Rattle.board.specs.declared.Board.{Board}
 use Rattle.timing.specs.declared.PageSize.{PageSize}
-use Rattle.timing.specs.Fields.{hactOf, visibleOf}
-use Rattle.timing.specs.Check.{pageCheck, size_of, callCheck}
+use Rattle.timing.specs.Fields.{hact_of, visible_of}
+use Rattle.timing.specs.Check.{page_check, size_of, call_check}
 use Rattle.timing.specs.Laws.{Accepted, accepted, call-passed, asked-last}
 use Rattle.shape.specs.Font.{Font}
 use Rattle.line.specs.Length.{length-line}
-use Rattle.video.specs.At.{lentCheck}
-use Rattle.line.specs.Line.{lineDots, lineLength, drawCheck, drawnOf}
+use Rattle.video.specs.At.{lent_check}
+use Rattle.line.specs.Line.{line_dots, line_length, draw_check, drawn_of}
 use Rattle.listing.specs.declared.Listed.{Listed}
-use Rattle.listing.specs.Listing.{lineFeed, letterOf, listingLine, lineCheck, listed_of, listedIn}
+use Rattle.listing.specs.Listing.{line_feed, letter_of, listing_line, line_check, listed_of, listed_in}
 use Rattle.listing.specs.Answers.{listed, refused-so, done-so, listed-within}
 
 -- ---- the check: drawing into all but one byte is refused as the line is
 
-line-some : (b : Board) → Accepted b.page → 0 < lineLength b
+line-some : (b : Board) → Accepted b.page → 0 < line_length b
 line-some b a =
-    let h : 1 ≤ hactOf b.page = omega arith in
+    let h : 1 ≤ hact_of b.page = omega arith in
     omega (arith, mul-le-mul h a.least)
 
 one_less : (room n : ℕ) → 0 < n → ltb (room - 1) n ≡ ltb room (n + 1)
@@ -35,59 +35,59 @@ one_less room n h = go (ltb room (n + 1)) refl
     go true e = lt-ltb (room - 1) n (omega (arith, ltb-true room (n + 1) e))
     go false e = le-ltb (room - 1) n (omega (arith, ltb-false room (n + 1) e))
 
-feed-kept : (b : Board) (lent : Refusal) (line room : ℕ) → drawCheck b lent line (room - 1) ≡ lineCheck b lent line room
-unfolding drawCheck lineCheck
-feed-kept b lent line room = asked-last b lent _ _ _ _ (λ e. (refl, one_less room (lineLength b) (line-some b (accepted b.page e))))
+feed-kept : (b : Board) (lent : Refusal) (line room : ℕ) → draw_check b lent line (room - 1) ≡ line_check b lent line room
+unfolding draw_check line_check
+feed-kept b lent line room = asked-last b lent _ _ _ _ (λ e. (refl, one_less room (line_length b) (line-some b (accepted b.page e))))
 
 -- ---- its length
 
 module _ (b : Board) (chars attrs : List ℕ) (f : Font) (line field : ℕ) (a : Accepted b.page) where
-  pub length-listing : length (listingLine b chars attrs f line field) ≡ lineLength b + 1
-  unfolding listingLine
+  pub length-listing : length (listing_line b chars attrs f line field) ≡ line_length b + 1
+  unfolding listing_line
   length-listing = simp (length-append, length-map, length-line b chars attrs f line field a)
 
 -- ---- a line that nothing refuses
 
 pub record Fitting (b : Board) (room : ℕ) : Type 0 where
-  pub long : (size_of b.page).dots.0 ≡ lineLength b
+  pub long : (size_of b.page).dots.0 ≡ line_length b
   pub page : Accepted b.page
-  pub roomy : lineLength b + 1 ≤ room
+  pub roomy : line_length b + 1 ≤ room
 
-line-passed : (b : Board) (lent : Refusal) (line room : ℕ) → lineCheck b lent line room ≡ Done → Fitting b room
-unfolding lineCheck callCheck size_of
+line-passed : (b : Board) (lent : Refusal) (line room : ℕ) → line_check b lent line room ≡ Done → Fitting b room
+unfolding line_check call_check size_of
 line-passed b lent line room e =
-    let k = call-passed b lent (leb (visibleOf b.page).0 line) (ltb room (lineLength b + 1)) e in
-    let p = not-refused (pageCheck b.page) _ (not-refused lent _ e).1 in
-    record { long = rw p.0; page = k.page; roomy = ltb-false room (lineLength b + 1) k.roomy }
+    let k = call-passed b lent (leb (visible_of b.page).0 line) (ltb room (line_length b + 1)) e in
+    let p = not-refused (page_check b.page) _ (not-refused lent _ e).1 in
+    record { long = rw p.0; page = k.page; roomy = ltb-false room (line_length b + 1) k.roomy }
 
 pub line-within : (b : Board) (chars attrs : List ℕ) (f : Font) (lent : Refusal) (line field room : ℕ)
-    → (listed_of (lineCheck b lent line room) (listingLine b chars attrs f line field)).count ≤ room
+    → (listed_of (line_check b lent line room) (listing_line b chars attrs f line field)).count ≤ room
 line-within b chars attrs f lent line field room =
-    listed-within (lineCheck b lent line room) (listingLine b chars attrs f line field) room (λ e.
+    listed-within (line_check b lent line room) (listing_line b chars attrs f line field) room (λ e.
     let k = line-passed b lent line room e in
     omega (arith, length-listing b chars attrs f line field k.page, k.roomy))
 
 -- ---- what the call leaves: the drawer, which answered r, was lent the first k bytes, all but one, and left `part` there
 
 module _ (b : Board) (chars attrs : List ℕ) (f : Font) (line field : ℕ) (out : List ℕ) (k : ℕ) (less : k ≡ length out - 1) (r : Refusal) (part : List ℕ)
-    (drew : (r ≡ drawCheck b (lentCheck chars attrs f) line (length (take k out))) × (part ≡ drawnOf b chars attrs f line field (take k out))) where
+    (drew : (r ≡ draw_check b (lent_check chars attrs f) line (length (take k out))) × (part ≡ drawn_of b chars attrs f line field (take k out))) where
   abbrev check : Refusal
-  check = lineCheck b (lentCheck chars attrs f) line (length out)
+  check = line_check b (lent_check chars attrs f) line (length out)
 
   abbrev dots : List ℕ
-  dots = lineDots b chars attrs f line field
+  dots = line_dots b chars attrs f line field
 
   abbrev bytes : List ℕ
-  bytes = listingLine b chars attrs f line field
+  bytes = listing_line b chars attrs f line field
 
   length-lent : length (take k out) ≡ length out - 1
   length-lent = simp length-take (omega arith)
 
   same : r ≡ check
-  same = drew.0 ∙ rw length-lent (feed-kept b (lentCheck chars attrs f) line (length out))
+  same = drew.0 ∙ rw length-lent (feed-kept b (lent_check chars attrs f) line (length out))
 
-  pub line_refused : done_of r ≡ false → (l : Listed) → l ≡ listed r 0 → (l ≡ listed_of check bytes) × (part ++ drop k out ≡ listedIn check bytes out)
-  unfolding drawnOf
+  pub line_refused : done_of r ≡ false → (l : Listed) → l ≡ listed r 0 → (l ≡ listed_of check bytes) × (part ++ drop k out ≡ listed_in check bytes out)
+  unfolding drawn_of
   line_refused t l q =
       let left : part ≡ take k out = drew.1 ∙ rw (← drew.0, t) in
       let so = refused-so r check bytes out same (ap done_of (sym same) ∙ t) l q in
@@ -98,9 +98,9 @@ module _ (b : Board) (chars attrs : List ℕ) (f : Font) (line field : ℕ) (out
     n = size.dots.0
 
     fitting : Fitting b (length out)
-    fitting = line-passed b (lentCheck chars attrs f) line (length out) (sym same ∙ done-is r t)
+    fitting = line-passed b (lent_check chars attrs f) line (length out) (sym same ∙ done-is r t)
 
-    long : lineLength b ≡ n
+    long : line_length b ≡ n
     long = rw whole (sym fitting.long)
 
     length-dots : length dots ≡ n
@@ -111,7 +111,7 @@ module _ (b : Board) (chars attrs : List ℕ) (f : Font) (line field : ℕ) (out
 
     -- the whole buffer once the line was drawn
     drawn : part ++ drop k out ≡ dots ++ drop n out
-    unfolding drawnOf
+    unfolding drawn_of
     drawn =
         let left : part ≡ dots ++ drop n (take k out) = drew.1 ∙ rw (← drew.0, t, long) in
         rw (left, append_assoc dots (drop n (take k out)) (drop k out), ← drop-append-le n (take k out) (drop k out) (omega (arith, length-lent, roomy)), take-append-drop k out)
@@ -119,9 +119,9 @@ module _ (b : Board) (chars attrs : List ℕ) (f : Font) (line field : ℕ) (out
     pub line-fits : n < length (part ++ drop k out)
     line-fits = rw (drawn, length-append dots (drop n out), length-drop n out, length-dots) (omega (arith, roomy))
 
-    pub line-put : (x : List ℕ) → x ≡ (map letterOf (take n (part ++ drop k out)) ++ (lineFeed ∷ [])) ++ drop (n + 1) (part ++ drop k out)
-        → (listed r (n + 1) ≡ listed_of check bytes) × (x ≡ listedIn check bytes out)
-    unfolding listingLine
+    pub line-put : (x : List ℕ) → x ≡ (map letter_of (take n (part ++ drop k out)) ++ (line_feed ∷ [])) ++ drop (n + 1) (part ++ drop k out)
+        → (listed r (n + 1) ≡ listed_of check bytes) × (x ≡ listed_in check bytes out)
+    unfolding listing_line
     line-put x e =
         done-so r check bytes out same (ap done_of (sym same) ∙ t) x (n + 1) (rw (← long) (length-listing b chars attrs f line field fitting.page))
         (e ∙ rw (drawn, take_at dots (drop n out) n length-dots, ← drop-drop 1 n (dots ++ drop n out), drop_at dots (drop n out) n length-dots, drop-drop 1 n out))

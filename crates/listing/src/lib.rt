@@ -1,9 +1,9 @@
 // 01's listing as bytes, line by line.
 ghost use Rattle.std.specs.Prelude.{◌≡◌, [], ◌∷◌, ◌++◌, map, ◌+◌, ◌-◌, ◌≤◌, ◌<◌, length, take, drop};
-ghost use Rattle.shape.specs.Font.{lentFont};
+ghost use Rattle.shape.specs.Font.{lent_font};
 ghost use Rattle.listing.specs.Decimal.{Spelled};
 ghost use Rattle.listing.specs.Answers.{listed};
-ghost use Rattle.listing.specs.Listing.{lineFeed, letterOf, ListsHead, ListsLine};
+ghost use Rattle.listing.specs.Listing.{line_feed, letter_of, ListsHead, ListsLine};
 
 // How many bytes were written.
 #[derive(Drop)]
@@ -76,7 +76,7 @@ pub fn listing_head(p: board::Page, out: &mut [u8]) -> Listed
 }
 
 fn letter_of(level: u8) -> u8
-    ensures { result ≡ letterOf level }
+    ensures { result ≡ letter_of level }
 {
     match level {
         0 => b'.',
@@ -87,7 +87,7 @@ fn letter_of(level: u8) -> u8
 
 // Turns levels to marks where they stand.
 fn mark_all(levels: &mut [u8])
-    ensures { levels.new ≡ map letterOf levels.old }
+    ensures { levels.new ≡ map letter_of levels.old }
 {
     let mut i = 0;
     while i < levels.len() {
@@ -99,7 +99,7 @@ fn mark_all(levels: &mut [u8])
 // The first n levels as marks, and a line feed after them.
 fn finish_line(out: &mut [u8], n: usize)
     requires { n < length out.old }
-    ensures { out.new ≡ (map letterOf (take n out.old) ++ (lineFeed ∷ [])) ++ drop (n + 1) out.old }
+    ensures { out.new ≡ (map letter_of (take n out.old) ++ (line_feed ∷ [])) ++ drop (n + 1) out.old }
 {
     mark_all(&mut out[..n]);
     out[n] = b'\n';
@@ -127,7 +127,7 @@ pub fn listing_line(
     out: &mut [u8],
 ) -> Listed
     ensures { ListsLine b chars.now attrs.now
-        (lentFont words flags unshifted shifted groups) line.0 field out.old result out.new }
+        (lent_font words flags unshifted shifted groups) line.0 field out.old result out.new }
 {
     let room = room_for_dots(out.len());
     let refused = line::draw_line(

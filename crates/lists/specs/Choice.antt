@@ -19,8 +19,8 @@ abbrev pub within : ℕ → ℕ → ℕ → Bool
 within lo hi a = leb lo a && leb a hi
 
 -- the bit of a weight, of switches or of attributes
-abbrev pub hasBit : (byte weight : ℕ) → Bool
-hasBit byte weight = eqb (byte / weight % 2) 1
+abbrev pub has_bit : (byte weight : ℕ) → Bool
+has_bit byte weight = eqb (byte / weight % 2) 1
 
 -- a proof that the test holds, or does not, and of the branch that is left; `_` stands for the other branch
 pub stop : {A : Type 0} {t : Bool} {a x : A} (b : A) → t ≡ true → x ≡ a → x ≡ pick t a b

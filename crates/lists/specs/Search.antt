@@ -16,14 +16,14 @@ use native.Mathlib.Omega.{arith}
 use borrow.Author.Tests.{lt-ltb, le-ltb}
 use Rattle.lists.specs.Choice.{pick, neither}
 
-unfoldable pub anyBelow : (t : ℕ → Bool) → (n : ℕ) → Bool
-anyBelow t zero = false
-anyBelow t (suc n) = anyBelow t n || t n
+unfoldable pub any_below : (t : ℕ → Bool) → (n : ℕ) → Bool
+any_below t zero = false
+any_below t (suc n) = any_below t n || t n
 
 -- n where none passes
-unfoldable pub firstBelow : (t : ℕ → Bool) → (n : ℕ) → ℕ
-firstBelow t zero = zero
-firstBelow t (suc n) = pick (ltb (firstBelow t n) n) (firstBelow t n) (pick (t n) n (suc n))
+unfoldable pub first_below : (t : ℕ → Bool) → (n : ℕ) → ℕ
+first_below t zero = zero
+first_below t (suc n) = pick (ltb (first_below t n) n) (first_below t n) (pick (t n) n (suc n))
 
 or-true : (s : Bool) → (s || true) ≡ true
 or-true true = refl
@@ -34,60 +34,60 @@ or-false true = refl
 or-false false = refl
 
 module _ (t : ℕ → Bool) where
-  pub any_none : (n : ℕ) → ((i : ℕ) → i < n → t i ≡ false) → anyBelow t n ≡ false
-  unfolding anyBelow
+  pub any_none : (n : ℕ) → ((i : ℕ) → i < n → t i ≡ false) → any_below t n ≡ false
+  unfolding any_below
   any_none zero h = refl
   any_none (suc n) h = rw (any_none n (λ i l. h i (omega arith)), h n (omega arith))
 
-  pub any_some : (n i : ℕ) → i < n → t i ≡ true → anyBelow t n ≡ true
-  unfolding anyBelow
+  pub any_some : (n i : ℕ) → i < n → t i ≡ true → any_below t n ≡ true
+  unfolding any_below
   any_some zero i l e = absurd (omega arith)
   any_some (suc n) i l e = ⊎_elim last (λ k. rw (any_some n i k e)) (eq-or-lt_of_le (le_of_suc-le-suc l))
     where
-      last : i ≡ n → (anyBelow t n || t n) ≡ true
-      last q = rw (← q, e) (or-true (anyBelow t i))
+      last : i ≡ n → (any_below t n || t n) ≡ true
+      last q = rw (← q, e) (or-true (any_below t i))
 
-  pub none_of : (n : ℕ) → anyBelow t n ≡ false → (i : ℕ) → i < n → t i ≡ false
-  unfolding anyBelow
+  pub none_of : (n : ℕ) → any_below t n ≡ false → (i : ℕ) → i < n → t i ≡ false
+  unfolding any_below
   none_of zero e i l = absurd (omega arith)
   none_of (suc n) e i l =
-      let q = neither (anyBelow t n) (t n) e in
+      let q = neither (any_below t n) (t n) e in
       ⊎_elim (λ k. rw k q.1) (none_of n q.0 i) (eq-or-lt_of_le (le_of_suc-le-suc l))
 
   -- one number more
   abbrev next : (n k : ℕ) → Bool → ℕ
   next n k u = pick (ltb k n) k (pick u n (suc n))
 
-  pub first-le : (n : ℕ) → firstBelow t n ≤ n
-  unfolding firstBelow
+  pub first-le : (n : ℕ) → first_below t n ≤ n
+  unfolding first_below
   first-le zero = omega arith
-  first-le (suc n) = go (firstBelow t n) (dec_lt (firstBelow t n) n) (t n)
+  first-le (suc n) = go (first_below t n) (dec_lt (first_below t n) n) (t n)
     where
       go : (k : ℕ) → Dec (k < n) → (u : Bool) → next n k u ≤ suc n
       go k (yes l) u = rw (lt-ltb k n l) (omega (arith, l))
       go k (no f) true = rw (le-ltb k n (omega (arith, f))) (omega arith)
       go k (no f) false = rw (le-ltb k n (omega (arith, f))) (omega arith)
 
-  pub first-none : (n : ℕ) → ((i : ℕ) → i < n → t i ≡ false) → firstBelow t n ≡ n
-  unfolding firstBelow
+  pub first-none : (n : ℕ) → ((i : ℕ) → i < n → t i ≡ false) → first_below t n ≡ n
+  unfolding first_below
   first-none zero h = refl
   first-none (suc n) h = rw (first-none n (λ i l. h i (omega arith)), le-ltb n n (omega arith), h n (omega arith))
 
-  pub first-at : (n k : ℕ) → k < n → t k ≡ true → ((i : ℕ) → i < k → t i ≡ false) → firstBelow t n ≡ k
-  unfolding firstBelow
+  pub first-at : (n k : ℕ) → k < n → t k ≡ true → ((i : ℕ) → i < k → t i ≡ false) → first_below t n ≡ k
+  unfolding first_below
   first-at zero k l e h = absurd (omega arith)
   first-at (suc n) k l e h = go (λ m. first-at n k m e h) (dec_lt k n)
     where
-      go : (k < n → firstBelow t n ≡ k) → Dec (k < n) → next n (firstBelow t n) (t n) ≡ k
+      go : (k < n → first_below t n ≡ k) → Dec (k < n) → next n (first_below t n) (t n) ≡ k
       go before (yes m) = rw (before m, lt-ltb k n m)
       go before (no f) =
           let q : n ≡ k = omega (arith, l, f) in
           rw (q, first-none k h, le-ltb k k (omega arith), e)
 
-  pub first-not : (n : ℕ) → firstBelow t n ≡ n → (i : ℕ) → i < n → t i ≡ false
-  unfolding firstBelow
+  pub first-not : (n : ℕ) → first_below t n ≡ n → (i : ℕ) → i < n → t i ≡ false
+  unfolding first_below
   first-not zero e i l = absurd (omega arith)
-  first-not (suc n) e i l = go (firstBelow t n) (dec_lt (firstBelow t n) n) (t n) refl e (λ q. first-not n q i) (first-le n)
+  first-not (suc n) e i l = go (first_below t n) (dec_lt (first_below t n) n) (t n) refl e (λ q. first-not n q i) (first-le n)
     where
       go : (k : ℕ) → Dec (k < n) → (u : Bool) → t n ≡ u → next n k u ≡ suc n → (k ≡ n → i < n → t i ≡ false) → k ≤ n → t i ≡ false
       go k (yes m) u q e before h = absurd (let z : k ≡ suc n = rw (lt-ltb k n m) at e in omega (arith, z, m))
@@ -98,10 +98,10 @@ module _ (t : ℕ → Bool) where
           at (yes m) = before (omega (arith, f, h)) m
           at (no g) = let z : i ≡ n = omega (arith, l, g) in rw z q
 
-  pub first-is : (n : ℕ) → firstBelow t n < n → (t (firstBelow t n) ≡ true) × ((i : ℕ) → i < firstBelow t n → t i ≡ false)
-  unfolding firstBelow
+  pub first-is : (n : ℕ) → first_below t n < n → (t (first_below t n) ≡ true) × ((i : ℕ) → i < first_below t n → t i ≡ false)
+  unfolding first_below
   first-is zero l = absurd (omega arith)
-  first-is (suc n) l = go (firstBelow t n) (dec_lt (firstBelow t n) n) (t n) refl l (first-is n) (first-not n) (first-le n)
+  first-is (suc n) l = go (first_below t n) (dec_lt (first_below t n) n) (t n) refl l (first-is n) (first-not n) (first-le n)
     where
       go : (k : ℕ) → Dec (k < n) → (u : Bool) → t n ≡ u → next n k u < suc n → (k < n → (t k ≡ true) × ((i : ℕ) → i < k → t i ≡ false)) → (k ≡ n → (i : ℕ) → i < n → t i ≡ false) → k ≤ n
           → (t (next n k u) ≡ true) × ((i : ℕ) → i < next n k u → t i ≡ false)
@@ -111,45 +111,45 @@ module _ (t : ℕ → Bool) where
 
 -- one number more
 module _ (t : ℕ → Bool) (n : ℕ) where
-  pub first-lt : anyBelow t n ≡ true → firstBelow t n < n
-  first-lt e = go (dec_lt (firstBelow t n) n)
+  pub first-lt : any_below t n ≡ true → first_below t n < n
+  first-lt e = go (dec_lt (first_below t n) n)
     where
-      go : Dec (firstBelow t n < n) → firstBelow t n < n
+      go : Dec (first_below t n < n) → first_below t n < n
       go (yes l) = l
       go (no f) = absurd (true≢false (sym e ∙ any_none t n (first-not t n (omega (arith, f, first-le t n)))))
 
-  pub first-kept : anyBelow t n ≡ true → firstBelow t (suc n) ≡ firstBelow t n
-  unfolding firstBelow
-  first-kept e = rw (lt-ltb (firstBelow t n) n (first-lt e))
+  pub first-kept : any_below t n ≡ true → first_below t (suc n) ≡ first_below t n
+  unfolding first_below
+  first-kept e = rw (lt-ltb (first_below t n) n (first-lt e))
 
-  pub first-new : anyBelow t n ≡ false → t n ≡ true → firstBelow t (suc n) ≡ n
+  pub first-new : any_below t n ≡ false → t n ≡ true → first_below t (suc n) ≡ n
   first-new e q = first-at t (suc n) n (omega arith) q (none_of t n e)
 
 -- tests that agree
-pub same-any : (t u : ℕ → Bool) (n : ℕ) → ((i : ℕ) → i < n → t i ≡ u i) → anyBelow t n ≡ anyBelow u n
-unfolding anyBelow
+pub same-any : (t u : ℕ → Bool) (n : ℕ) → ((i : ℕ) → i < n → t i ≡ u i) → any_below t n ≡ any_below u n
+unfolding any_below
 same-any t u zero h = refl
 same-any t u (suc n) h = ap₂ (λ (x y : Bool). x || y) (same-any t u n (λ i l. h i (omega arith))) (h n (omega arith))
 
-pub same_first : (t u : ℕ → Bool) (n : ℕ) → ((i : ℕ) → i < n → t i ≡ u i) → firstBelow t n ≡ firstBelow u n
-unfolding firstBelow
+pub same_first : (t u : ℕ → Bool) (n : ℕ) → ((i : ℕ) → i < n → t i ≡ u i) → first_below t n ≡ first_below u n
+unfolding first_below
 same_first t u zero h = refl
 same_first t u (suc n) h =
     ap₂ (λ (k : ℕ) (x : Bool). pick (ltb k n) k (pick x n (suc n))) (same_first t u n (λ i l. h i (omega arith))) (h n (omega arith))
 
 -- n times k numbers, one after the other
-added : (t : ℕ → Bool) (m k : ℕ) → anyBelow t (m + k) ≡ (anyBelow t m || anyBelow (λ i. t (m + i)) k)
-unfolding anyBelow
-added t m zero = ap (anyBelow t) (add-zero m) ∙ sym (or-false (anyBelow t m))
+added : (t : ℕ → Bool) (m k : ℕ) → any_below t (m + k) ≡ (any_below t m || any_below (λ i. t (m + i)) k)
+unfolding any_below
+added t m zero = ap (any_below t) (add-zero m) ∙ sym (or-false (any_below t m))
 added t m (suc k) =
     let e : m + suc k ≡ suc (m + k) = omega arith in
-    rw e (ap (λ (x : Bool). x || t (m + k)) (added t m k) ∙ or_assoc (anyBelow t m) (anyBelow (λ i. t (m + i)) k) (t (m + k)))
+    rw e (ap (λ (x : Bool). x || t (m + k)) (added t m k) ∙ or_assoc (any_below t m) (any_below (λ i. t (m + i)) k) (t (m + k)))
   where
     or_assoc : (x y z : Bool) → ((x || y) || z) ≡ (x || (y || z))
     or_assoc true y z = refl
     or_assoc false y z = refl
 
-pub any-all : (t : ℕ → Bool) (k n : ℕ) → anyBelow (λ r. anyBelow (λ i. t (r * k + i)) k) n ≡ anyBelow t (n * k)
-unfolding anyBelow
-any-all t k zero = ap (anyBelow t) (sym (zero-mul k))
-any-all t k (suc n) = ap (λ (x : Bool). x || anyBelow (λ i. t (n * k + i)) k) (any-all t k n) ∙ sym (added t (n * k) k) ∙ ap (anyBelow t) (sym (suc-mul n k))
+pub any-all : (t : ℕ → Bool) (k n : ℕ) → any_below (λ r. any_below (λ i. t (r * k + i)) k) n ≡ any_below t (n * k)
+unfolding any_below
+any-all t k zero = ap (any_below t) (sym (zero-mul k))
+any-all t k (suc n) = ap (λ (x : Bool). x || any_below (λ i. t (n * k + i)) k) (any-all t k n) ∙ sym (added t (n * k) k) ∙ ap (any_below t) (sym (suc-mul n k))

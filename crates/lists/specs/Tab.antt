@@ -1,6 +1,6 @@
 -- A list given element by element, and the loop that stores it: after i turns the buffer is `tab i f ++ drop i d`. Assumes nothing.
 --     tab                      f 0, f 1, .., n of them
---     length-tab, getD-tab     how many there are, and each one
+--     length-tab, get_or-tab     how many there are, and each one
 --     same-tab                 elements that agree one by one make the same list
 --     tab-turn, tab-upto, tab-ends     one turn of such a loop, its end at n, and at the end of the buffer, as a loop's proof asks for them
 --     tab-part                 where f reads a list from a place on, it is a part of that list
@@ -19,10 +19,10 @@ unfolding tab
 length-tab zero f = refl
 length-tab (suc n) f = length-append (tab n f) (f n ∷ []) ∙ ap (λ (k : ℕ). k + 1) (length-tab n f) ∙ add-one n
 
-pub getD-tab : (n : ℕ) (f : ℕ → ℕ) (i : ℕ) → i < n → get_or (tab n f) i 0 ≡ f i
+pub get_or-tab : (n : ℕ) (f : ℕ → ℕ) (i : ℕ) → i < n → get_or (tab n f) i 0 ≡ f i
 unfolding tab
-getD-tab zero f i l = absurd (omega (arith, l))
-getD-tab (suc n) f i l = ⊎_elim at_last (λ h. before h (getD-tab n f i h)) (eq-or-lt_of_le (le_of_suc-le-suc l))
+get_or-tab zero f i l = absurd (omega (arith, l))
+get_or-tab (suc n) f i l = ⊎_elim at_last (λ h. before h (get_or-tab n f i h)) (eq-or-lt_of_le (le_of_suc-le-suc l))
   where
     at_last : i ≡ n → get_or (tab (suc n) f) i 0 ≡ f i
     at_last e = subst (λ (k : ℕ). get_or (tab (suc n) f) k 0 ≡ f k) (sym e) (get_or_at (tab n f) (f n) [] 0 n (length-tab n f))
@@ -68,4 +68,4 @@ tab-part xs a n l =
     same : (i : ℕ) → i < length (tab n f) → get_or (tab n f) i 0 ≡ get_or (take n (drop a xs)) i 0
     same i h =
         let k : i < n = rw (length-tab n f) at h in
-        getD-tab n f i k ∙ sym (get_or-take n (drop a xs) i 0 k ∙ get_or-drop a xs i 0)
+        get_or-tab n f i k ∙ sym (get_or-take n (drop a xs) i 0 k ∙ get_or-drop a xs i 0)

@@ -1,20 +1,20 @@
 // A page's numbers as C has them: 32 bytes, the version first.
 ghost use Rattle.std.specs.Prelude.{◌≡◌, true, ◌+◌, ◌≤◌, length, drop, replicate};
 ghost use Rattle.refusal.specs.Number.{done_of};
-ghost use Rattle.board.specs.Layout.{pageLength};
-ghost use Rattle.numbers.specs.Numbers.{numbersRefused, numbersCheck, zerosAfter, numbersFront, pageIn, pageOrOwn, GivesNumbers};
+ghost use Rattle.board.specs.Layout.{page_length};
+ghost use Rattle.numbers.specs.Numbers.{numbers_refused, numbers_check, zeros_after, numbers_front, page_in, page_or_own, GivesNumbers};
 ghost use Rattle.numbers.specs.Files.{ReadsFile, WritesFile};
 
 // 3, for a page's numbers.
 pub fn numbers_refused(numbers: &[u8]) -> bool
-    ensures { result ≡ numbersRefused numbers.now }
+    ensures { result ≡ numbers_refused numbers.now }
 {
     (numbers.len() != 32) | files::version_refused(numbers, board::NEWEST_VERSION)
 }
 
 // The page check: 3, 12, 4, 13, 14, 15, 6.
 pub fn numbers_check(numbers: &[u8]) -> refusal::Refusal
-    ensures { result ≡ numbersCheck numbers.now }
+    ensures { result ≡ numbers_check numbers.now }
 {
     if numbers_refused(numbers) {
         return refusal::Refusal::Size;
@@ -25,7 +25,7 @@ pub fn numbers_check(numbers: &[u8]) -> refusal::Refusal
 // The version and a page's bytes; what stands behind them stays.
 fn put_front(version: u8, page: &[u8], numbers: &mut [u8])
     requires { 1 + length page.now ≤ length numbers.old }
-    ensures { numbers.new ≡ numbersFront version page.now (drop (1 + length page.now) numbers.old) }
+    ensures { numbers.new ≡ numbers_front version page.now (drop (1 + length page.now) numbers.old) }
 {
     let front = [version];
     copies::put(&front, 0, numbers);
@@ -42,8 +42,8 @@ fn clear(numbers: &mut [u8])
 
 // The version, a page's bytes, and zeros.
 fn put_numbers(version: u8, page: &[u8], numbers: &mut [u8])
-    requires { (length page.now ≡ pageLength version) × (length numbers.old ≡ 32) }
-    ensures { numbers.new ≡ numbersFront version page.now (zerosAfter version) }
+    requires { (length page.now ≡ page_length version) × (length numbers.old ≡ 32) }
+    ensures { numbers.new ≡ numbers_front version page.now (zeros_after version) }
 {
     clear(numbers);
     put_front(version, page, numbers);
@@ -52,7 +52,7 @@ fn put_numbers(version: u8, page: &[u8], numbers: &mut [u8])
 // A page in the place of the numbers' own. The bytes that are not looked at stay.
 fn put_own(p: board::Page, numbers: &mut [u8])
     requires { (p.video.dots.0 ≤ 12) × (length numbers.old ≡ 32) }
-    ensures { numbers.new ≡ pageIn p numbers.old }
+    ensures { numbers.new ≡ page_in p numbers.old }
 {
     let front = [board::version_of(p)];
     copies::put(&front, 0, numbers);
@@ -62,7 +62,7 @@ fn put_own(p: board::Page, numbers: &mut [u8])
 // The same where nothing is refused.
 pub fn put_page(r: refusal::Refusal, p: board::Page, numbers: &mut [u8])
     requires { (length numbers.old ≡ 32) × (done_of r ≡ true → p.video.dots.0 ≤ 12) }
-    ensures { numbers.new ≡ pageOrOwn r p numbers.old }
+    ensures { numbers.new ≡ page_or_own r p numbers.old }
 {
     if refusal::is_done(r) {
         put_own(p, numbers);

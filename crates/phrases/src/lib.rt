@@ -1,7 +1,7 @@
 // An index of phrases (02, R-6): which record holds a row, and which two records disagree. The decisions are the crate `records`'; these go over the list.
 ghost use Rattle.std.specs.Prelude.{◌≡◌, ◌≤◌, ◌<◌, length, get_or};
-ghost use Rattle.records.specs.Records.{none, phraseOfRow, phrasesDiffer};
-ghost use Rattle.records.specs.Folds.{searchOf, mateTo, mateOf};
+ghost use Rattle.records.specs.Records.{none, phrase_of_row, phrases_differ};
+ghost use Rattle.records.specs.Folds.{search_of, mate_to, mate_of};
 
 // The record at a position.
 fn phrase_at(phrases: &[records::Phrase], i: usize) -> records::Phrase
@@ -13,7 +13,7 @@ fn phrase_at(phrases: &[records::Phrase], i: usize) -> records::Phrase
 
 // The lowest record that holds what is asked.
 pub fn search(phrases: &[records::Phrase], asked: records::Asked) -> records::PhraseAnswer
-    ensures { result ≡ searchOf phrases.now asked }
+    ensures { result ≡ search_of phrases.now asked }
 {
     let mut s = records::start(asked);
     let mut i = 0;
@@ -31,7 +31,7 @@ pub fn phrase_of_row(
     phrases: &[records::Phrase],
     row: u32,
 ) -> records::PhraseAnswer
-    ensures { result ≡ phraseOfRow b chars.now phrases.now row }
+    ensures { result ≡ phrase_of_row b chars.now phrases.now row }
 {
     let asked = records::row_asked(b, chars, row);
     search(phrases, asked)
@@ -40,7 +40,7 @@ pub fn phrase_of_row(
 // The first record after a position and before an end that disagrees with the one there.
 fn mate_near(phrases: &[records::Phrase], after: usize, end: usize) -> records::Mate
     requires { (after < end) × (end ≤ length phrases.now) }
-    ensures { result ≡ mateTo phrases.now after end }
+    ensures { result ≡ mate_to phrases.now after end }
 {
     let o = phrase_at(phrases, after);
     let mut s = records::start_mate(o);
@@ -55,7 +55,7 @@ fn mate_near(phrases: &[records::Phrase], after: usize, end: usize) -> records::
 // The first record after a position that disagrees with the one there.
 fn mate_of(phrases: &[records::Phrase], after: usize) -> records::Mate
     requires { after < length phrases.now }
-    ensures { result ≡ mateOf phrases.now after }
+    ensures { result ≡ mate_of phrases.now after }
 {
     let o = phrase_at(phrases, after);
     let mut i = records::fours_from(after, phrases.len());
@@ -77,7 +77,7 @@ fn mate_of(phrases: &[records::Phrase], after: usize) -> records::Mate
 
 // The first two records with the same language and number that differ, by the earlier one's position, then the later's.
 pub fn phrases_differ(phrases: &[records::Phrase]) -> records::PairAnswer
-    ensures { result ≡ phrasesDiffer phrases.now }
+    ensures { result ≡ phrases_differ phrases.now }
 {
     let mut s = records::start_pair();
     let mut i = 0;

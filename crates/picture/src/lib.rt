@@ -1,17 +1,17 @@
 // A whole picture into a lent buffer: tables once a picture, cells once a row, then dots only.
 ghost use Rattle.std.specs.Prelude.{◌≡◌, ◌++◌, false, ℕ, ◌*◌, ◌≤◌, ◌<◌, ltb, length, get_or, drop};
 ghost use Rattle.lists.specs.Join.{joined};
-ghost use Rattle.shape.specs.Font.{lentFont};
+ghost use Rattle.shape.specs.Font.{lent_font};
 ghost use Rattle.timing.specs.Laws.{Accepted};
 ghost use Rattle.raster.specs.Wide.{is_wide};
 ghost use Rattle.video.specs.Lent.{Lent};
-ghost use Rattle.dots.specs.Stores.{reachOf};
-ghost use Rattle.dots.specs.Half.{shownOf, fetchedFor};
-ghost use Rattle.tables.specs.Tables.{heldBy};
+ghost use Rattle.dots.specs.Stores.{reach_of};
+ghost use Rattle.dots.specs.Half.{shown_of, fetched_for};
+ghost use Rattle.tables.specs.Tables.{held_by};
 ghost use Rattle.line.specs.Walk.{last_of};
-ghost use Rattle.picture.specs.Picture.{pictureCheck, pictureLength, DrawsPicture};
-ghost use Rattle.picture.specs.Plan.{plan_of, cellDotsOf, cellFrom, lineFrom, rowFrom, rowDrawn, TablesFit, Numbered};
-ghost use Rattle.picture.specs.Agree.{shapedOver};
+ghost use Rattle.picture.specs.Picture.{picture_check, picture_length, DrawsPicture};
+ghost use Rattle.picture.specs.Plan.{plan_of, cell_dots_of, cell_from, line_from, row_from, row_drawn, TablesFit, Numbered};
+ghost use Rattle.picture.specs.Agree.{shaped_over};
 
 // What is the same for all rows: columns, dots a cell, lines a row, its scan lines, rows, the bytes of a line and of a row, the buffer, how cells are read.
 #[derive(Drop)]
@@ -39,10 +39,10 @@ fn put(
     tight: bool,
 )
     requires tables_fit { TablesFit p shown.now looks.now inks.now × (scan.0 < p.scans.0) × (number < 65536) }
-    requires dots_in_bounds { reachOf tight p.dots.0 ≤ length out.old }
+    requires dots_in_bounds { reach_of tight p.dots.0 ≤ length out.old }
     ensures { out.new
-        ≡ cellDotsOf shown.now looks.now (reachOf tight p.dots.0) scan.0 number
-        ++ drop (reachOf tight p.dots.0) out.old }
+        ≡ cell_dots_of shown.now looks.now (reach_of tight p.dots.0) scan.0 number
+        ++ drop (reach_of tight p.dots.0) out.old }
 {
     let s = scan.places();
     let sign = s * 512 + (number % 512) as usize;
@@ -64,7 +64,7 @@ fn draw_cells(
     requires tables_fit { TablesFit p shown.now looks.now inks.now × (length cells.now ≡ 256) × ((i : ℕ) → i < n → get_or cells.now i 0 < 65536) }
     requires scan_lt_scans { (scan.0 < p.scans.0) × (0 < n) × (n ≤ 256) × (n * p.dots.0 ≤ length out.old) }
     ensures { out.new
-        ≡ joined 0 n (cellFrom cells.now shown.now looks.now p.dots.0 scan.0)
+        ≡ joined 0 n (cell_from cells.now shown.now looks.now p.dots.0 scan.0)
         ++ drop (n * p.dots.0) out.old }
 {
     let last = n - 1;
@@ -102,7 +102,7 @@ fn draw_columns(
     requires tables_fit { TablesFit p shown.now looks.now inks.now × (length cells.now ≡ 256) × Numbered wide p cells.now }
     requires scan_lt_scans { (scan.0 < p.scans.0) × (p.width ≤ length out.old) }
     ensures { out.new
-        ≡ joined 0 p.columns.0 (shownOf wide (cellFrom cells.now shown.now looks.now p.dots.0 scan.0))
+        ≡ joined 0 p.columns.0 (shown_of wide (cell_from cells.now shown.now looks.now p.dots.0 scan.0))
         ++ drop p.width out.old }
 {
     let n = p.columns;
@@ -130,7 +130,7 @@ fn draw_lines(
     requires tables_fit { TablesFit p shown.now looks.now inks.now × (length cells.now ≡ 256) × Numbered (is_wide k) p cells.now }
     requires width_in_bounds { p.lines.0 * p.width ≤ length out.old }
     ensures { out.new
-        ≡ joined 0 p.lines.0 (lineFrom p k cells.now shown.now looks.now)
+        ≡ joined 0 p.lines.0 (line_from p k cells.now shown.now looks.now)
         ++ drop (p.lines.0 * p.width) out.old }
 {
     let n = p.lines.places();
@@ -160,10 +160,10 @@ fn draw_row(
     held: u8,
 ) -> u8
     requires tables_fit { TablesFit p shown.now looks.now inks.now × (length chars.now ≡ 16384) × (length attrs.now ≡ 16384) }
-    requires n_value { (n ≡ fetchedFor (is_wide k) p.columns.0) × (start.address < 16384) × (p.lines.0 * p.width ≤ length out.old) }
-    ensures { (result ≡ heldBy p.reading.runs attrs.now p.buffer held start.address (fetchedFor (is_wide k) p.columns.0))
+    requires n_value { (n ≡ fetched_for (is_wide k) p.columns.0) × (start.address < 16384) × (p.lines.0 * p.width ≤ length out.old) }
+    ensures { (result ≡ held_by p.reading.runs attrs.now p.buffer held start.address (fetched_for (is_wide k) p.columns.0))
         × (out.new
-        ≡ rowFrom p k chars.now attrs.now shown.now looks.now held start.address
+        ≡ row_from p k chars.now attrs.now shown.now looks.now held start.address
         ++ drop (p.lines.0 * p.width) out.old) }
 {
     let mut cells = [0u16; 256];
@@ -190,7 +190,7 @@ fn draw_rows(
     requires tables_fit { TablesFit p shown.now looks.now inks.now × (length chars.now ≡ 16384) × (length attrs.now ≡ 16384) }
     requires accepted { Accepted page × (p ≡ plan_of page) × (p.rows * p.size ≤ length out.old) }
     ensures { out.new
-        ≡ joined 0 p.rows (rowDrawn p page chars.now attrs.now shown.now looks.now)
+        ≡ joined 0 p.rows (row_drawn p page chars.now attrs.now shown.now looks.now)
         ++ drop (p.rows * p.size) out.old }
 {
     let n = p.rows;
@@ -244,7 +244,7 @@ fn plan_of(p: board::Page) -> Plan
 // 8 for a buffer that is too short for an accepted page's picture.
 fn room_check(p: board::Page, room: usize) -> refusal::Refusal
     requires { Accepted p }
-    ensures { result ≡ last_of false (ltb room (pictureLength p)) }
+    ensures { result ≡ last_of false (ltb room (picture_length p)) }
 {
     let plan = plan_of(p);
     if room < plan.rows as usize * plan.size {
@@ -254,7 +254,7 @@ fn room_check(p: board::Page, room: usize) -> refusal::Refusal
 }
 
 fn picture_check(b: board::Board, lent: refusal::Refusal, room: usize) -> refusal::Refusal
-    ensures { result ≡ pictureCheck b lent room }
+    ensures { result ≡ picture_check b lent room }
 {
     let refused = timing::call_check(b, lent, false, false);
     if refusal::is_done(refused) {
@@ -276,8 +276,8 @@ fn by_rows(
     p: Plan,
 )
     requires lent { Lent b chars.now attrs.now words.now flags.now }
-    requires page_in_bounds { (pictureLength b.page ≤ length out.old) × (p ≡ plan_of b.page) }
-    ensures { out.new ≡ shapedOver b chars.now attrs.now words.now flags.now lines
+    requires page_in_bounds { (picture_length b.page ≤ length out.old) × (p ≡ plan_of b.page) }
+    ensures { out.new ≡ shaped_over b chars.now attrs.now words.now flags.now lines
         field out.old }
 {
     let page = b.page;
@@ -305,8 +305,8 @@ fn by_lines(
     p: Plan,
 )
     requires lent { Lent b chars.now attrs.now words.now flags.now }
-    requires page_in_bounds { (pictureLength b.page ≤ length out.old) × (p ≡ plan_of b.page) }
-    ensures { out.new ≡ shapedOver b chars.now attrs.now words.now flags.now lines
+    requires page_in_bounds { (picture_length b.page ≤ length out.old) × (p ≡ plan_of b.page) }
+    ensures { out.new ≡ shaped_over b chars.now attrs.now words.now flags.now lines
         field out.old }
 {
     let n = p.lines.times(p.rows).places();
@@ -344,8 +344,8 @@ fn whole_picture(
     lines: shape::FontLines,
     field: u8,
 )
-    requires { Lent b chars.now attrs.now words.now flags.now × (pictureLength b.page ≤ length out.old) }
-    ensures { out.new ≡ shapedOver b chars.now attrs.now words.now flags.now lines
+    requires { Lent b chars.now attrs.now words.now flags.now × (picture_length b.page ≤ length out.old) }
+    ensures { out.new ≡ shaped_over b chars.now attrs.now words.now flags.now lines
         field out.old }
 {
     let p = plan_of(b.page);
@@ -369,7 +369,7 @@ pub fn draw_picture(
     field: u8,
     out: &mut [u8],
 ) -> refusal::Refusal
-    ensures { DrawsPicture b chars.now attrs.now (lentFont words flags unshifted shifted groups)
+    ensures { DrawsPicture b chars.now attrs.now (lent_font words flags unshifted shifted groups)
         field out.old result out.new }
 {
     let lent = video::lent_check(chars, attrs, words, flags, unshifted, shifted, groups);

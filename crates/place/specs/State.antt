@@ -2,17 +2,17 @@
 use Rattle.std.specs.Prelude.{ℕ, false, List, length}
 use Rattle.lists.specs.Choice.{pick}
 use Rattle.refusal.specs.declared.Refusal.{Refusal}
-use Rattle.refusal.specs.Number.{done_of, wrongSize}
+use Rattle.refusal.specs.Number.{done_of, wrong_size}
 use Rattle.board.specs.declared.Board.{Board}
-use Rattle.board.specs.Parts.{withPlace}
-use Rattle.board.specs.Range.{memoriesRefused}
-use Rattle.timing.specs.Check.{callCheck}
+use Rattle.board.specs.Parts.{with_place}
+use Rattle.board.specs.Range.{memories_refused}
+use Rattle.timing.specs.Check.{call_check}
 use Rattle.place.specs.declared.StateAt.{StateAt}
-use Rattle.place.specs.Place.{placeAt}
+use Rattle.place.specs.Place.{place_at}
 
 -- 3 for the memories, 12, 4, 13, 14, 15, 6, 7
-abbrev pub stateCheck : Board → (chars attrs : List ℕ) → Refusal
-stateCheck b chars attrs = callCheck b (wrongSize (memoriesRefused (length chars) (length attrs))) false false
+abbrev pub state_check : Board → (chars attrs : List ℕ) → Refusal
+state_check b chars attrs = call_check b (wrong_size (memories_refused (length chars) (length attrs))) false false
 
 abbrev pub stated : Refusal → Board → StateAt
 stated r b = record { refusal = r; board = b }
@@ -21,5 +21,5 @@ stated r b = record { refusal = r; board = b }
 -- page, pointer and power state are the given board's; the place is that for clock n, counted from clock 0
 unfoldable pub state_of : Board → (chars attrs : List ℕ) → ℕ → StateAt
 state_of b chars attrs n =
-    stated (stateCheck b chars attrs)
-    (pick (done_of (stateCheck b chars attrs)) (withPlace b (placeAt b.page chars attrs n)) b)
+    stated (state_check b chars attrs)
+    (pick (done_of (state_check b chars attrs)) (with_place b (place_at b.page chars attrs n)) b)

@@ -5,10 +5,10 @@ ghost use Rattle.raster.specs.Moves.{cell};
 ghost use Rattle.raster.specs.Moves.{advance};
 ghost use Rattle.raster.specs.Latch.{latched};
 ghost use Rattle.raster.specs.Wide.{ends_at};
-ghost use Rattle.timing.specs.Fields.{bufferOf, countsOf};
-ghost use Rattle.place.specs.Place.{setBy, countedCode, settled, activeAt, loadsAt, beginsAt, begunIn, loadedIn, pastCell, movedIn, turnedIn, row_at, carriedBefore, placeAt};
-ghost use Rattle.place.specs.Spot.{lastSpot, spotIn, spotBefore, originAt};
-ghost use Rattle.board.specs.Parts.{withPlace};
+ghost use Rattle.timing.specs.Fields.{buffer_of, counts_of};
+ghost use Rattle.place.specs.Place.{set_by, counted_code, settled, active_at, loads_at, begins_at, begun_in, loaded_in, past_cell, moved_in, turned_in, row_at, carried_before, place_at};
+ghost use Rattle.place.specs.Spot.{last_spot, spot_in, spot_before, origin_at};
+ghost use Rattle.board.specs.Parts.{with_place};
 ghost use Rattle.place.specs.State.{state_of};
 
 // What the beam carries along, with its row's code, and what its row began with.
@@ -26,14 +26,14 @@ pub struct StateAt {
 
 // What a byte sets: nothing in character mode.
 fn set_by(p: board::Page, byte: u8) -> u8
-    ensures { result ≡ setBy p byte }
+    ensures { result ≡ set_by p byte }
 {
     if board::field_mode(p) { byte } else { 0 }
 }
 
 // A row's code as it counts.
 fn counted_code(p: board::Page, code: u8) -> u8
-    ensures { result ≡ countedCode p code }
+    ensures { result ≡ counted_code p code }
 {
     if timing::coded_of(p) { code % 4 } else { 0 }
 }
@@ -52,7 +52,7 @@ fn settled(p: board::Page, x: raster::Row) -> raster::Row
 // The cell that a row begins at, where one is held. The row table is fetched with the display off too.
 fn begun_at(p: board::Page, chars: &[u8], row: u32, held: raster::Cell) -> raster::Cell
     requires { (length chars.now ≡ 16384) × (row < 8192) }
-    ensures { result ≡ cell (beginsAt p chars.now row held.address) }
+    ensures { result ≡ cell (begins_at p chars.now row held.address) }
 {
     if timing::table_of(p) {
         return fetch::entry(p, chars, row);
@@ -75,7 +75,7 @@ fn begun_latch(row: u32, held: u8) -> u8
 // What a row begins with, where x is held.
 fn begun(p: board::Page, chars: &[u8], row: u32, x: raster::Row) -> raster::Row
     requires { (length chars.now ≡ 16384) × (row < 8192) }
-    ensures { result ≡ begunIn p chars.now row x }
+    ensures { result ≡ begun_in p chars.now row x }
 {
     let held = raster::Cell { address: x.address };
     let at = begun_at(p, chars, row, held);
@@ -88,7 +88,7 @@ fn begun(p: board::Page, chars: &[u8], row: u32, x: raster::Row) -> raster::Row
 
 // Column 0 of a visible line.
 fn loads_at(p: board::Page, q: board::Place) -> bool
-    ensures { result ≡ loadsAt p q }
+    ensures { result ≡ loads_at p q }
 {
     q.line.below(timing::visible_of(p)) & q.clock.same(units::Clocks(0))
 }
@@ -96,7 +96,7 @@ fn loads_at(p: board::Page, q: board::Place) -> bool
 // What a clock works on: on column 0 of a visible line it is loaded, elsewhere it is held.
 pub fn loaded_at(p: board::Page, chars: &[u8], q: board::Place) -> Carried
     requires { length chars.now ≡ 16384 }
-    ensures { result ≡ loadedIn p chars.now q }
+    ensures { result ≡ loaded_in p chars.now q }
 {
     let kept = q.row;
     let beam = raster::Row {
@@ -128,7 +128,7 @@ pub fn loaded_at(p: board::Page, chars: &[u8], q: board::Place) -> Carried
 
 // An active clock of a visible line.
 pub fn active_at(p: board::Page, q: board::Place) -> bool
-    ensures { result ≡ activeAt p q }
+    ensures { result ≡ active_at p q }
 {
     let t = timing::timing_of(p);
     q.line.below(timing::visible_of(p)) & q.clock.below(t.counts.hact)
@@ -136,7 +136,7 @@ pub fn active_at(p: board::Page, q: board::Place) -> bool
 
 // The cell after this one, where the beam moves on.
 fn next_cell(p: board::Page, moves: bool, at: u16) -> u16
-    ensures { result ≡ pick moves (advance (bufferOf p) at) at }
+    ensures { result ≡ pick moves (advance (buffer_of p) at) at }
 {
     if moves {
         let next = raster::advance_one(timing::buffer_of(p), raster::Cell { address: at });
@@ -147,7 +147,7 @@ fn next_cell(p: board::Page, moves: bool, at: u16) -> u16
 
 // What is latched after a column, which shows its cell again or fetches one with this byte.
 fn next_latch(p: board::Page, again: bool, byte: u8, held: u8) -> u8
-    ensures { result ≡ pick again held (latched (setBy p byte) held) }
+    ensures { result ≡ pick again held (latched (set_by p byte) held) }
 {
     if again {
         return held;
@@ -158,7 +158,7 @@ fn next_latch(p: board::Page, again: bool, byte: u8, held: u8) -> u8
 // A cell's last column.
 fn ends_at(p: board::Page, k: raster::Code, clock: units::Clocks) -> bool
     requires { clock.0 < 384 }
-    ensures { result ≡ ends_at (countsOf p) k clock.0 }
+    ensures { result ≡ ends_at (counts_of p) k clock.0 }
 {
     let t = timing::timing_of(p);
     let next = clock.plus(units::Clocks(1));
@@ -168,7 +168,7 @@ fn ends_at(p: board::Page, k: raster::Code, clock: units::Clocks) -> bool
 // Past a clock: the cell that it fetches is latched where it has AFLG, and after a cell's last column the beam moves on.
 fn past_cell(p: board::Page, attrs: &[u8], clock: units::Clocks, x: raster::Row) -> raster::Row
     requires { (length attrs.now ≡ 16384) × (clock.0 < 384) × (x.address < 16384) }
-    ensures { result ≡ pastCell p attrs.now clock.0 x }
+    ensures { result ≡ past_cell p attrs.now clock.0 x }
 {
     let code = x.code;
     let at = x.address;
@@ -187,7 +187,7 @@ fn past_cell(p: board::Page, attrs: &[u8], clock: units::Clocks, x: raster::Row)
 // Each active clock, with the display off too.
 fn moved_on(p: board::Page, attrs: &[u8], q: board::Place, c: Carried) -> Carried
     requires { (length attrs.now ≡ 16384) × (q.clock.0 < 384) × (c.beam.address < 16384) }
-    ensures { result ≡ movedIn p attrs.now q c }
+    ensures { result ≡ moved_in p attrs.now q c }
 {
     let held = c.beam;
     let row = c.row;
@@ -204,7 +204,7 @@ fn moved_on(p: board::Page, attrs: &[u8], q: board::Place, c: Carried) -> Carrie
 // The place after a clock. The field counter goes from 255 to 0.
 fn turned(p: board::Page, q: board::Place, c: Carried) -> board::Place
     requires { (q.line.0 < 8192) × (q.clock.0 < 384) }
-    ensures { result ≡ turnedIn p q c }
+    ensures { result ≡ turned_in p q c }
 {
     let t = timing::timing_of(p);
     let beam = raster::Beam {
@@ -245,7 +245,7 @@ fn turned(p: board::Page, q: board::Place, c: Carried) -> board::Place
 // The place after a clock that works on c.
 pub fn place_after(p: board::Page, attrs: &[u8], q: board::Place, c: Carried) -> board::Place
     requires { (length attrs.now ≡ 16384) × (c.beam.address < 16384) × (q.line.0 < 8192) × (q.clock.0 < 384) }
-    ensures { result ≡ turnedIn p q (movedIn p attrs.now q c) }
+    ensures { result ≡ turned_in p q (moved_in p attrs.now q c) }
 {
     turned(p, q, moved_on(p, attrs, q, c))
 }
@@ -282,7 +282,7 @@ pub struct Spot {
 
 // The end of the last row.
 fn last_spot(p: board::Page) -> Spot
-    ensures { result ≡ lastSpot p }
+    ensures { result ≡ last_spot p }
 {
     let t = timing::timing_of(p);
     let ht = t.counts.ht;
@@ -294,7 +294,7 @@ fn last_spot(p: board::Page) -> Spot
 
 // Where the beam last moved, c clocks into a line: in that line, or else at the end of the last row.
 fn spot_in(p: board::Page, c: units::Clocks, line: units::Lines) -> Spot
-    ensures { result ≡ spotIn p c.0 line.0 }
+    ensures { result ≡ spot_in p c.0 line.0 }
 {
     if line.below(timing::visible_of(p)) {
         return Spot {
@@ -307,7 +307,7 @@ fn spot_in(p: board::Page, c: units::Clocks, line: units::Lines) -> Spot
 
 // The same before clock c of a line: before clock 0, what the line before it left.
 fn spot_before(p: board::Page, c: units::Clocks, line: units::Lines) -> Spot
-    ensures { result ≡ spotBefore p c.0 line.0 }
+    ensures { result ≡ spot_before p c.0 line.0 }
 {
     if units::Clocks(0).below(c) {
         return spot_in(p, c, line);
@@ -321,7 +321,7 @@ fn spot_before(p: board::Page, c: units::Clocks, line: units::Lines) -> Spot
 
 // Clock 0 of the first frame.
 fn at_origin(c: units::Clocks, line: units::Lines, frame: u32) -> bool
-    ensures { result ≡ originAt c.0 line.0 frame }
+    ensures { result ≡ origin_at c.0 line.0 frame }
 {
     c.same(units::Clocks(0)) & line.same(units::Lines(0)) & (frame == 0)
 }
@@ -336,7 +336,7 @@ fn carried_before(
     frame: u32,
 ) -> Carried
     requires { (length chars.now ≡ 16384) × (length attrs.now ≡ 16384) }
-    ensures { result ≡ carriedBefore p chars.now attrs.now c.0 line.0 frame }
+    ensures { result ≡ carried_before p chars.now attrs.now c.0 line.0 frame }
 {
     let spot = spot_before(p, c, line);
     let carried = row_at(p, chars, attrs, spot.row, spot.clocks);
@@ -357,7 +357,7 @@ fn carried_before(
 // The place for clock n, by its quotients and remainders.
 fn place_at(p: board::Page, chars: &[u8], attrs: &[u8], n: units::Clocks) -> board::Place
     requires { (length chars.now ≡ 16384) × (length attrs.now ≡ 16384) }
-    ensures { result ≡ placeAt p chars.now attrs.now n.0 }
+    ensures { result ≡ place_at p chars.now attrs.now n.0 }
 {
     let t = timing::timing_of(p);
     let clock = n.remainder(t.counts.ht);
@@ -380,7 +380,7 @@ fn place_at(p: board::Page, chars: &[u8], attrs: &[u8], n: units::Clocks) -> boa
 }
 
 pub fn with_place(b: board::Board, place: board::Place) -> board::Board
-    ensures { result ≡ withPlace b place }
+    ensures { result ≡ with_place b place }
 {
     let mut n = b;
     n.place = place;

@@ -12,7 +12,7 @@ use Rattle.std.proofs.Math.Numerals.{add-one}
 use borrow.Author.Tests.{lt-ltb, le-ltb, eq-eqb, ne_eqb}
 use Rattle.raster.specs.declared.Counts.{Counts}
 use Rattle.raster.specs.Tick.{Tick, up, carry, tick}
-use Rattle.raster.specs.Raster.{HT, VT, L, R, Good, clocks-some, frame-some, Carrier, Pair, pair, scan, turn, loaded, onward, step, steps, origin, Rows, tail, inLine, carriedAt, at_once}
+use Rattle.raster.specs.Raster.{HT, VT, L, R, Good, clocks-some, frame-some, Carrier, Pair, pair, scan, turn, loaded, onward, step, steps, origin, Rows, tail, in_line, carried_at, at_once}
 
 pub record Laws {D : Type 0} (g : Counts) (m : Carrier D) (w : Rows D) : Type 0 where
   pub walk-zero : (r : ℕ) → r < R g → w.walk r 0 ≡ w.start r
@@ -21,12 +21,12 @@ pub record Laws {D : Type 0} (g : Counts) (m : Carrier D) (w : Rows D) : Type 0 
   pub start-suc : (r : ℕ) → suc r < R g → m.begin (suc r) (w.walk r (HT g)) ≡ w.start (suc r)
 
 module _ {D : Type 0} (g : Counts) (w : Rows D) where
-  visible : (c line : ℕ) → line < R g * L g → inLine g w c line ≡ pair (w.walk (line / L g) c) (w.start (line / L g))
-  unfolding inLine
+  visible : (c line : ℕ) → line < R g * L g → in_line g w c line ≡ pair (w.walk (line / L g) c) (w.start (line / L g))
+  unfolding in_line
   visible c line h = rw (lt-ltb line (R g * L g) h)
 
-  hidden : (c line : ℕ) → R g * L g ≤ line → inLine g w c line ≡ tail g w
-  unfolding inLine
+  hidden : (c line : ℕ) → R g * L g ≤ line → in_line g w c line ≡ tail g w
+  unfolding in_line
   hidden c line h = rw (le-ltb line (R g * L g) h)
 
 module _ {D : Type 0} (g : Counts) (m : Carrier D) where
@@ -96,38 +96,38 @@ module _ {D : Type 0} (g : Counts) (m : Carrier D) (w : Rows D) (s : Good g) (k 
 
   -- on a visible line: what clock c works on, once it has loaded
   pub loaded-meets : (z : D) (c line frame : ℕ) → line < R g * L g
-      → loaded g m line c (carriedAt g w z c line frame) ≡ pair (w.walk (line / L g) c) (w.start (line / L g))
-  unfolding carriedAt
-  loaded-meets z (suc c) line frame h = loaded_on g m line c (inLine g w (suc c) line) ∙ visible g w (suc c) line h
+      → loaded g m line c (carried_at g w z c line frame) ≡ pair (w.walk (line / L g) c) (w.start (line / L g))
+  unfolding carried_at
+  loaded-meets z (suc c) line frame h = loaded_on g m line c (in_line g w (suc c) line) ∙ visible g w (suc c) line h
   loaded-meets z zero zero zero h = top (pair z z) h
   loaded-meets z zero zero (suc frame) h = top (tail g w) h
   loaded-meets z zero (suc line) frame h =
       ap (loaded g m (suc line) 0) (visible g w (HT g) line (omega arith)) ∙ down line h (tick line s.lines-some)
 
   -- on any other line: what the last row left
-  idle-meets : (z : D) (c line frame : ℕ) → R g * L g ≤ line → carriedAt g w z c line frame ≡ tail g w
-  unfolding carriedAt tail
+  idle-meets : (z : D) (c line frame : ℕ) → R g * L g ≤ line → carried_at g w z c line frame ≡ tail g w
+  unfolding carried_at tail
   idle-meets z (suc c) line frame l = hidden g w (suc c) line l
   idle-meets z zero zero zero l = absurd (omega (arith, mul-pos s.rows-some s.lines-some))
   idle-meets z zero zero (suc frame) l = refl
   idle-meets z zero (suc line) frame l = go (dec_lt line (R g * L g))
     where
-      go : Dec (line < R g * L g) → inLine g w (HT g) line ≡ tail g w
+      go : Dec (line < R g * L g) → in_line g w (HT g) line ≡ tail g w
       go (yes h) =
           visible g w (HT g) line h
           ∙ ap (λ (x : ℕ). pair (w.walk x (HT g)) (w.start x)) (last_row line h l)
       go (no f) = hidden g w (HT g) line (omega arith)
 
-  onward-meets : (z : D) (c line frame : ℕ) → c < HT g → onward g m line c (carriedAt g w z c line frame) ≡ inLine g w (suc c) line
+  onward-meets : (z : D) (c line frame : ℕ) → c < HT g → onward g m line c (carried_at g w z c line frame) ≡ in_line g w (suc c) line
   onward-meets z c line frame hc = go (dec_lt line (R g * L g))
     where
       p : Pair D
-      p = carriedAt g w z c line frame
+      p = carried_at g w z c line frame
 
       r : ℕ
       r = line / L g
 
-      go : Dec (line < R g * L g) → onward g m line c p ≡ inLine g w (suc c) line
+      go : Dec (line < R g * L g) → onward g m line c p ≡ in_line g w (suc c) line
       go (yes h) =
           onward-shown g m line c p (w.walk r c) (w.start r) h (loaded-meets z c line frame h)
           ∙ ap (λ (x : D). pair x (w.start r)) (sym (k.walk-suc r c (row_lt line h) hc))
@@ -153,7 +153,7 @@ module _ {D : Type 0} (g : Counts) (m : Carrier D) (w : Rows D) (s : Good g) (k 
   counted f = omega arith
 
   pub step-meets : (z : D) (n : ℕ) → step g m (at_once g w z n) ≡ at_once g w z (suc n)
-  unfolding step at_once carriedAt
+  unfolding step at_once carried_at
   step-meets z n =
       ap (turn g (f % 256) l c) (onward-meets z c l f (mod-lt n (clocks-some g s)))
       ∙ go (tick n (clocks-some g s))
@@ -171,20 +171,20 @@ module _ {D : Type 0} (g : Counts) (m : Carrier D) (w : Rows D) (s : Good g) (k 
       f = y / VT g
 
       below : suc c ≡ HT g → Tick (VT g) y
-          → turn g (f % 256) l c (inLine g w (HT g) l)
-          ≡ scan (suc y / VT g % 256) (suc y % VT g) 0 (carriedAt g w z 0 (suc y % VT g) (suc y / VT g))
-      below e (up a p q) = rw (p, q) (turn-line (f % 256) l c (inLine g w (HT g) l) e a)
+          → turn g (f % 256) l c (in_line g w (HT g) l)
+          ≡ scan (suc y / VT g % 256) (suc y % VT g) 0 (carried_at g w z 0 (suc y % VT g) (suc y / VT g))
+      below e (up a p q) = rw (p, q) (turn-line (f % 256) l c (in_line g w (HT g) l) e a)
       below e (carry a p q) =
           rw (p, q)
-          (turn-frame (f % 256) l c (inLine g w (HT g) l) e a
+          (turn-frame (f % 256) l c (in_line g w (HT g) l) e a
           ∙ ap₂ (λ (x : ℕ) (d : Pair D). scan x 0 0 d) (counted f) (hidden g w (HT g) l (omega (arith, s.porch))))
 
-      go : Tick (HT g) n → turn g (f % 256) l c (inLine g w (suc c) l) ≡ at_once g w z (suc n)
-      go (up a p q) = rw (p, q) (turn_on (f % 256) l c (inLine g w (suc c) l) a)
+      go : Tick (HT g) n → turn g (f % 256) l c (in_line g w (suc c) l) ≡ at_once g w z (suc n)
+      go (up a p q) = rw (p, q) (turn_on (f % 256) l c (in_line g w (suc c) l) a)
       go (carry a p q) = rw (p, q, a) (below a (tick y (frame-some g s)))
 
   at-origin : origin g m ≡ at_once g w m.zeroth 0
-  unfolding origin at_once carriedAt
+  unfolding origin at_once carried_at
   at-origin = simp (zero-div, zero-mod)
 
   -- [demand at-once]

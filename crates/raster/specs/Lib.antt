@@ -10,7 +10,7 @@
 --     Tally      Rows of cells need this beside it: how often the address has moved on by a column of a row
 --     Fed        what is asked of a Feed: its addresses have 14 bits
 --     Tallied    what is asked of a Tally: it counts the Feed's moves, one by one
---     lastSet    of some cells the attribute byte of the last with AFLG: what is valid after them in field mode
+--     last_set    of some cells the attribute byte of the last with AFLG: what is valid after them in field mode
 --     Row        what the board's beam carries: a cell's address, such a byte, and its row's code. Its Carrier and Rows are those of cells with these added
 --
 -- One row followed through them: row 1 of A1's page (80 columns, rows of 10 lines, no table, screen start 1 at 0).
@@ -22,7 +22,7 @@
 --     Rows       `start` 1 is 1 x 80 moves from 0, which is 80; `walk` 1 3 is 3 moves from there, which is 83
 --     Laws       `walk` 1 4 is `move` 1 3 of `walk` 1 3; `start` 2 is `begin` 2 of what row 1 leaves, 160
 --     Fed, Tallied     0 and every address are below 16,384, and clock 3 moves on because 3 is below 80: so the Laws hold
---     lastSet    in field mode, with AFLG in cell 70 alone and 83 moves done, it is that cell's byte
+--     last_set    in field mode, with AFLG in cell 70 alone and 83 moves done, it is that cell's byte
 --     Row        at clock 3: address 83, that byte and the row's code; the row keeps address 80 and that byte, which row 0 left, and the code
 pub mod Tick
 pub mod Moves

@@ -117,20 +117,20 @@ module _ {D : Type 0} (g : Counts) (w : Rows D) where
   tail = pair (w.walk (pred (R g)) (HT g)) (w.start (pred (R g)))
 
   -- what is carried after c clocks of the line
-  unfoldable pub inLine : (c line : ℕ) → Pair D
-  inLine c line =
+  unfoldable pub in_line : (c line : ℕ) → Pair D
+  in_line c line =
       pick (ltb line (R g * L g))
       (pair (w.walk (line / L g) c) (w.start (line / L g)))
       tail
 
   -- what is carried before clock c of the line: before clock 0, what the line before it left
-  unfoldable pub carriedAt : (z : D) (c line frame : ℕ) → Pair D
-  carriedAt z (suc c) line frame = inLine (suc c) line
-  carriedAt z zero (suc line) frame = inLine (HT g) line
-  carriedAt z zero zero (suc frame) = tail
-  carriedAt z zero zero zero = pair z z
+  unfoldable pub carried_at : (z : D) (c line frame : ℕ) → Pair D
+  carried_at z (suc c) line frame = in_line (suc c) line
+  carried_at z zero (suc line) frame = in_line (HT g) line
+  carried_at z zero zero (suc frame) = tail
+  carried_at z zero zero zero = pair z z
 
   unfoldable pub at_once : D → ℕ → Scan D
   at_once z n =
       scan (n / HT g / VT g % 256) (n / HT g % VT g) (n % HT g)
-      (carriedAt z (n % HT g) (n / HT g % VT g) (n / HT g / VT g))
+      (carried_at z (n % HT g) (n / HT g % VT g) (n / HT g / VT g))

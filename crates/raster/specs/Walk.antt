@@ -6,14 +6,14 @@ use Rattle.std.specs.Prelude.{ℕ, ◌+◌, ◌<◌, ◌≡◌}
 use Rattle.std.proofs.Common.{sym, ap, ◌∙◌, add-one}
 use Rattle.raster.specs.declared.Buffer.{Buffer}
 use Rattle.raster.specs.declared.Cell.{Cell}
-use Rattle.raster.specs.Moves.{cell, Bounded, advance, advanceBy, advanceBy-lt, advanceBy-zero, advanceBy-suc}
+use Rattle.raster.specs.Moves.{cell, Bounded, advance, advance_by, advance_by-lt, advance_by-zero, advance_by-suc}
 
-pub not-moved : (b : Buffer) (x : Cell) → x.address < 16384 → x ≡ cell (advanceBy b 0 x.address)
-not-moved b x h = ap cell (sym (advanceBy-zero b x.address h))
+pub not-moved : (b : Buffer) (x : Cell) → x.address < 16384 → x ≡ cell (advance_by b 0 x.address)
+not-moved b x h = ap cell (sym (advance_by-zero b x.address h))
 
-module _ (b : Buffer) (start c : ℕ) (x : Cell) (e : x ≡ cell (advanceBy b c start)) where
-  pub moved_on : Bounded b → start < 16384 → (y : Cell) → y ≡ cell (advance b x.address) → y ≡ cell (advanceBy b (c + 1) start)
-  moved_on o h y q = q ∙ rw (e, add-one c) (ap cell (sym (advanceBy-suc b o c start h)))
+module _ (b : Buffer) (start c : ℕ) (x : Cell) (e : x ≡ cell (advance_by b c start)) where
+  pub moved_on : Bounded b → start < 16384 → (y : Cell) → y ≡ cell (advance b x.address) → y ≡ cell (advance_by b (c + 1) start)
+  moved_on o h y q = q ∙ rw (e, add-one c) (ap cell (sym (advance_by-suc b o c start h)))
 
   pub at_lt : x.address < 16384
-  at_lt = rw e (advanceBy-lt b c start)
+  at_lt = rw e (advance_by-lt b c start)

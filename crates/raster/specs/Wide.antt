@@ -26,21 +26,21 @@ is_top Wide = false
 is_top Top = true
 is_top Bottom = false
 
-abbrev pub isBottom : Code → Bool
-isBottom Plain = false
-isBottom Wide = false
-isBottom Top = false
-isBottom Bottom = true
+abbrev pub is_bottom : Code → Bool
+is_bottom Plain = false
+is_bottom Wide = false
+is_bottom Top = false
+is_bottom Bottom = true
 
 -- [R-4 step]
 -- an odd column of a double width row shows the cell of the column before it again
-abbrev pub againAt : Code → (c : ℕ) → Bool
-againAt k c = is_wide k && eqb (c % 2) 1
+abbrev pub again_at : Code → (c : ℕ) → Bool
+again_at k c = is_wide k && eqb (c % 2) 1
 
 -- [R-4 step] the stepper fetches on even columns, shows that again on the odd one, and moves on after a cell's last column
 -- every other active clock fetches
-abbrev pub fetchesAt : Counts → Code → (c : ℕ) → Bool
-fetchesAt g k c = ltb c (HACT g) && not (againAt k c)
+abbrev pub fetches_at : Counts → Code → (c : ℕ) → Bool
+fetches_at g k c = ltb c (HACT g) && not (again_at k c)
 
 -- [R-4 step]
 -- a cell's last column
@@ -49,30 +49,30 @@ ends_at g k c = not (is_wide k) || (eqb (c % 2) 1 || eqb (c + 1) (HACT g))
 
 -- [R-4 step]
 -- after it the beam moves on
-abbrev pub movesAt : Counts → Code → (c : ℕ) → Bool
-movesAt g k c = ltb c (HACT g) && ends_at g k c
+abbrev pub moves_at : Counts → Code → (c : ℕ) → Bool
+moves_at g k c = ltb c (HACT g) && ends_at g k c
 
 -- [R-4 run] its first run counts the cells fetched, half of HACT rounded up
 -- the cells that a row fetches: half of HACT, rounded up, where it is of double width
-abbrev pub fetchedIn : Counts → Code → ℕ
-fetchedIn g k = pick (is_wide k) ((HACT g + 1) / 2) (HACT g)
+abbrev pub fetched_in : Counts → Code → ℕ
+fetched_in g k = pick (is_wide k) ((HACT g + 1) / 2) (HACT g)
 
 -- [R-4 width]
 -- how often it has moved on by a column
-abbrev pub movedAt : Counts → Code → (c : ℕ) → ℕ
-movedAt g k c = pick (ltb c (HACT g)) (pick (is_wide k) (c / 2) c) (fetchedIn g k)
+abbrev pub moved_at : Counts → Code → (c : ℕ) → ℕ
+moved_at g k c = pick (ltb c (HACT g)) (pick (is_wide k) (c / 2) c) (fetched_in g k)
 
 -- ---- the two agree
 
 module _ (g : Counts) where
-  pub moved-zero : 0 < HACT g → (k : Code) → movedAt g k 0 ≡ 0
+  pub moved-zero : 0 < HACT g → (k : Code) → moved_at g k 0 ≡ 0
   moved-zero h k = rw (lt-ltb 0 (HACT g) h) (go (is_wide k))
     where
       go : (t : Bool) → pick t (0 / 2) 0 ≡ 0
       go true = refl
       go false = refl
 
-  pub moved-suc : (k : Code) (c : ℕ) → movedAt g k (suc c) ≡ pick (movesAt g k c) (suc (movedAt g k c)) (movedAt g k c)
+  pub moved-suc : (k : Code) (c : ℕ) → moved_at g k (suc c) ≡ pick (moves_at g k c) (suc (moved_at g k c)) (moved_at g k c)
   moved-suc k c = go (is_wide k) (dec_lt c (HACT g)) (dec_lt (suc c) (HACT g))
     where
       H : ℕ
@@ -101,5 +101,5 @@ module _ (g : Counts) where
       go false (no f) d₂ = rw (le-ltb c H (omega (arith, f)), le-ltb (suc c) H (omega (arith, f)))
 
   -- past the active clocks the row's cells are fetched
-  pub moved_all : (k : Code) (c : ℕ) → HACT g ≤ c → movedAt g k c ≡ fetchedIn g k
+  pub moved_all : (k : Code) (c : ℕ) → HACT g ≤ c → moved_at g k c ≡ fetched_in g k
   moved_all k c h = rw (le-ltb c (HACT g) h)

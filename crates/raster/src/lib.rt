@@ -1,8 +1,8 @@
 // The beam: where it is, and which cell it is at. Almost all of this crate is theory (specs/); the code is the move from cell to cell.
 ghost use Rattle.std.specs.Prelude.{◌≡◌};
-ghost use Rattle.raster.specs.Moves.{cell, advance, advanceBy};
+ghost use Rattle.raster.specs.Moves.{cell, advance, advance_by};
 ghost use Rattle.raster.specs.Latch.{latched};
-ghost use Rattle.raster.specs.Wide.{code_of, is_wide, is_top, isBottom, againAt};
+ghost use Rattle.raster.specs.Wide.{code_of, is_wide, is_top, is_bottom, again_at};
 
 // A cell, by its address.
 #[derive(Drop)]
@@ -88,7 +88,7 @@ pub fn is_top(k: Code) -> bool
 }
 
 pub fn is_bottom(k: Code) -> bool
-    ensures { result ≡ isBottom k }
+    ensures { result ≡ is_bottom k }
 {
     match k {
         Code::Plain => false,
@@ -100,7 +100,7 @@ pub fn is_bottom(k: Code) -> bool
 
 // Whether a column shows the cell of the column before it again.
 pub fn again_at(k: Code, column: units::Clocks) -> bool
-    ensures { result ≡ againAt k column.0 }
+    ensures { result ≡ again_at k column.0 }
 {
     is_wide(k) & column.is_odd()
 }
@@ -127,7 +127,7 @@ pub fn advance_one(b: Buffer, c: Cell) -> Cell
 
 // The cell k cells after this one.
 pub fn advance_by(b: Buffer, k: u32, c: Cell) -> Cell
-    ensures { result ≡ cell (advanceBy b k c.address) }
+    ensures { result ≡ cell (advance_by b k c.address) }
 {
     let first = b.first as u32;
     let last = b.last as u32;

@@ -1,9 +1,9 @@
 // One record of an index of phrases (02, R-6): what is asked of it, and what it answers.
 ghost use Rattle.std.specs.Prelude.{◌≡◌, ◌+◌, min, max, ◌<◌};
 ghost use Rattle.raster.specs.Moves.{Bounded};
-ghost use Rattle.records.specs.Records.{badRecord, disagrees, pairAnswer};
-ghost use Rattle.records.specs.Ends.{endsBy, asked_of, holdsEnds};
-ghost use Rattle.records.specs.Folds.{start_of, visitOf, label_of, sameLabel, unequal, mateStart, mateVisit, mateFour, firstFour, foursFrom, pairStart, pairVisit};
+ghost use Rattle.records.specs.Records.{bad_record, disagrees, pair_answer};
+ghost use Rattle.records.specs.Ends.{ends_by, asked_of, holds_ends};
+ghost use Rattle.records.specs.Folds.{start_of, visit_of, label_of, same_label, unequal, mate_start, mate_visit, mate_four, first_four, fours_from, pair_start, pair_visit};
 
 // A phrase in a language, by its number: its cells are first to first + length - 1. Any four numbers may be handed over.
 #[repr(C)]
@@ -75,7 +75,7 @@ fn higher(a: u16, b: u16) -> u16
 // The ends of n cells, from a cell on.
 fn row_ends(buffer: raster::Buffer, start: raster::Cell, n: u32) -> Ends
     requires { Bounded buffer × (start.address < 16384) }
-    ensures { result ≡ endsBy buffer start.address n }
+    ensures { result ≡ ends_by buffer start.address n }
 {
     let mut low = start.address;
     let mut high = start.address;
@@ -118,13 +118,13 @@ pub fn row_asked(b: board::Board, chars: &[u8], row: u32) -> Asked
 
 // 20: a record of length 0, or one that passes 16383.
 fn is_bad(p: Phrase) -> bool
-    ensures { result ≡ badRecord p }
+    ensures { result ≡ bad_record p }
 {
     (p.length == 0) | (16384 < p.first as u64 + p.length as u64)
 }
 
 fn holds(p: Phrase, asked: Asked) -> bool
-    ensures { result ≡ holdsEnds asked p }
+    ensures { result ≡ holds_ends asked p }
 {
     (p.first <= asked.low) & ((asked.high as u64) < p.first as u64 + p.length as u64)
 }
@@ -152,7 +152,7 @@ pub fn start(asked: Asked) -> PhraseAnswer
 
 // The answer once one record more is looked at. Most records alter nothing: these are let go by one branch.
 pub fn visit(s: PhraseAnswer, p: Phrase, i: usize, asked: Asked) -> PhraseAnswer
-    ensures { result ≡ visitOf s p i asked }
+    ensures { result ≡ visit_of s p i asked }
 {
     let bad = is_bad(p);
     let good = holds(p, asked);
@@ -179,7 +179,7 @@ pub fn visit(s: PhraseAnswer, p: Phrase, i: usize, asked: Asked) -> PhraseAnswer
 }
 
 pub fn start_mate(o: Phrase) -> Mate
-    ensures { result ≡ mateStart o }
+    ensures { result ≡ mate_start o }
 {
     Mate {
         bad: is_bad(o),
@@ -198,7 +198,7 @@ fn label(p: Phrase) -> u64
 
 // The same for a mate: most records have another language or number.
 pub fn visit_mate(s: Mate, p: Phrase, i: usize, o: Phrase) -> Mate
-    ensures { result ≡ mateVisit s p i o }
+    ensures { result ≡ mate_visit s p i o }
 {
     if label(o) != label(p) {
         return s;
@@ -215,7 +215,7 @@ pub fn visit_mate(s: Mate, p: Phrase, i: usize, o: Phrase) -> Mate
 
 // The same language and number, by one comparison.
 fn same_label(o: Phrase, p: Phrase) -> bool
-    ensures { result ≡ sameLabel o p }
+    ensures { result ≡ same_label o p }
 {
     label(o) == label(p)
 }
@@ -230,7 +230,7 @@ fn apart(o: Phrase, p: Phrase) -> bool
 // The first of four records in a row for which a test holds, where one does.
 fn first_four(a: bool, b: bool, c: bool, i: usize) -> usize
     requires { i + 3 < 18446744073709551616 }
-    ensures { result ≡ firstFour a b c i }
+    ensures { result ≡ first_four a b c i }
 {
     if a {
         return i;
@@ -248,7 +248,7 @@ fn first_four(a: bool, b: bool, c: bool, i: usize) -> usize
 // by where the linker put it, up to twice as long at some places. Whether labels are the same is asked once of each record.
 pub fn visit_four(s: Mate, a: Phrase, b: Phrase, c: Phrase, d: Phrase, i: usize, o: Phrase) -> Mate
     requires { i + 3 < 18446744073709551616 }
-    ensures { result ≡ mateFour s a b c d i o }
+    ensures { result ≡ mate_four s a b c d i o }
 {
     let w = same_label(o, a);
     let x = same_label(o, b);
@@ -273,13 +273,13 @@ pub fn visit_four(s: Mate, a: Phrase, b: Phrase, c: Phrase, d: Phrase, i: usize,
 // Where the records after a position go on in fours to the end of n records: up to three come before.
 pub fn fours_from(after: usize, n: usize) -> usize
     requires { after < n }
-    ensures { result ≡ foursFrom after n }
+    ensures { result ≡ fours_from after n }
 {
     n - (n - after - 1) / 4 * 4
 }
 
 pub fn start_pair() -> PairAnswer
-    ensures { result ≡ pairStart }
+    ensures { result ≡ pair_start }
 {
     PairAnswer {
         refusal: 0,
@@ -291,7 +291,7 @@ pub fn start_pair() -> PairAnswer
 }
 
 fn found_pair(earlier: usize, later: usize) -> PairAnswer
-    ensures { result ≡ pairAnswer 0 0 1 earlier later }
+    ensures { result ≡ pair_answer 0 0 1 earlier later }
 {
     PairAnswer {
         refusal: 0,
@@ -303,7 +303,7 @@ fn found_pair(earlier: usize, later: usize) -> PairAnswer
 }
 
 pub fn visit_pair(pair: PairAnswer, m: Mate, i: usize) -> PairAnswer
-    ensures { result ≡ pairVisit pair m i }
+    ensures { result ≡ pair_visit pair m i }
 {
     if (pair.refusal == 0) & m.bad {
         return PairAnswer {

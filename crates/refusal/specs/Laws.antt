@@ -4,7 +4,7 @@ use Rattle.std.proofs.Common.{sym, ap, ◌∙◌, true≢false}
 use Rattle.lists.specs.Choice.{pick}
 use Rattle.refusal.specs.declared.Refusal.{Refusal}
 use Rattle.refusal.specs.declared.Refusal.TheVariants.{Done, Version, Length, Size, Reserved, BackPorch, LineShort, FrontPorch, Width, Range, Room, Register, Command, Address, Kind, Stretch, Apart, Coded}
-use Rattle.refusal.specs.Number.{done_of, wrongSize}
+use Rattle.refusal.specs.Number.{done_of, wrong_size}
 
 pub done-is : (r : Refusal) → done_of r ≡ true → r ≡ Done
 done-is Done e = refl
@@ -31,7 +31,7 @@ pub passed : (t : Bool) (x r : Refusal) → done_of x ≡ false → pick t x r �
 passed true x r q e = absurd (true≢false (sym (ap done_of e) ∙ q))
 passed false x r q e = (refl, e)
 
-pub size-right : (wrong : Bool) → wrongSize wrong ≡ Done → wrong ≡ false
+pub size-right : (wrong : Bool) → wrong_size wrong ≡ Done → wrong ≡ false
 size-right wrong e = (passed wrong Size Done refl e).0
 
 -- the same for another check's answer x, which is given where it refuses

@@ -27,30 +27,30 @@ number_of Coded = 19
 
 -- [R-2 missing]
 -- by how many clocks the front porch misses 2; no other refusal has a number beside it
-abbrev pub besideOf : Refusal → ℕ
-besideOf Done = 0
-besideOf Version = 0
-besideOf Length = 0
-besideOf Size = 0
-besideOf Reserved = 0
-besideOf BackPorch = 0
-besideOf (LineShort missing) = missing.0
-besideOf (FrontPorch missing) = missing.0
-besideOf Width = 0
-besideOf Range = 0
-besideOf Room = 0
-besideOf Register = 0
-besideOf Command = 0
-besideOf Address = 0
-besideOf Kind = 0
-besideOf Stretch = 0
-besideOf Apart = 0
-besideOf Coded = 0
+abbrev pub beside_of : Refusal → ℕ
+beside_of Done = 0
+beside_of Version = 0
+beside_of Length = 0
+beside_of Size = 0
+beside_of Reserved = 0
+beside_of BackPorch = 0
+beside_of (LineShort missing) = missing.0
+beside_of (FrontPorch missing) = missing.0
+beside_of Width = 0
+beside_of Range = 0
+beside_of Room = 0
+beside_of Register = 0
+beside_of Command = 0
+beside_of Address = 0
+beside_of Kind = 0
+beside_of Stretch = 0
+beside_of Apart = 0
+beside_of Coded = 0
 
 -- nothing is refused
 abbrev pub done_of : Refusal → Bool
 done_of r = eqb (number_of r) 0
 
 -- 3 for a lent part of wrong size
-abbrev pub wrongSize : (wrong : Bool) → Refusal
-wrongSize wrong = pick wrong Size Done
+abbrev pub wrong_size : (wrong : Bool) → Refusal
+wrong_size wrong = pick wrong Size Done

@@ -1,6 +1,6 @@
 // The answer numbers of documents 01 and 02, by name.
 ghost use Rattle.std.specs.Prelude.{◌≡◌};
-ghost use Rattle.refusal.specs.Number.{number_of, besideOf, done_of, wrongSize};
+ghost use Rattle.refusal.specs.Number.{number_of, beside_of, done_of, wrong_size};
 
 // A line that is too short, and a front porch that is, tell by how many clocks the front porch misses 2.
 #[derive(Drop)]
@@ -52,7 +52,7 @@ pub fn number(r: Refusal) -> u32
 
 // The number that belongs to a refusal, or 0.
 pub fn beside(r: Refusal) -> u32
-    ensures { result ≡ besideOf r }
+    ensures { result ≡ beside_of r }
 {
     match r {
         Refusal::Done => 0,
@@ -78,7 +78,7 @@ pub fn beside(r: Refusal) -> u32
 
 // 3, for a lent part of wrong size.
 pub fn wrong_size(wrong: bool) -> Refusal
-    ensures { result ≡ wrongSize wrong }
+    ensures { result ≡ wrong_size wrong }
 {
     if wrong {
         return Refusal::Size;

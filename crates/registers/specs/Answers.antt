@@ -8,5 +8,5 @@ use Rattle.registers.specs.declared.ByteRead.{ByteRead}
 abbrev pub answer : Refusal → Board → Written
 answer r b = record { refusal = r; board = b }
 
-abbrev pub byteRead : Refusal → ℕ → ByteRead
-byteRead r n = record { refusal = r; byte = n }
+abbrev pub byte_read : Refusal → ℕ → ByteRead
+byte_read r n = record { refusal = r; byte = n }

@@ -7,32 +7,32 @@ use Rattle.refusal.specs.declared.Refusal.TheVariants.{Done, Width, Address}
 use Rattle.refusal.specs.Number.{done_of}
 use Rattle.board.specs.declared.Page.{Page}
 use Rattle.board.specs.declared.Board.{Board}
-use Rattle.board.specs.Range.{addressRefused}
-use Rattle.timing.specs.Check.{widthRefused}
+use Rattle.board.specs.Range.{address_refused}
+use Rattle.timing.specs.Check.{width_refused}
 use Rattle.registers.specs.declared.Written.{Written}
-use Rattle.board.specs.Parts.{withSwitches, withVideo, withPage}
+use Rattle.board.specs.Parts.{with_switches, with_video, with_page}
 use Rattle.registers.specs.Answers.{answer}
 
 -- [register video] a call of its own sets dots, strike line, BKGND and RBLANK, refusing 12, then 6
 -- the page is judged with the numbers that are handed over
-unfoldable pub videoCheck : Page → Refusal
-videoCheck p = first_of ((addressRefused p, Address) ∷ (widthRefused p.video.dots, Width) ∷ []) Done
+unfoldable pub video_check : Page → Refusal
+video_check p = first_of ((address_refused p, Address) ∷ (width_refused p.video.dots, Width) ∷ []) Done
 
 -- the page with other dots and another strike line
-abbrev pub withDots : Page → Dots → (strike : ℕ) → Page
-withDots p dots strike = withVideo p (record { dots = dots; strike = strike; chip = p.video.chip })
+abbrev pub with_dots : Page → Dots → (strike : ℕ) → Page
+with_dots p dots strike = with_video p (record { dots = dots; strike = strike; chip = p.video.chip })
 
 -- switch 2 is BKGND, 3 RBLANK; the others are kept
-abbrev pub switchesSet : ℕ → (bkgnd rblank : Bool) → ℕ
-switchesSet s bkgnd rblank = s / 16 * 16 + s % 4 + pick bkgnd 4 0 + pick rblank 8 0
+abbrev pub switches_set : ℕ → (bkgnd rblank : Bool) → ℕ
+switches_set s bkgnd rblank = s / 16 * 16 + s % 4 + pick bkgnd 4 0 + pick rblank 8 0
 
-abbrev pub videoSet : Board → Dots → ℕ → Bool → Bool → Board
-videoSet b dots strike bkgnd rblank =
-    withPage b (withDots (withSwitches b.page (switchesSet b.page.switches bkgnd rblank)) dots strike)
+abbrev pub video_set : Board → Dots → ℕ → Bool → Bool → Board
+video_set b dots strike bkgnd rblank =
+    with_page b (with_dots (with_switches b.page (switches_set b.page.switches bkgnd rblank)) dots strike)
 
 -- [register video]
-unfoldable pub setVideoOf : Board → Dots → ℕ → Bool → Bool → Written
-setVideoOf b dots strike bkgnd rblank =
-    pick (done_of (videoCheck (withDots b.page dots strike)))
-    (answer Done (videoSet b dots strike bkgnd rblank))
-    (answer (videoCheck (withDots b.page dots strike)) b)
+unfoldable pub set_video_of : Board → Dots → ℕ → Bool → Bool → Written
+set_video_of b dots strike bkgnd rblank =
+    pick (done_of (video_check (with_dots b.page dots strike)))
+    (answer Done (video_set b dots strike bkgnd rblank))
+    (answer (video_check (with_dots b.page dots strike)) b)

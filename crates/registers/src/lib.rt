@@ -2,11 +2,11 @@
 ghost use Rattle.std.specs.Prelude.{◌≡◌, [], ◌∷◌, max, ◌≤◌, ◌-◌, ◌+◌};
 ghost use Rattle.lists.specs.Choice.{pick, first_of};
 ghost use Rattle.refusal.specs.declared.Refusal.{Refusal};
-ghost use Rattle.board.specs.Layout.{lastIr};
-ghost use Rattle.registers.specs.Write.{registerCheck, brokenOf, resetOf, pointedOf, point_of, nextPointer, loadedOf, lowerOf, upperOf, startsAfter, startedOf, switchesAfter, switchedOf, commandOf, activeOf, inactiveOf, writeOf};
-ghost use Rattle.registers.specs.Read.{shownAt, readAt, read_of};
-ghost use Rattle.registers.specs.Answers.{answer, byteRead};
-ghost use Rattle.registers.specs.Video.{videoCheck, withDots, videoSet, setVideoOf};
+ghost use Rattle.board.specs.Layout.{last_ir};
+ghost use Rattle.registers.specs.Write.{register_check, broken_of, reset_of, pointed_of, point_of, next_pointer, loaded_of, lower_of, upper_of, starts_after, started_of, switches_after, switched_of, command_of, active_of, inactive_of, write_of};
+ghost use Rattle.registers.specs.Read.{shown_at, read_at, read_of};
+ghost use Rattle.registers.specs.Answers.{answer, byte_read};
+ghost use Rattle.registers.specs.Video.{video_check, with_dots, video_set, set_video_of};
 
 #[derive(Drop)]
 pub struct Written {
@@ -34,7 +34,7 @@ fn first_of_two(address: bool, range: bool) -> refusal::Refusal
 }
 
 fn register_check(b: board::Board) -> refusal::Refusal
-    ensures { result ≡ registerCheck b }
+    ensures { result ≡ register_check b }
 {
     let p = b.page;
     first_of_two(
@@ -51,7 +51,7 @@ fn choose(t: bool, a: u8, b: u8) -> u8
 
 // A write that is no reset, on an inactive board.
 fn broken(b: board::Board) -> board::Board
-    ensures { result ≡ brokenOf b }
+    ensures { result ≡ broken_of b }
 {
     let mut n = b;
     n.resets = 0;
@@ -59,7 +59,7 @@ fn broken(b: board::Board) -> board::Board
 }
 
 fn reset(b: board::Board) -> board::Board
-    ensures { result ≡ resetOf b }
+    ensures { result ≡ reset_of b }
 {
     let place = board::clock_zero();
     let resets = choose(b.resets == 0, 1, 2);
@@ -73,7 +73,7 @@ fn reset(b: board::Board) -> board::Board
 }
 
 fn pointed(b: board::Board, at: u8) -> board::Board
-    ensures { result ≡ pointedOf b at }
+    ensures { result ≡ pointed_of b at }
 {
     let mut n = b;
     n.pointer = at;
@@ -83,14 +83,14 @@ fn pointed(b: board::Board, at: u8) -> board::Board
 // The pointer moves on and stays at the last IR.
 fn next_pointer(last: u8, at: u8) -> u8
     requires { at ≤ 254 }
-    ensures { result ≡ nextPointer last at }
+    ensures { result ≡ next_pointer last at }
 {
     choose(at < last, at + 1, last)
 }
 
 fn loaded(b: board::Board, v: u8) -> board::Board
-    requires { b.pointer ≤ lastIr b.page.version }
-    ensures { result ≡ loadedOf b v }
+    requires { b.pointer ≤ last_ir b.page.version }
+    ensures { result ≡ loaded_of b v }
 {
     let at = b.pointer;
     let i = at as usize;
@@ -104,20 +104,20 @@ fn loaded(b: board::Board, v: u8) -> board::Board
 }
 
 fn lower(x: u16, v: u8) -> u16
-    ensures { result ≡ lowerOf x v }
+    ensures { result ≡ lower_of x v }
 {
     x / 256 * 256 + v as u16
 }
 
 fn upper(x: u16, v: u8) -> u16
-    ensures { result ≡ upperOf x v }
+    ensures { result ≡ upper_of x v }
 {
     v as u16 % 64 * 256 + x % 256
 }
 
 // Addresses 2 to 7: lower, then upper.
 fn starts_after(s: board::Starts, a: u8, v: u8) -> board::Starts
-    ensures { result ≡ startsAfter s a v }
+    ensures { result ≡ starts_after s a v }
 {
     let mut n = s;
     match a {
@@ -149,7 +149,7 @@ fn starts_after(s: board::Starts, a: u8, v: u8) -> board::Starts
 }
 
 fn started(b: board::Board, a: u8, v: u8) -> board::Board
-    ensures { result ≡ startedOf b a v }
+    ensures { result ≡ started_of b a v }
 {
     let mut p = b.page;
     let s = p.starts;
@@ -162,7 +162,7 @@ fn started(b: board::Board, a: u8, v: u8) -> board::Board
 
 // Bit 3 names the display, bit 4 the cursor; bit 0 says on.
 fn switches_after(s: u8, v: u8) -> u8
-    ensures { result ≡ switchesAfter s v }
+    ensures { result ≡ switches_after s v }
 {
     let cursor = choose(v / 16 % 2 == 1, v % 2, s / 2 % 2);
     let display = choose(v / 8 % 2 == 1, v % 2, s % 2);
@@ -170,7 +170,7 @@ fn switches_after(s: u8, v: u8) -> u8
 }
 
 fn switched(b: board::Board, v: u8) -> board::Board
-    ensures { result ≡ switchedOf b v }
+    ensures { result ≡ switched_of b v }
 {
     let s = switches_after(b.page.switches, v);
     let mut n = b;
@@ -203,7 +203,7 @@ fn point(b: board::Board, at: u8) -> Written
 
 // The command byte (003 Table 6).
 fn command(b: board::Board, v: u8) -> Written
-    ensures { result ≡ commandOf b v }
+    ensures { result ≡ command_of b v }
 {
     match v {
         0 => done(reset(b)),
@@ -227,8 +227,8 @@ fn command(b: board::Board, v: u8) -> Written
 
 // The register address (003 Table 1), on an active board.
 fn active(b: board::Board, a: u8, v: u8) -> Written
-    requires { b.pointer ≤ lastIr b.page.version }
-    ensures { result ≡ activeOf b a v }
+    requires { b.pointer ≤ last_ir b.page.version }
+    ensures { result ≡ active_of b a v }
 {
     match a {
         0 => done(loaded(b, v)),
@@ -242,7 +242,7 @@ fn active(b: board::Board, a: u8, v: u8) -> Written
 }
 
 fn inactive(b: board::Board, a: u8, v: u8) -> Written
-    ensures { result ≡ inactiveOf b a v }
+    ensures { result ≡ inactive_of b a v }
 {
     match a {
         0..=7 => {
@@ -261,7 +261,7 @@ fn inactive(b: board::Board, a: u8, v: u8) -> Written
 
 // A write at a register address.
 pub fn write(b: board::Board, a: u8, v: u8) -> Written
-    ensures { result ≡ writeOf b a v }
+    ensures { result ≡ write_of b a v }
 {
     let refused = register_check(b);
     if refusal::is_done(refused) {
@@ -278,7 +278,7 @@ pub fn write(b: board::Board, a: u8, v: u8) -> Written
 
 // What addresses 2 to 7 show: lower, then upper.
 fn shown_at(s: board::Starts, a: u8) -> u8
-    ensures { result ≡ shownAt s a }
+    ensures { result ≡ shown_at s a }
 {
     match a {
         2 => (s.start1 % 256) as u8,
@@ -291,7 +291,7 @@ fn shown_at(s: board::Starts, a: u8) -> u8
 }
 
 fn byte_read(v: u8) -> ByteRead
-    ensures { result ≡ byteRead Refusal.Done v }
+    ensures { result ≡ byte_read Refusal.Done v }
 {
     ByteRead {
         refusal: refusal::Refusal::Done,
@@ -301,7 +301,7 @@ fn byte_read(v: u8) -> ByteRead
 
 // The register address of a read.
 fn read_at(s: board::Starts, a: u8) -> ByteRead
-    ensures { result ≡ readAt s a }
+    ensures { result ≡ read_at s a }
 {
     match a {
         0..=1 => byte_read(0),
@@ -329,7 +329,7 @@ pub fn read(b: board::Board, a: u8) -> ByteRead
 }
 
 fn video_check(p: board::Page) -> refusal::Refusal
-    ensures { result ≡ videoCheck p }
+    ensures { result ≡ video_check p }
 {
     if board::address_refused(p) {
         return refusal::Refusal::Address;
@@ -342,7 +342,7 @@ fn video_check(p: board::Page) -> refusal::Refusal
 
 // A page with other dots and another strike line.
 fn with_dots(p: board::Page, dots: units::Dots, strike: u8) -> board::Page
-    ensures { result ≡ withDots p dots strike }
+    ensures { result ≡ with_dots p dots strike }
 {
     let video = board::Video {
         dots: dots,
@@ -361,7 +361,7 @@ fn with_video(
     bkgnd: bool,
     rblank: bool,
 ) -> board::Board
-    ensures { result ≡ videoSet b dots strike bkgnd rblank }
+    ensures { result ≡ video_set b dots strike bkgnd rblank }
 {
     let background = choose(bkgnd, 4, 0);
     let retrace = choose(rblank, 8, 0);
@@ -383,7 +383,7 @@ pub fn set_video(
     bkgnd: bool,
     rblank: bool,
 ) -> Written
-    ensures { result ≡ setVideoOf b dots strike bkgnd rblank }
+    ensures { result ≡ set_video_of b dots strike bkgnd rblank }
 {
     let refused = video_check(with_dots(b.page, dots, strike));
     if refusal::is_done(refused) {

@@ -17,18 +17,18 @@ pub record Font : Type 0 where
   pub shifted : List ℕ
   pub groups : List ℕ
 
-abbrev pub fontOf : List ℕ → List ℕ → List ℕ → List ℕ → List ℕ → Font
-fontOf words flags unshifted shifted groups = record { words = words; flags = flags; unshifted = unshifted; shifted = shifted; groups = groups }
+abbrev pub font_of : List ℕ → List ℕ → List ℕ → List ℕ → List ℕ → Font
+font_of words flags unshifted shifted groups = record { words = words; flags = flags; unshifted = unshifted; shifted = shifted; groups = groups }
 
 -- for a contract, over the names of the five lent parts: the font where a call is made (in a requires), as it was lent, and as it is left
-abbrev pub fontNow : (words flags unshifted shifted groups : Bor (List ℕ)) → Font
-fontNow w f u s g = fontOf w.now f.now u.now s.now g.now
+abbrev pub font_now : (words flags unshifted shifted groups : Bor (List ℕ)) → Font
+font_now w f u s g = font_of w.now f.now u.now s.now g.now
 
-abbrev pub lentFont : {A B C D E : Type 0} → Both (Bor (List ℕ)) A → Both (Bor (List ℕ)) B → Both (Bor (List ℕ)) C → Both (Bor (List ℕ)) D → Both (Bor (List ℕ)) E → Font
-lentFont w f u s g = fontNow w.entry f.entry u.entry s.entry g.entry
+abbrev pub lent_font : {A B C D E : Type 0} → Both (Bor (List ℕ)) A → Both (Bor (List ℕ)) B → Both (Bor (List ℕ)) C → Both (Bor (List ℕ)) D → Both (Bor (List ℕ)) E → Font
+lent_font w f u s g = font_now w.entry f.entry u.entry s.entry g.entry
 
-abbrev pub leftFont : {A B C D E : Type 0} → Both A (Bor (List ℕ)) → Both B (Bor (List ℕ)) → Both C (Bor (List ℕ)) → Both D (Bor (List ℕ)) → Both E (Bor (List ℕ)) → Font
-leftFont w f u s g = fontNow w.exit f.exit u.exit s.exit g.exit
+abbrev pub left_font : {A B C D E : Type 0} → Both A (Bor (List ℕ)) → Both B (Bor (List ℕ)) → Both C (Bor (List ℕ)) → Both D (Bor (List ℕ)) → Both E (Bor (List ℕ)) → Font
+left_font w f u s g = font_now w.exit f.exit u.exit s.exit g.exit
 
 pub record Whole (f : Font) : Type 0 where
   pub words-all : length f.words ≡ 1152
@@ -39,19 +39,19 @@ pub record Whole (f : Font) : Type 0 where
 
 -- [board font]
 -- 3: a font part of wrong size
-abbrev pub fontRefused : Font → Bool
-fontRefused f =
+abbrev pub font_refused : Font → Bool
+font_refused f =
     not (eqb (length f.words) 1152) || not (eqb (length f.flags) 128) || not (eqb (length f.unshifted) 9)
     || not (eqb (length f.shifted) 9) || (not (eqb (length f.groups) 0) && not (eqb (length f.groups) 16))
 
 -- [R-7 refusals]
 -- 12: a group above 4
-unfoldable pub groupsRefused : List ℕ → Bool
-groupsRefused [] = false
-groupsRefused (g ∷ gs) = ltb 4 g || groupsRefused gs
+unfoldable pub groups_refused : List ℕ → Bool
+groups_refused [] = false
+groups_refused (g ∷ gs) = ltb 4 g || groups_refused gs
 
-abbrev pub groupsCheck : List ℕ → Refusal
-groupsCheck groups = pick (groupsRefused groups) Address Done
+abbrev pub groups_check : List ℕ → Refusal
+groups_check groups = pick (groups_refused groups) Address Done
 
 -- [board font]
 -- the first position in a list that equals the scan line (low four bits count), or the list's length where none does
@@ -61,43 +61,43 @@ position_of (x ∷ xs) scan = pick (eqb (x % 16) scan) 0 (suc (position_of xs sc
 
 -- [R-7 groups] font file version 2 adds sixteen group numbers, 0 for none; a version 1 font has no groups
 -- the group of a scan line
-abbrev pub groupIn : List ℕ → (scan : ℕ) → ℕ
-groupIn groups scan = get_or groups scan 0
+abbrev pub group_in : List ℕ → (scan : ℕ) → ℕ
+group_in groups scan = get_or groups scan 0
 
 -- what a scan line takes from a font: where it stands in each of the two lists, and its group
-unfoldable pub fontLineOf : (unshifted shifted groups : List ℕ) → (scan : ℕ) → FontLine
-fontLineOf unshifted shifted groups scan = record {
+unfoldable pub font_line_of : (unshifted shifted groups : List ℕ) → (scan : ℕ) → FontLine
+font_line_of unshifted shifted groups scan = record {
   unshifted = position_of unshifted scan;
   shifted = position_of shifted scan;
-  group = groupIn groups scan;
+  group = group_in groups scan;
 }
 
-abbrev pub fontLineIn : Font → (scan : ℕ) → FontLine
-fontLineIn f scan = fontLineOf f.unshifted f.shifted f.groups scan
+abbrev pub font_line_in : Font → (scan : ℕ) → FontLine
+font_line_in f scan = font_line_of f.unshifted f.shifted f.groups scan
 
 -- the same for each of the sixteen scan lines, and one of them
-unfoldable pub fontLinesOf : (unshifted shifted groups : List ℕ) → FontLines
-fontLinesOf unshifted shifted groups = record {
+unfoldable pub font_lines_of : (unshifted shifted groups : List ℕ) → FontLines
+font_lines_of unshifted shifted groups = record {
   unshifted = tab 16 (position_of unshifted);
   shifted = tab 16 (position_of shifted);
-  groups = tab 16 (groupIn groups);
+  groups = tab 16 (group_in groups);
 }
 
-unfoldable pub fontLineAt : FontLines → (scan : ℕ) → FontLine
-fontLineAt lines scan = record {
+unfoldable pub font_line_at : FontLines → (scan : ℕ) → FontLine
+font_line_at lines scan = record {
   unshifted = get_or lines.unshifted scan 0;
   shifted = get_or lines.shifted scan 0;
   group = get_or lines.groups scan 0;
 }
 
 -- a shift flag that is not 0 is shifted, and chooses the shifted list
-abbrev pub chosenBy : (flag : ℕ) → FontLine → ℕ
-chosenBy flag line = pick (eqb flag 0) line.unshifted line.shifted
+abbrev pub chosen_by : (flag : ℕ) → FontLine → ℕ
+chosen_by flag line = pick (eqb flag 0) line.unshifted line.shifted
 
 -- [board font] the font: words of which ten bits count, shift flags, two lists of which four bits count
 -- the font word of a character at a position of nine (low ten bits count); zeros past the nine
-unfoldable pub fontWord : List ℕ → ℕ → ℕ → ℕ
-fontWord words character position = pick (ltb position 9) (get_or words (character * 9 + position) 0 % 1024) 0
+unfoldable pub font_word : List ℕ → ℕ → ℕ → ℕ
+font_word words character position = pick (ltb position 9) (get_or words (character * 9 + position) 0 % 1024) 0
 
 -- [R-7 pairs] 1 to 4 for the pairs CA0/CA1 up to CA6/CA7
 -- the two bits of the code that a group puts out
@@ -107,18 +107,18 @@ pair_of group code =
 
 -- [R-7 dots] in graphics mode dots 0 to 4 are one bit of the code and dots 5 to 9 its neighbour, by line group
 -- 002: the even bit of the pair on D0 thru D4, the odd one on D5 thru D9
-unfoldable pub graphicsWord : (group code : ℕ) → ℕ
-graphicsWord group code = 31 * (pair_of group code % 2) + 992 * (pair_of group code / 2)
+unfoldable pub graphics_word : (group code : ℕ) → ℕ
+graphics_word group code = 31 * (pair_of group code % 2) + 992 * (pair_of group code / 2)
 
 -- [dots shape] CA7 = 0 gives zeros; else the flag chooses a list, and the first position of the scan line gives the word
 -- in graphics mode the word of the line's group; else CA7 = 0 gives zeros, and the position in the list that the character's flag chooses the font word
-unfoldable pub wordBy : (words flags : List ℕ) → FontLine → (graphics : Bool) → (code : ℕ) → ℕ
-wordBy words flags line graphics code =
-    pick graphics (graphicsWord line.group code)
-    (pick (ltb code 128) 0 (fontWord words (code % 128) (chosenBy (get_or flags (code % 128) 0) line)))
+unfoldable pub word_by : (words flags : List ℕ) → FontLine → (graphics : Bool) → (code : ℕ) → ℕ
+word_by words flags line graphics code =
+    pick graphics (graphics_word line.group code)
+    (pick (ltb code 128) 0 (font_word words (code % 128) (chosen_by (get_or flags (code % 128) 0) line)))
 
 -- [dots shape]
 -- [R-7 mode] the shape lookup answers for a code, a line and a mode
 -- the word that a scan line shows of a code, in graphics mode or not
 unfoldable pub word_of : Font → (scan : ℕ) → (graphics : Bool) → (code : ℕ) → ℕ
-word_of f scan graphics code = wordBy f.words f.flags (fontLineIn f scan) graphics code
+word_of f scan graphics code = word_by f.words f.flags (font_line_in f scan) graphics code

@@ -3,11 +3,11 @@ use Rattle.std.specs.Prelude.{ℕ, ◌+◌, ◌*◌, ◌/◌, ◌%◌, ◌<◌, 
 use Rattle.std.proofs.Common.{true≢false, arith, eqb-true}
 use Rattle.std.proofs.lemmas.Bool.{not-false}
 use Rattle.lists.specs.Choice.{pick, neither, pick-lt}
-use Rattle.lists.specs.Tab.{getD-tab}
+use Rattle.lists.specs.Tab.{get_or-tab}
 use Rattle.shape.specs.declared.FontLine.{FontLine}
-use Rattle.shape.specs.Font.{Font, Whole, fontRefused, position_of, groupIn, pair_of, graphicsWord, fontLineOf, fontLineIn, fontLinesOf, fontLineAt, chosenBy, fontWord, wordBy, word_of}
+use Rattle.shape.specs.Font.{Font, Whole, font_refused, position_of, group_in, pair_of, graphics_word, font_line_of, font_line_in, font_lines_of, font_line_at, chosen_by, font_word, word_by, word_of}
 
-pub font-whole : (f : Font) → fontRefused f ≡ false → Whole f
+pub font-whole : (f : Font) → font_refused f ≡ false → Whole f
 font-whole f e =
     let w = not (eqb (length f.words) 1152) in
     let g = not (eqb (length f.flags) 128) in
@@ -30,8 +30,8 @@ font-whole f e =
     either false true n = refl
     either false false n = absurd (true≢false n)
 
-word_small : (words : List ℕ) (m p : ℕ) → fontWord words m p < 1024
-unfolding fontWord
+word_small : (words : List ℕ) (m p : ℕ) → font_word words m p < 1024
+unfolding font_word
 word_small words m p = pick-lt 1024 (ltb p 9) (get_or words (m * 9 + p) 0 % 1024) 0 (omega arith) (omega arith)
 
 -- a pair is of two bits
@@ -41,10 +41,10 @@ pair_lt group code =
     (pick-lt 4 (eqb group 2) _ _ (omega arith) (pick-lt 4 (eqb group 3) _ _ (omega arith) (pick-lt 4 (eqb group 4) _ _ (omega arith) (omega arith))))
 
 -- the same pair, of a code moved up by four for each group that follows
-abbrev pub weightOf : (group : ℕ) → ℕ
-weightOf group = pick (eqb group 1) 64 (pick (eqb group 2) 16 (pick (eqb group 3) 4 (pick (eqb group 4) 1 0)))
+abbrev pub weight_of : (group : ℕ) → ℕ
+weight_of group = pick (eqb group 1) 64 (pick (eqb group 2) 16 (pick (eqb group 3) 4 (pick (eqb group 4) 1 0)))
 
-pub pair-weighed : (group code : ℕ) → code * weightOf group / 64 % 4 ≡ pair_of group code
+pub pair-weighed : (group code : ℕ) → code * weight_of group / 64 % 4 ≡ pair_of group code
 pair-weighed group code = go (eqb group 1) (eqb group 2) (eqb group 3) (eqb group 4)
   where
     go : (a b c d : Bool) → code * pick a 64 (pick b 16 (pick c 4 (pick d 1 0))) / 64 % 4
@@ -55,7 +55,7 @@ pair-weighed group code = go (eqb group 1) (eqb group 2) (eqb group 3) (eqb grou
     go false false false true = omega arith
     go false false false false = omega arith
 
-pub weighed-small : (group code : ℕ) → code < 256 → code * weightOf group < 65536
+pub weighed-small : (group code : ℕ) → code < 256 → code * weight_of group < 65536
 weighed-small group code h = go (eqb group 1) (eqb group 2) (eqb group 3) (eqb group 4)
   where
     go : (a b c d : Bool) → code * pick a 64 (pick b 16 (pick c 4 (pick d 1 0))) < 65536
@@ -65,24 +65,24 @@ weighed-small group code h = go (eqb group 1) (eqb group 2) (eqb group 3) (eqb g
     go false false false true = omega arith
     go false false false false = omega arith
 
-pub graphics-small : (group code : ℕ) → graphicsWord group code < 1024
-unfolding graphicsWord
+pub graphics-small : (group code : ℕ) → graphics_word group code < 1024
+unfolding graphics_word
 graphics-small group code = omega (arith, pair_lt group code)
 
-pub by-small : (words flags : List ℕ) (line : FontLine) (graphics : Bool) (code : ℕ) → wordBy words flags line graphics code < 1024
-unfolding wordBy
+pub by-small : (words flags : List ℕ) (line : FontLine) (graphics : Bool) (code : ℕ) → word_by words flags line graphics code < 1024
+unfolding word_by
 by-small words flags line graphics code =
     pick-lt 1024 graphics _ _ (graphics-small line.group code)
     (pick-lt 1024 (ltb code 128) 0 _ (omega arith)
-    (word_small words (code % 128) (chosenBy (get_or flags (code % 128) 0) line)))
+    (word_small words (code % 128) (chosen_by (get_or flags (code % 128) 0) line)))
 
 pub word-of-small : (f : Font) (scan : ℕ) (graphics : Bool) (code : ℕ) → word_of f scan graphics code < 1024
 unfolding word_of
-word-of-small f scan graphics code = by-small f.words f.flags (fontLineIn f scan) graphics code
+word-of-small f scan graphics code = by-small f.words f.flags (font_line_in f scan) graphics code
 
 -- one line of the sixteen is that line
 pub line_at : (unshifted shifted groups : List ℕ) (scan : ℕ) → scan < 16
-    → fontLineAt (fontLinesOf unshifted shifted groups) scan ≡ fontLineOf unshifted shifted groups scan
-unfolding fontLineAt fontLinesOf fontLineOf
+    → font_line_at (font_lines_of unshifted shifted groups) scan ≡ font_line_of unshifted shifted groups scan
+unfolding font_line_at font_lines_of font_line_of
 line_at unshifted shifted groups scan h =
-    rw (getD-tab 16 (position_of unshifted) scan h, getD-tab 16 (position_of shifted) scan h, getD-tab 16 (groupIn groups) scan h)
+    rw (get_or-tab 16 (position_of unshifted) scan h, get_or-tab 16 (position_of shifted) scan h, get_or-tab 16 (group_in groups) scan h)

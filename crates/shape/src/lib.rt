@@ -1,8 +1,8 @@
 // The character generator (002): from a code, a scan line and the font to ten dots.
 ghost use Rattle.std.specs.Prelude.{◌≡◌, ◌<◌, length, get_or};
 ghost use Rattle.lists.specs.Tab.{tab};
-ghost use Rattle.shape.specs.Font.{fontRefused, groupsRefused, groupsCheck, position_of, groupIn, fontLineOf, fontLinesOf, fontLineAt, chosenBy, fontWord, pair_of, graphicsWord, wordBy, lentFont};
-ghost use Rattle.shape.specs.Laws.{weightOf};
+ghost use Rattle.shape.specs.Font.{font_refused, groups_refused, groups_check, position_of, group_in, font_line_of, font_lines_of, font_line_at, chosen_by, font_word, pair_of, graphics_word, word_by, lent_font};
+ghost use Rattle.shape.specs.Laws.{weight_of};
 
 // What a scan line takes from a font: the first position in each of its two lists that equals the scan line, or the list's length; and its group.
 #[derive(Drop)]
@@ -46,7 +46,7 @@ fn group_at(groups: &[u8], s: usize) -> u8
 }
 
 pub fn font_line(unshifted: &[u8], shifted: &[u8], groups: &[u8], scan: units::Lines) -> FontLine
-    ensures { result ≡ fontLineOf unshifted.now shifted.now groups.now scan.0 }
+    ensures { result ≡ font_line_of unshifted.now shifted.now groups.now scan.0 }
 {
     FontLine {
         unshifted: position(unshifted, scan),
@@ -70,7 +70,7 @@ fn positions(list: &[u8]) -> [usize; 16]
 
 // The groups of all scan lines.
 fn groups_of(groups: &[u8]) -> [u8; 16]
-    ensures { result ≡ tab 16 (groupIn groups.now) }
+    ensures { result ≡ tab 16 (group_in groups.now) }
 {
     let mut all = [0u8; 16];
     let mut s: usize = 0;
@@ -82,7 +82,7 @@ fn groups_of(groups: &[u8]) -> [u8; 16]
 }
 
 pub fn font_lines(unshifted: &[u8], shifted: &[u8], groups: &[u8]) -> FontLines
-    ensures { result ≡ fontLinesOf unshifted.now shifted.now groups.now }
+    ensures { result ≡ font_lines_of unshifted.now shifted.now groups.now }
 {
     FontLines {
         unshifted: positions(unshifted),
@@ -94,7 +94,7 @@ pub fn font_lines(unshifted: &[u8], shifted: &[u8], groups: &[u8]) -> FontLines
 // One of them.
 pub fn font_line_at(lines: FontLines, scan: units::Lines) -> FontLine
     requires { scan.0 < 16 }
-    ensures { result ≡ fontLineAt lines scan.0 }
+    ensures { result ≡ font_line_at lines scan.0 }
 {
     let s = scan.places();
     FontLine {
@@ -112,7 +112,7 @@ pub fn font_refused(
     shifted: &[u8],
     groups: &[u8],
 ) -> bool
-    ensures { result ≡ fontRefused (lentFont words flags unshifted shifted groups) }
+    ensures { result ≡ font_refused (lent_font words flags unshifted shifted groups) }
 {
     (words.len() != 1152)
         | (flags.len() != 128)
@@ -123,7 +123,7 @@ pub fn font_refused(
 
 // A group above 4. The compiler makes vectors of a loop that always goes to the end.
 fn groups_refused(groups: &[u8]) -> bool
-    ensures { result ≡ groupsRefused groups.now }
+    ensures { result ≡ groups_refused groups.now }
 {
     let mut above = false;
     let mut i = 0;
@@ -136,7 +136,7 @@ fn groups_refused(groups: &[u8]) -> bool
 
 // 12, for the groups.
 pub fn groups_check(groups: &[u8]) -> refusal::Refusal
-    ensures { result ≡ groupsCheck groups.now }
+    ensures { result ≡ groups_check groups.now }
 {
     if groups_refused(groups) {
         return refusal::Refusal::Address;
@@ -147,7 +147,7 @@ pub fn groups_check(groups: &[u8]) -> refusal::Refusal
 // The font word at a position of a character; past the nine there is none.
 fn font_word(words: &[u16], character: usize, position: usize) -> u16
     requires { (character < 128) × (length words.now ≡ 1152) }
-    ensures { result ≡ fontWord words.now character position }
+    ensures { result ≡ font_word words.now character position }
 {
     if position < 9 {
         words[character * 9 + position] % 1024
@@ -158,7 +158,7 @@ fn font_word(words: &[u16], character: usize, position: usize) -> u16
 
 // The shift flag chooses a list.
 fn chosen(flag: u8, line: FontLine) -> usize
-    ensures { result ≡ chosenBy flag line }
+    ensures { result ≡ chosen_by flag line }
 {
     if flag == 0 {
         line.unshifted
@@ -169,7 +169,7 @@ fn chosen(flag: u8, line: FontLine) -> usize
 
 // What a code is multiplied by so that a group's pair stands where CA6 and CA7 do. It is the same for all cells of a line, so it is worked out once.
 fn weight(group: u8) -> u16
-    ensures { result ≡ weightOf group }
+    ensures { result ≡ weight_of group }
 {
     if group == 1 {
         return 64;
@@ -195,7 +195,7 @@ fn pair_of(group: u8, code: u8) -> u16
 
 // Five dots of the one bit, then five of its neighbour.
 pub fn graphics_word(group: u8, code: u8) -> u16
-    ensures { result ≡ graphicsWord group code }
+    ensures { result ≡ graphics_word group code }
 {
     let pair = pair_of(group, code);
     31 * (pair % 2) + 992 * (pair / 2)
@@ -204,7 +204,7 @@ pub fn graphics_word(group: u8, code: u8) -> u16
 // The word that a code shows on a scan line, in graphics mode or not.
 pub fn word_by(words: &[u16], flags: &[u8], line: FontLine, graphics: bool, code: u8) -> u16
     requires { (length words.now ≡ 1152) × (length flags.now ≡ 128) }
-    ensures { result ≡ wordBy words.now flags.now line graphics code }
+    ensures { result ≡ word_by words.now flags.now line graphics code }
 {
     if graphics {
         return graphics_word(line.group, code);

@@ -15,47 +15,47 @@ use Rattle.refusal.specs.Number.{done_of}
 use Rattle.raster.specs.Wide.{code_of, is_wide}
 use Rattle.board.specs.declared.Place.{Place}
 use Rattle.board.specs.declared.Board.{Board}
-use Rattle.timing.specs.Check.{pageCheck, stateRefused, callCheck}
+use Rattle.timing.specs.Check.{page_check, state_refused, call_check}
 use Rattle.timing.specs.Laws.{Accepted, InRange, ht-bound, vt-bound}
 use Rattle.shape.specs.declared.FontLine.{FontLine}
-use Rattle.shape.specs.Font.{Font, groupsCheck, word_of}
+use Rattle.shape.specs.Font.{Font, groups_check, word_of}
 use Rattle.shape.specs.Laws.{by-small}
 use Rattle.video.specs.declared.Look.{Look}
-use Rattle.video.specs.Scene.{scene_of, cursorAt}
-use Rattle.video.specs.Look.{blankLook}
-use Rattle.video.specs.Cell.{shadeOf, lit_bits, cellDots, columnOf}
+use Rattle.video.specs.Scene.{scene_of, cursor_at}
+use Rattle.video.specs.Look.{blank_look}
+use Rattle.video.specs.Cell.{shade_of, lit_bits, cell_dots, column_of}
 use Rattle.video.specs.Twice.{column-plain}
-use Rattle.video.specs.At.{lentBy, scanDots, dotsAt}
-use Rattle.dots.specs.Half.{halfBy, half-column}
+use Rattle.video.specs.At.{lent_by, scan_dots, dots_at}
+use Rattle.dots.specs.Half.{half_by, half-column}
 use Rattle.dots.specs.Width.{length-cell}
 use Rattle.place.specs.declared.Carried.{Carried}
-use Rattle.place.specs.Place.{activeAt, loadedIn, movedIn, turnedIn}
-use Rattle.board.specs.Parts.{withPlace}
+use Rattle.place.specs.Place.{active_at, loaded_in, moved_in, turned_in}
+use Rattle.board.specs.Parts.{with_place}
 use Rattle.place.specs.Laws.{loaded-lt}
 use Rattle.step.specs.declared.Signals.{Signals}
 use Rattle.step.specs.declared.Stepped.{Stepped}
 use Rattle.step.specs.declared.Clock.{Clock}
 use Rattle.step.specs.declared.Shown.{Shown}
-use Rattle.step.specs.Signals.{scanIn, oddIn, signalsOf, padded, validIn, clockDots}
-use Rattle.step.specs.Shown.{signalsWith, cellShown, blankShown, lineIn, shownIn, dotsShown, clockWith}
-use Rattle.step.specs.Step.{address_of, held_of, code_in, steppedOf, stepCheck, noSignals, stepRefused, step_of, clockIn}
+use Rattle.step.specs.Signals.{scan_in, odd_in, signals_of, padded, valid_in, clock_dots}
+use Rattle.step.specs.Shown.{signals_with, cell_shown, blank_shown, line_in, shown_in, dots_shown, clock_with}
+use Rattle.step.specs.Step.{address_of, held_of, code_in, stepped_of, step_check, no_signals, step_refused, step_of, clock_in}
 
 -- ---- dots
 
 module _ (x : ℕ) where
-  all-blank : (l : List ℕ) → map (shadeOf x x) l ≡ replicate (length l) x
+  all-blank : (l : List ℕ) → map (shade_of x x) l ≡ replicate (length l) x
   all-blank [] = refl
   all-blank (b ∷ l) = go (eqb b 0) (all-blank l)
     where
-      go : (t : Bool) → map (shadeOf x x) l ≡ replicate (length l) x → pick t x x ∷ map (shadeOf x x) l ≡ x ∷ replicate (length l) x
+      go : (t : Bool) → map (shade_of x x) l ≡ replicate (length l) x → pick t x x ∷ map (shade_of x x) l ≡ x ∷ replicate (length l) x
       go true e = ap (λ (m : List ℕ). x ∷ m) e
       go false e = ap (λ (m : List ℕ). x ∷ m) e
 
   -- a cell of one level
-  blank-cell : (d : ℕ) → d ≤ 12 → cellDots (blankLook x) 0 d ≡ replicate d x
-  unfolding cellDots
+  blank-cell : (d : ℕ) → d ≤ 12 → cell_dots (blank_look x) 0 d ≡ replicate d x
+  unfolding cell_dots
   blank-cell d m =
-      let n : length (lit_bits false 0 d) ≡ d = sym (length-map (lit_bits false 0 d) (shadeOf x x)) ∙ length-cell (blankLook x) 0 d (omega arith) m in
+      let n : length (lit_bits false 0 d) ≡ d = sym (length-map (lit_bits false 0 d) (shade_of x x)) ∙ length-cell (blank_look x) 0 d (omega arith) m in
       all-blank (lit_bits false 0 d) ∙ ap (λ (k : ℕ). replicate k x) n
 
 rest-zero : (d n : ℕ) → d ≤ n → drop {A = ℕ} d (replicate n 0) ≡ replicate (n - d) 0
@@ -68,58 +68,58 @@ over_zeros : (d : ℕ) (out dots : List ℕ) → d ≤ 12 → out ≡ dots ++ dr
 over_zeros d out dots h e = e ∙ ap (λ (l : List ℕ). dots ++ l) (rest-zero d 12 h)
 
 -- a column of double width, from the cell that is drawn
-pub column-wide : (odd : Bool) (k : Look) (w d : ℕ) → w < 1024 → d ≤ 12 → (cell : List ℕ) → cell ≡ cellDots k w d ++ drop d (replicate 12 0)
-    → (out : List ℕ) → out ≡ tab d (halfBy cell (pick odd d 0)) ++ drop d (replicate 12 0) → out ≡ padded (columnOf true odd (cellDots k w d)) d
+pub column-wide : (odd : Bool) (k : Look) (w d : ℕ) → w < 1024 → d ≤ 12 → (cell : List ℕ) → cell ≡ cell_dots k w d ++ drop d (replicate 12 0)
+    → (out : List ℕ) → out ≡ tab d (half_by cell (pick odd d 0)) ++ drop d (replicate 12 0) → out ≡ padded (column_of true odd (cell_dots k w d)) d
 column-wide odd k w d small most cell e out q =
-    let dots = cellDots k w d in
-    let half : tab d (halfBy cell (pick odd d 0)) ≡ columnOf true odd dots =
+    let dots = cell_dots k w d in
+    let half : tab d (half_by cell (pick odd d 0)) ≡ column_of true odd dots =
     rw (over_zeros d cell dots most e) (half-column odd dots (replicate (12 - d) 0) d (length-cell k w d small most)) in
-    over_zeros d out (columnOf true odd dots) most (rw half at q)
+    over_zeros d out (column_of true odd dots) most (rw half at q)
 
 -- and any other
-pub column-not-wide : (odd : Bool) (k : Look) (w d : ℕ) → d ≤ 12 → (cell : List ℕ) → cell ≡ cellDots k w d ++ drop d (replicate 12 0)
-    → cell ≡ padded (columnOf false odd (cellDots k w d)) d
-column-not-wide odd k w d most cell e = over_zeros d cell (cellDots k w d) most e ∙ ap (λ (l : List ℕ). padded l d) (sym (column-plain odd (cellDots k w d)))
+pub column-not-wide : (odd : Bool) (k : Look) (w d : ℕ) → d ≤ 12 → (cell : List ℕ) → cell ≡ cell_dots k w d ++ drop d (replicate 12 0)
+    → cell ≡ padded (column_of false odd (cell_dots k w d)) d
+column-not-wide odd k w d most cell e = over_zeros d cell (cell_dots k w d) most e ∙ ap (λ (l : List ℕ). padded l d) (sym (column-plain odd (cell_dots k w d)))
 
 -- ---- what a clock shows
 
 module _ (b : Board) (chars attrs words flags : List ℕ) (line : FontLine) (code held a : ℕ) where
-  pub shown-small : (shownIn b chars attrs words flags line code held a).word < 1024
-  unfolding shownIn cellShown blankShown
-  shown-small = go (activeAt b.page b.place)
+  pub shown-small : (shown_in b chars attrs words flags line code held a).word < 1024
+  unfolding shown_in cell_shown blank_shown
+  shown-small = go (active_at b.page b.place)
     where
-      go : (t : Bool) → (pick t (cellShown b chars attrs words flags line code held a) (blankShown b)).word < 1024
+      go : (t : Bool) → (pick t (cell_shown b chars attrs words flags line code held a) (blank_shown b)).word < 1024
       go true = by-small words flags line _ _
       go false = omega arith
 
-  shown-cursor : (shownIn b chars attrs words flags line code held a).cursor ≡ (activeAt b.page b.place && cursorAt (scene_of b (scanIn b code) b.place.field) a)
-  unfolding shownIn cellShown blankShown
-  shown-cursor = go (activeAt b.page b.place)
+  shown-cursor : (shown_in b chars attrs words flags line code held a).cursor ≡ (active_at b.page b.place && cursor_at (scene_of b (scan_in b code) b.place.field) a)
+  unfolding shown_in cell_shown blank_shown
+  shown-cursor = go (active_at b.page b.place)
     where
-      go : (t : Bool) → (pick t (cellShown b chars attrs words flags line code held a) (blankShown b)).cursor ≡ (t && cursorAt (scene_of b (scanIn b code) b.place.field) a)
+      go : (t : Bool) → (pick t (cell_shown b chars attrs words flags line code held a) (blank_shown b)).cursor ≡ (t && cursor_at (scene_of b (scan_in b code) b.place.field) a)
       go true = refl
       go false = refl
 
   -- its CURSOR makes the signals
-  signals-shown : signalsWith b (shownIn b chars attrs words flags line code held a).cursor ≡ signalsOf b code a
-  unfolding signalsWith signalsOf
-  signals-shown = ap (signalsWith b) shown-cursor
+  signals-shown : signals_with b (shown_in b chars attrs words flags line code held a).cursor ≡ signals_of b code a
+  unfolding signals_with signals_of
+  signals-shown = ap (signals_with b) shown-cursor
 
 -- the parts of a clock put together
-pub clock-parts : (b : Board) (chars attrs words flags : List ℕ) (line : FontLine) (c : Carried) → c ≡ loadedIn b.page chars b.place
-    → (q : Place) → q ≡ turnedIn b.page b.place (movedIn b.page attrs b.place c)
-    → (s : Shown) → s ≡ shownIn b chars attrs words flags line c.beam.code c.beam.latch c.beam.address
-    → (g : Signals) → g ≡ signalsWith b s.cursor → (d : List ℕ) → d ≡ dotsShown b c.beam.code s
-    → ◌≡◌ {A = Clock} (record { refusal = Done; signals = g; address = c.beam.address; dots = d; place = q }) (clockWith b chars attrs words flags line)
-unfolding clockWith
+pub clock-parts : (b : Board) (chars attrs words flags : List ℕ) (line : FontLine) (c : Carried) → c ≡ loaded_in b.page chars b.place
+    → (q : Place) → q ≡ turned_in b.page b.place (moved_in b.page attrs b.place c)
+    → (s : Shown) → s ≡ shown_in b chars attrs words flags line c.beam.code c.beam.latch c.beam.address
+    → (g : Signals) → g ≡ signals_with b s.cursor → (d : List ℕ) → d ≡ dots_shown b c.beam.code s
+    → ◌≡◌ {A = Clock} (record { refusal = Done; signals = g; address = c.beam.address; dots = d; place = q }) (clock_with b chars attrs words flags line)
+unfolding clock_with
 clock-parts b chars attrs words flags line c ec q eq s es g eg d ed = rw (eq, eg, ed, es, ec)
 
 -- its look and word make the dots
 dots-shown : (b : Board) (chars attrs : List ℕ) (f : Font) (code held a : ℕ) → b.page.video.dots.0 ≤ 12
-    → dotsShown b code (shownIn b chars attrs f.words f.flags (lineIn b (activeAt b.page b.place) code f.unshifted f.shifted f.groups) code held a)
-    ≡ clockDots b chars attrs f code held a
-unfolding shownIn cellShown blankShown lineIn clockDots dotsAt scanDots scene_of word_of
-dots-shown b chars attrs f code held a most = ap (λ (l : List ℕ). padded l d) (go (activeAt b.page b.place))
+    → dots_shown b code (shown_in b chars attrs f.words f.flags (line_in b (active_at b.page b.place) code f.unshifted f.shifted f.groups) code held a)
+    ≡ clock_dots b chars attrs f code held a
+unfolding shown_in cell_shown blank_shown line_in clock_dots dots_at scan_dots scene_of word_of
+dots-shown b chars attrs f code held a most = ap (λ (l : List ℕ). padded l d) (go (active_at b.page b.place))
   where
     d : ℕ
     d = b.page.video.dots.0
@@ -128,22 +128,22 @@ dots-shown b chars attrs f code held a most = ap (λ (l : List ℕ). padded l d)
     x = (scene_of b 0 b.place.field).blank
 
     s : Bool → Shown
-    s t = pick t (cellShown b chars attrs f.words f.flags (lineIn b t code f.unshifted f.shifted f.groups) code held a) (blankShown b)
+    s t = pick t (cell_shown b chars attrs f.words f.flags (line_in b t code f.unshifted f.shifted f.groups) code held a) (blank_shown b)
 
-    go : (t : Bool) → columnOf (t && is_wide (code_of code)) (oddIn b) (cellDots (s t).look (s t).word d)
-        ≡ pick t (columnOf (is_wide (code_of code)) (oddIn b) (dotsAt b chars attrs f (scanIn b code) b.place.field (validIn b attrs code held a) a)) (replicate d x)
+    go : (t : Bool) → column_of (t && is_wide (code_of code)) (odd_in b) (cell_dots (s t).look (s t).word d)
+        ≡ pick t (column_of (is_wide (code_of code)) (odd_in b) (dots_at b chars attrs f (scan_in b code) b.place.field (valid_in b attrs code held a) a)) (replicate d x)
     go true = refl
-    go false = column-plain (oddIn b) (cellDots (blankLook x) 0 d) ∙ blank-cell x d most
+    go false = column-plain (odd_in b) (cell_dots (blank_look x) 0 d) ∙ blank-cell x d most
 
 -- ---- the check
 
 -- nothing refuses a clock
-clear-check : (b : Board) (lent : Refusal) → ((done_of lent && done_of (pageCheck b.page)) && not (stateRefused b)) ≡ done_of (callCheck b lent false false)
-unfolding callCheck
-clear-check b lent = go (done_of lent) refl (done_of (pageCheck b.page)) refl (stateRefused b)
+clear-check : (b : Board) (lent : Refusal) → ((done_of lent && done_of (page_check b.page)) && not (state_refused b)) ≡ done_of (call_check b lent false false)
+unfolding call_check
+clear-check b lent = go (done_of lent) refl (done_of (page_check b.page)) refl (state_refused b)
   where
-    go : (s : Bool) → done_of lent ≡ s → (d : Bool) → done_of (pageCheck b.page) ≡ d → (r : Bool)
-        → ((s && d) && not r) ≡ done_of (pick (not s) lent (pick (not d) (pageCheck b.page) (pick (r || false) Range Done)))
+    go : (s : Bool) → done_of lent ≡ s → (d : Bool) → done_of (page_check b.page) ≡ d → (r : Bool)
+        → ((s && d) && not r) ≡ done_of (pick (not s) lent (pick (not d) (page_check b.page) (pick (r || false) Range Done)))
     go false e d q r = sym e
     go true e true q true = refl
     go true e true q false = refl
@@ -152,7 +152,7 @@ clear-check b lent = go (done_of lent) refl (done_of (pageCheck b.page)) refl (s
 -- judged with the groups last
 module _ (b : Board) (size : Bool) (groups : List ℕ) where
   abbrev early : Bool
-  early = (size || not (done_of (pageCheck b.page))) || stateRefused b
+  early = (size || not (done_of (page_check b.page))) || state_refused b
 
   order : (s d r g : Bool) → ((pick s false g && d) && not r) ≡ pick ((s || not d) || r) false g
   order true d r g = refl
@@ -163,27 +163,27 @@ module _ (b : Board) (size : Bool) (groups : List ℕ) where
   order false true false true = refl
   order false true false false = refl
 
-  lent-done : (s : Bool) → done_of (lentBy s groups) ≡ pick s false (done_of (groupsCheck groups))
+  lent-done : (s : Bool) → done_of (lent_by s groups) ≡ pick s false (done_of (groups_check groups))
   lent-done true = refl
   lent-done false = refl
 
-  all : pick early false (done_of (groupsCheck groups)) ≡ done_of (callCheck b (lentBy size groups) false false)
+  all : pick early false (done_of (groups_check groups)) ≡ done_of (call_check b (lent_by size groups) false false)
   all =
-      sym (order size (done_of (pageCheck b.page)) (stateRefused b) (done_of (groupsCheck groups)))
-      ∙ ap (λ (g : Bool). (g && done_of (pageCheck b.page)) && not (stateRefused b)) (sym (lent-done size))
-      ∙ clear-check b (lentBy size groups)
+      sym (order size (done_of (page_check b.page)) (state_refused b) (done_of (groups_check groups)))
+      ∙ ap (λ (g : Bool). (g && done_of (page_check b.page)) && not (state_refused b)) (sym (lent-done size))
+      ∙ clear-check b (lent_by size groups)
 
-  pub not-clear : early ≡ true → false ≡ done_of (callCheck b (lentBy size groups) false false)
-  not-clear e = ap (λ (t : Bool). pick t false (done_of (groupsCheck groups))) (sym e) ∙ all
+  pub not-clear : early ≡ true → false ≡ done_of (call_check b (lent_by size groups) false false)
+  not-clear e = ap (λ (t : Bool). pick t false (done_of (groups_check groups))) (sym e) ∙ all
 
-  pub clear-but : early ≡ false → done_of (groupsCheck groups) ≡ done_of (callCheck b (lentBy size groups) false false)
-  clear-but e = ap (λ (t : Bool). pick t false (done_of (groupsCheck groups))) (sym e) ∙ all
+  pub clear-but : early ≡ false → done_of (groups_check groups) ≡ done_of (call_check b (lent_by size groups) false false)
+  clear-but e = ap (λ (t : Bool). pick t false (done_of (groups_check groups))) (sym e) ∙ all
 
 -- where neither the sizes nor the page refuse it, the state does
-pub range-left : (b : Board) (lent : Refusal) → done_of (callCheck b lent false false) ≡ false → done_of lent ≡ true → done_of (pageCheck b.page) ≡ true
-    → Range ≡ callCheck b lent false false
-unfolding callCheck
-range-left b lent n s d = rw (s, d) (go (stateRefused b) (rw (s, d) at n))
+pub range-left : (b : Board) (lent : Refusal) → done_of (call_check b lent false false) ≡ false → done_of lent ≡ true → done_of (page_check b.page) ≡ true
+    → Range ≡ call_check b lent false false
+unfolding call_check
+range-left b lent n s d = rw (s, d) (go (state_refused b) (rw (s, d) at n))
   where
     go : (r : Bool) → done_of (pick (r || false) Range Done) ≡ false → Range ≡ pick (r || false) Range Done
     go true e = refl
@@ -194,38 +194,38 @@ range-left b lent n s d = rw (s, d) (go (stateRefused b) (rw (s, d) at n))
 pub in_frame : (b : Board) → InRange b → (b.place.line.0 < 8192) × (b.place.clock.0 < 384)
 in_frame b i = (omega (arith, i.line-lt, vt-bound b.page), omega (arith, i.clock-lt, ht-bound b.page))
 
-pub address-lt : (b : Board) (chars : List ℕ) → Accepted b.page → InRange b → (c : Carried) → c ≡ loadedIn b.page chars b.place → c.beam.address < 16384
+pub address-lt : (b : Board) (chars : List ℕ) → Accepted b.page → InRange b → (c : Carried) → c ≡ loaded_in b.page chars b.place → c.beam.address < 16384
 address-lt b chars page state c e = rw e (loaded-lt b.page chars page b.place state.beam-le state.row-le)
 
 module _ (b : Board) (chars attrs : List ℕ) (f : Font) where
   -- a clock with the font's line is that of the step
   clocked : b.page.video.dots.0 ≤ 12
-      → clockWith b chars attrs f.words f.flags (lineIn b (activeAt b.page b.place) (code_in b chars) f.unshifted f.shifted f.groups)
-      ≡ clockIn (steppedOf b chars attrs f)
-  unfolding steppedOf clockWith
-  clocked most = rw (signals-shown b chars attrs f.words f.flags (lineIn b (activeAt b.page b.place) (code_in b chars) f.unshifted f.shifted f.groups) (code_in b chars) (held_of b chars) (address_of b chars), dots-shown b chars attrs f (code_in b chars) (held_of b chars) (address_of b chars) most)
+      → clock_with b chars attrs f.words f.flags (line_in b (active_at b.page b.place) (code_in b chars) f.unshifted f.shifted f.groups)
+      ≡ clock_in (stepped_of b chars attrs f)
+  unfolding stepped_of clock_with
+  clocked most = rw (signals-shown b chars attrs f.words f.flags (line_in b (active_at b.page b.place) (code_in b chars) f.unshifted f.shifted f.groups) (code_in b chars) (held_of b chars) (address_of b chars), dots-shown b chars attrs f (code_in b chars) (held_of b chars) (address_of b chars) most)
 
-  pub clock-done : done_of (stepCheck b chars attrs f) ≡ true → b.page.video.dots.0 ≤ 12 → (c : Carried) → c ≡ loadedIn b.page chars b.place
-      → (active : Bool) → active ≡ activeAt b.page b.place → (line : FontLine) → line ≡ lineIn b active c.beam.code f.unshifted f.shifted f.groups
-      → (r : Clock) → r ≡ clockWith b chars attrs f.words f.flags line → r ≡ clockIn (step_of b chars attrs f)
+  pub clock-done : done_of (step_check b chars attrs f) ≡ true → b.page.video.dots.0 ≤ 12 → (c : Carried) → c ≡ loaded_in b.page chars b.place
+      → (active : Bool) → active ≡ active_at b.page b.place → (line : FontLine) → line ≡ line_in b active c.beam.code f.unshifted f.shifted f.groups
+      → (r : Clock) → r ≡ clock_with b chars attrs f.words f.flags line → r ≡ clock_in (step_of b chars attrs f)
   unfolding step_of
   clock-done e most c ec active ea line el r h = rw e (h ∙ (rw (el, ea, ec) (clocked most)))
 
-  pub clock-refused : done_of (stepCheck b chars attrs f) ≡ false → (r : Refusal) → r ≡ stepCheck b chars attrs f
-      → ◌≡◌ {A = Clock} (record { refusal = r; signals = noSignals; address = 0; dots = replicate 12 0; place = b.place }) (clockIn (step_of b chars attrs f))
+  pub clock-refused : done_of (step_check b chars attrs f) ≡ false → (r : Refusal) → r ≡ step_check b chars attrs f
+      → ◌≡◌ {A = Clock} (record { refusal = r; signals = no_signals; address = 0; dots = replicate 12 0; place = b.place }) (clock_in (step_of b chars attrs f))
   unfolding step_of
   clock-refused e r h = rw (h, e)
 
   -- a step from its clock
   abbrev again : Stepped → Stepped
-  again s = record { refusal = s.refusal; signals = s.signals; address = s.address; dots = s.dots; board = withPlace b s.board.place }
+  again s = record { refusal = s.refusal; signals = s.signals; address = s.address; dots = s.dots; board = with_place b s.board.place }
 
-  again_by : (t : Bool) (s : Stepped) → s ≡ pick t (steppedOf b chars attrs f) (stepRefused (stepCheck b chars attrs f) b) → again s ≡ s
-  unfolding steppedOf
+  again_by : (t : Bool) (s : Stepped) → s ≡ pick t (stepped_of b chars attrs f) (step_refused (step_check b chars attrs f) b) → again s ≡ s
+  unfolding stepped_of
   again_by true s h = rw h
   again_by false s h = rw h
 
-  pub stepped : (c : Clock) → c ≡ clockIn (step_of b chars attrs f) → (n : Board) → n ≡ withPlace b c.place
+  pub stepped : (c : Clock) → c ≡ clock_in (step_of b chars attrs f) → (n : Board) → n ≡ with_place b c.place
       → ◌≡◌ {A = Stepped} (record { refusal = c.refusal; signals = c.signals; address = c.address; dots = c.dots; board = n }) (step_of b chars attrs f)
   unfolding step_of
-  stepped c ec n en = rw (en, ec) (again_by (done_of (stepCheck b chars attrs f)) _ refl)
+  stepped c ec n en = rw (en, ec) (again_by (done_of (step_check b chars attrs f)) _ refl)

@@ -3,16 +3,16 @@ ghost use Rattle.std.specs.Prelude.{◌≡◌, false, ◌≤◌, ◌<◌, length
 ghost use Rattle.lists.specs.Choice.{pick};
 ghost use Rattle.units.specs.Units.{lines};
 ghost use Rattle.refusal.specs.Number.{done_of};
-ghost use Rattle.timing.specs.Check.{callCheck};
-ghost use Rattle.shape.specs.Font.{lentFont};
-ghost use Rattle.video.specs.At.{lentBy};
+ghost use Rattle.timing.specs.Check.{call_check};
+ghost use Rattle.shape.specs.Font.{lent_font};
+ghost use Rattle.video.specs.At.{lent_by};
 ghost use Rattle.video.specs.Lent.{Lent};
 ghost use Rattle.video.specs.Scene.{scene_of};
-ghost use Rattle.video.specs.Cell.{cellDots, columnOf};
-ghost use Rattle.place.specs.Place.{activeAt, loadedIn};
-ghost use Rattle.step.specs.Signals.{scanIn, hsyncIn, vsyncIn, padded, oddIn};
-ghost use Rattle.step.specs.Step.{step_of, clockIn};
-ghost use Rattle.step.specs.Shown.{signalsWith, cellShown, blankShown, lineIn, shownIn, clockWith};
+ghost use Rattle.video.specs.Cell.{cell_dots, column_of};
+ghost use Rattle.place.specs.Place.{active_at, loaded_in};
+ghost use Rattle.step.specs.Signals.{scan_in, hsync_in, vsync_in, padded, odd_in};
+ghost use Rattle.step.specs.Step.{step_of, clock_in};
+ghost use Rattle.step.specs.Shown.{signals_with, cell_shown, blank_shown, line_in, shown_in, clock_with};
 
 #[derive(Drop)]
 pub struct Signals {
@@ -53,14 +53,14 @@ struct Shown {
 
 // The scan line of the place, in a row with this code.
 fn scan_in(b: board::Board, code: u8) -> units::Lines
-    ensures { result ≡ lines (scanIn b code) }
+    ensures { result ≡ lines (scan_in b code) }
 {
     let page = b.page;
     video::scan_at(page, raster::code_of(code), b.place.line)
 }
 
 fn hsync_in(b: board::Board) -> bool
-    ensures { result ≡ hsyncIn b }
+    ensures { result ≡ hsync_in b }
 {
     let page = b.page;
     let t = timing::timing_of(page);
@@ -68,7 +68,7 @@ fn hsync_in(b: board::Board) -> bool
 }
 
 fn vsync_in(b: board::Board) -> bool
-    ensures { result ≡ vsyncIn b }
+    ensures { result ≡ vsync_in b }
 {
     let page = b.page;
     let t = timing::timing_of(page);
@@ -78,8 +78,8 @@ fn vsync_in(b: board::Board) -> bool
 
 // BLINK and whether the picture is shown are the same on every scan line. So line 0 will do, and nothing is divided.
 fn signals_of(b: board::Board, active: bool, cursor: bool) -> Signals
-    requires { active ≡ activeAt b.page b.place }
-    ensures { result ≡ signalsWith b cursor }
+    requires { active ≡ active_at b.page b.place }
+    ensures { result ≡ signals_with b cursor }
 {
     let scene = video::scene_of(b, units::Lines(0), b.place.field);
     Signals {
@@ -93,7 +93,7 @@ fn signals_of(b: board::Board, active: bool, cursor: bool) -> Signals
 
 // The scene of the place's scan line.
 fn scene_in(b: board::Board, code: u8) -> video::Scene
-    ensures { result ≡ scene_of b (scanIn b code) b.place.field }
+    ensures { result ≡ scene_of b (scan_in b code) b.place.field }
 {
     video::scene_of(b, scan_in(b, code), b.place.field)
 }
@@ -111,7 +111,7 @@ fn cell_shown(
     address: usize,
 ) -> Shown
     requires { (address < length chars.now) × (address < length attrs.now) × (length words.now ≡ 1152) × (length flags.now ≡ 128) }
-    ensures { result ≡ cellShown b chars.now attrs.now words.now flags.now line code held address }
+    ensures { result ≡ cell_shown b chars.now attrs.now words.now flags.now line code held address }
 {
     let page = b.page;
     let scene = scene_in(b, code);
@@ -132,7 +132,7 @@ fn cell_shown(
 
 // What is shown off the active clocks: a cell of the blank level, which is the same on every scan line.
 fn blank_shown(b: board::Board) -> Shown
-    ensures { result ≡ blankShown b }
+    ensures { result ≡ blank_shown b }
 {
     let scene = video::scene_of(b, units::Lines(0), b.place.field);
     Shown {
@@ -155,7 +155,7 @@ fn line_in(
     shifted: &[u8],
     groups: &[u8],
 ) -> shape::FontLine
-    ensures { result ≡ lineIn b active code unshifted.now shifted.now groups.now }
+    ensures { result ≡ line_in b active code unshifted.now shifted.now groups.now }
 {
     if active {
         return shape::font_line(unshifted, shifted, groups, scan_in(b, code));
@@ -180,8 +180,8 @@ fn shown_in(
     held: u8,
     address: usize,
 ) -> Shown
-    requires { Lent b chars.now attrs.now words.now flags.now × (address < 16384) × (active ≡ activeAt b.page b.place) }
-    ensures { result ≡ shownIn b chars.now attrs.now words.now flags.now line code held address }
+    requires { Lent b chars.now attrs.now words.now flags.now × (address < 16384) × (active ≡ active_at b.page b.place) }
+    ensures { result ≡ shown_in b chars.now attrs.now words.now flags.now line code held address }
 {
     if active {
         return cell_shown(b, chars, attrs, words, flags, line, code, held, address);
@@ -199,7 +199,7 @@ fn half_from(odd: bool, d: usize) -> usize
 // The twelve dot places of a column of what is shown, of double width or not.
 fn column_dots(b: board::Board, wide: bool, s: Shown) -> [u8; 12]
     requires { (6 ≤ b.page.video.dots.0) × (b.page.video.dots.0 ≤ 12) × (s.word < 1024) }
-    ensures { result ≡ padded (columnOf wide (oddIn b) (cellDots s.look s.word b.page.video.dots.0)) b.page.video.dots.0 }
+    ensures { result ≡ padded (column_of wide (odd_in b) (cell_dots s.look s.word b.page.video.dots.0)) b.page.video.dots.0 }
 {
     let mut cell = [0u8; 12];
     let look = s.look;
@@ -226,8 +226,8 @@ fn one_clock(
     line: shape::FontLine,
 ) -> Clock
     requires lent { Lent b chars.now attrs.now words.now flags.now }
-    requires c_value { (c ≡ loadedIn b.page chars.now b.place) × (active ≡ activeAt b.page b.place) }
-    ensures { result ≡ clockWith b chars.now attrs.now words.now flags.now line }
+    requires c_value { (c ≡ loaded_in b.page chars.now b.place) × (active ≡ active_at b.page b.place) }
+    ensures { result ≡ clock_with b chars.now attrs.now words.now flags.now line }
 {
     let page = b.page;
     let place = b.place;
@@ -258,7 +258,7 @@ fn one_clock(
 // Whether nothing refuses a clock, without the number. timing::call_check has it all, but is too large to be inlined. The groups come last, since their
 // loop parts what stands before it from what stands behind.
 fn clear(b: board::Board, size: bool, groups: &[u8]) -> bool
-    ensures { result ≡ done_of (callCheck b (lentBy size groups.now) false false) }
+    ensures { result ≡ done_of (call_check b (lent_by size groups.now) false false) }
 {
     let page = b.page;
     if size | !refusal::is_done(timing::page_check(page)) | timing::state_refused(b) {
@@ -269,8 +269,8 @@ fn clear(b: board::Board, size: bool, groups: &[u8]) -> bool
 
 // What refuses a clock that something refuses.
 fn refused_by(b: board::Board, size: bool, groups: &[u8]) -> refusal::Refusal
-    requires { done_of (callCheck b (lentBy size groups.now) false false) ≡ false }
-    ensures { result ≡ callCheck b (lentBy size groups.now) false false }
+    requires { done_of (call_check b (lent_by size groups.now) false false) ≡ false }
+    ensures { result ≡ call_check b (lent_by size groups.now) false false }
 {
     let lent = video::lent_by(size, groups);
     if !refusal::is_done(lent) {
@@ -295,7 +295,7 @@ fn clock_of(
     shifted: &[u8],
     groups: &[u8],
 ) -> Clock
-    ensures { result ≡ clockIn (step_of b chars.now attrs.now (lentFont words flags unshifted shifted groups)) }
+    ensures { result ≡ clock_in (step_of b chars.now attrs.now (lent_font words flags unshifted shifted groups)) }
 {
     let size = video::lent_refused(chars, attrs, words, flags, unshifted, shifted, groups);
     if clear(b, size, groups) {
@@ -334,7 +334,7 @@ pub fn step(
     shifted: &[u8],
     groups: &[u8],
 ) -> Stepped
-    ensures { result ≡ step_of b chars.now attrs.now (lentFont words flags unshifted shifted groups) }
+    ensures { result ≡ step_of b chars.now attrs.now (lent_font words flags unshifted shifted groups) }
 {
     let c = clock_of(b, chars, attrs, words, flags, unshifted, shifted, groups);
     let refused = c.refusal;

@@ -7,9 +7,9 @@ use Rattle.std.proofs.Math.Seq.{drop-append-add}
 use Rattle.lists.specs.Fill.{lent}
 use Rattle.lists.specs.Tab.{tab, length-tab, same-tab}
 use Rattle.shape.specs.declared.FontLine.{FontLine}
-use Rattle.shape.specs.Font.{wordBy}
+use Rattle.shape.specs.Font.{word_by}
 use Rattle.video.specs.declared.Scene.{Scene}
-use Rattle.tables.specs.Tables.{levelsFor, levelsOf, shownWord, pairWord}
+use Rattle.tables.specs.Tables.{levels_for, levels_of, shown_word, pair_word}
 use Rattle.tables.specs.Marks.{mark-look}
 
 split : (m n : ℕ) (f : ℕ → ℕ) → tab m f ++ tab n (λ i. f (m + i)) ≡ tab (m + n) f
@@ -37,32 +37,32 @@ module _ (m : ℕ) (f g h : ℕ → ℕ) (first : (i : ℕ) → i < m → f i �
       ∙ rw (front, back) (sym (append_assoc a b (drop (m + m) t)) ∙ ap (λ (l : List ℕ). l ++ drop (m + m) t) whole)
 
 module _ (s : Scene) where
-  away : (i : ℕ) → i < 64 → levelsFor s false i ≡ levelsOf s i
-  unfolding levelsFor
+  away : (i : ℕ) → i < 64 → levels_for s false i ≡ levels_of s i
+  unfolding levels_for
   away i h =
       let e : i % 64 + 0 ≡ i = omega arith in
-      sym (mark-look s i false) ∙ ap (levelsOf s) e
+      sym (mark-look s i false) ∙ ap (levels_of s) e
 
-  at : (i : ℕ) → i < 64 → levelsFor s true i ≡ levelsOf s (64 + i)
-  unfolding levelsFor
+  at : (i : ℕ) → i < 64 → levels_for s true i ≡ levels_of s (64 + i)
+  unfolding levels_for
   at i h =
       let e : i % 64 + 64 ≡ 64 + i = omega arith in
-      sym (mark-look s i true) ∙ ap (levelsOf s) e
+      sym (mark-look s i true) ∙ ap (levels_of s) e
 
-  pub halves : (t t1 ys : List ℕ) → 128 ≤ length t → t1 ≡ tab 64 (levelsFor s false) ++ drop 64 t
-      → ys ≡ tab 64 (levelsFor s true) ++ drop 64 (take (length t1 - 64) (drop 64 t1))
-      → take 64 t1 ++ (ys ++ drop (length t1 - 64) (drop 64 t1)) ≡ tab 128 (levelsOf s) ++ drop 128 t
-  halves = both 64 (levelsFor s false) (levelsFor s true) (levelsOf s) away at
+  pub halves : (t t1 ys : List ℕ) → 128 ≤ length t → t1 ≡ tab 64 (levels_for s false) ++ drop 64 t
+      → ys ≡ tab 64 (levels_for s true) ++ drop 64 (take (length t1 - 64) (drop 64 t1))
+      → take 64 t1 ++ (ys ++ drop (length t1 - 64) (drop 64 t1)) ≡ tab 128 (levels_of s) ++ drop 128 t
+  halves = both 64 (levels_for s false) (levels_for s true) (levels_of s) away at
 
 -- a scan line's table by sign: the letters, then graphics
 module _ (words flags : List ℕ) (line : FontLine) (d : ℕ) where
-  paired : (i : ℕ) → i < 256 → pairWord line.group d i ≡ shownWord words flags line d (256 + i)
-  unfolding pairWord shownWord wordBy
+  paired : (i : ℕ) → i < 256 → pair_word line.group d i ≡ shown_word words flags line d (256 + i)
+  unfolding pair_word shown_word word_by
   paired i h =
       let code : (256 + i) % 256 ≡ i = omega arith in
       rw (le-leb 256 (256 + i) (omega arith), code)
 
-  pub signs : (t t1 ys : List ℕ) → 512 ≤ length t → t1 ≡ tab 256 (shownWord words flags line d) ++ drop 256 t
-      → ys ≡ tab 256 (pairWord line.group d) ++ drop 256 (take (length t1 - 256) (drop 256 t1))
-      → take 256 t1 ++ (ys ++ drop (length t1 - 256) (drop 256 t1)) ≡ tab 512 (shownWord words flags line d) ++ drop 512 t
-  signs = both 256 (shownWord words flags line d) (pairWord line.group d) (shownWord words flags line d) (λ i h. refl) paired
+  pub signs : (t t1 ys : List ℕ) → 512 ≤ length t → t1 ≡ tab 256 (shown_word words flags line d) ++ drop 256 t
+      → ys ≡ tab 256 (pair_word line.group d) ++ drop 256 (take (length t1 - 256) (drop 256 t1))
+      → take 256 t1 ++ (ys ++ drop (length t1 - 256) (drop 256 t1)) ≡ tab 512 (shown_word words flags line d) ++ drop 512 t
+  signs = both 256 (shown_word words flags line d) (pair_word line.group d) (shown_word words flags line d) (λ i h. refl) paired

@@ -8,34 +8,34 @@ use Rattle.std.proofs.Math.ListN.{get_or-append}
 use Rattle.std.proofs.Math.Seq.{drop-append-add}
 use Rattle.lists.specs.Choice.{pick, pick-lt}
 use Rattle.lists.specs.Join.{joined, join-element}
-use Rattle.lists.specs.Tab.{tab, length-tab, getD-tab, same-tab}
+use Rattle.lists.specs.Tab.{tab, length-tab, get_or-tab, same-tab}
 use Rattle.raster.specs.declared.Buffer.{Buffer}
 use Rattle.raster.specs.declared.Cell.{Cell}
-use Rattle.raster.specs.Moves.{cell, advanceBy}
-use Rattle.raster.specs.Latch.{latched, lastSet, sets-or}
+use Rattle.raster.specs.Moves.{cell, advance_by}
+use Rattle.raster.specs.Latch.{latched, last_set, sets-or}
 use Rattle.board.specs.declared.Board.{Board}
 use Rattle.timing.specs.Laws.{Accepted}
 use Rattle.shape.specs.declared.FontLine.{FontLine}
 use Rattle.shape.specs.declared.FontLines.{FontLines}
-use Rattle.shape.specs.Font.{fontLineAt, wordBy}
+use Rattle.shape.specs.Font.{font_line_at, word_by}
 use Rattle.shape.specs.Laws.{by-small}
 use Rattle.video.specs.declared.Scene.{Scene}
 use Rattle.video.specs.declared.Look.{Look}
 use Rattle.video.specs.declared.Reading.{Reading}
 use Rattle.video.specs.Scene.{scene_of}
 use Rattle.video.specs.Look.{look_of}
-use Rattle.video.specs.At.{Content, reading_of, graphicsBy, scanDots, fetchedContent}
+use Rattle.video.specs.At.{Content, reading_of, graphics_by, scan_dots, fetched_content}
 use Rattle.dots.specs.Stores.{wide_of}
 use Rattle.dots.specs.Width.{shades, cell-shades}
-use Rattle.tables.specs.Tables.{mark_of, sign_of, numberFor, heldBy, cellBy, levelsBy, levelsOf, levelsAt, no_word, shownWord, wordsAt}
-use Rattle.tables.specs.Marks.{mark-look, mark-lt, levels-lt, symbol-of, under_of}
+use Rattle.tables.specs.Tables.{mark_of, sign_of, number_for, held_by, cell_by, levels_by, levels_of, levels_at, no_word, shown_word, words_at}
+use Rattle.tables.specs.Marks.{mark-look, mark-lt, levels-lt, symbol-of, under_of_lem}
 
-pub length-words : (words flags : List ℕ) (lines : FontLines) (d s : ℕ) → length (wordsAt words flags lines d s) ≡ 512
-unfolding wordsAt
+pub length-words : (words flags : List ℕ) (lines : FontLines) (d s : ℕ) → length (words_at words flags lines d s) ≡ 512
+unfolding words_at
 length-words words flags lines d s = length-tab 512 _
 
-pub length-levels : (b : Board) (field s : ℕ) → length (levelsAt b field s) ≡ 128
-unfolding levelsAt
+pub length-levels : (b : Board) (field s : ℕ) → length (levels_at b field s) ≡ 128
+unfolding levels_at
 length-levels b field s = length-tab 128 _
 
 -- a code below 128 shows nothing
@@ -44,13 +44,13 @@ no_bits true = refl
 no_bits false = refl
 
 module _ (words flags : List ℕ) (line : FontLine) (d : ℕ) where
-  unshown : (code : ℕ) → code < 128 → no_word code ≡ shownWord words flags line d code
-  unfolding no_word shownWord wordBy wide_of
+  unshown : (code : ℕ) → code < 128 → no_word code ≡ shown_word words flags line d code
+  unfolding no_word shown_word word_by wide_of
   unshown code h =
       let same : code % 256 ≡ code = omega arith in
       rw (lt-leb 256 code (omega arith), same, lt-ltb code 128 h) (no_bits (ltb 10 d))
 
-  low-codes : tab 128 no_word ≡ tab 128 (shownWord words flags line d)
+  low-codes : tab 128 no_word ≡ tab 128 (shown_word words flags line d)
   low-codes = same-tab 128 _ _ unshown
 
   -- a table that was begun with these
@@ -60,12 +60,12 @@ module _ (words flags : List ℕ) (line : FontLine) (d : ℕ) where
         let e : length t1 ≡ length t = ap length p ∙ simp (length-append, length-drop, length-tab) (omega arith) in
         omega (arith, e)
 
-    pub begun : t1 ≡ tab 128 (shownWord words flags line d) ++ drop 128 t1
+    pub begun : t1 ≡ tab 128 (shown_word words flags line d) ++ drop 128 t1
     begun =
         let back : drop 128 t1 ≡ drop 128 t = rw p (drop_at (tab 128 no_word) (drop 128 t) 128 (length-tab 128 no_word)) in
         p ∙ ap₂ (λ (a b : List ℕ). a ++ b) low-codes (sym back)
 
-    pub ended : (out : List ℕ) → out ≡ tab 256 (shownWord words flags line d) ++ drop 256 t1 → out ≡ tab 256 (shownWord words flags line d) ++ drop 256 t
+    pub ended : (out : List ℕ) → out ≡ tab 256 (shown_word words flags line d) ++ drop 256 t1 → out ≡ tab 256 (shown_word words flags line d) ++ drop 256 t
     ended out q =
         let a : List ℕ = tab 128 no_word in
         let k : length a ≡ 128 = length-tab 128 no_word in
@@ -93,7 +93,7 @@ bit-times (suc zero) n h = omega arith
 bit-times (suc (suc b)) n h = absurd (omega arith)
 
 -- and is made of attribute bit 5, which on chip A adds nothing
-pub sign-by : (r : Reading) (attributes code : ℕ) → code + attributes / 32 % 2 * pick r.graphics 256 0 ≡ sign_of (graphicsBy r attributes) code
+pub sign-by : (r : Reading) (attributes code : ℕ) → code + attributes / 32 % 2 * pick r.graphics 256 0 ≡ sign_of (graphics_by r attributes) code
 sign-by r attributes code = go r.graphics (eqb (attributes / 32 % 2) 1) refl
   where
     go : (g t : Bool) → eqb (attributes / 32 % 2) 1 ≡ t → code + attributes / 32 % 2 * pick g 256 0 ≡ code + pick (g && t) 256 0
@@ -104,85 +104,85 @@ sign-by r attributes code = go r.graphics (eqb (attributes / 32 % 2) 1) refl
 -- a cell's number taken apart
 module _ (r : Reading) (k : Content) (h : k.code < 256) where
   abbrev graphics : Bool
-  graphics = graphicsBy r k.attributes
+  graphics = graphics_by r k.attributes
 
-  pub sign-of : numberFor r k % 512 ≡ sign_of graphics k.code
+  pub sign-of : number_for r k % 512 ≡ sign_of graphics k.code
   sign-of = omega (arith, sign-lt k.code h graphics)
 
-  pub mark-of : numberFor r k / 512 ≡ mark_of k.attributes k.here
+  pub mark-of : number_for r k / 512 ≡ mark_of k.attributes k.here
   mark-of = omega (arith, sign-lt k.code h graphics)
 
-  pub number_lt : numberFor r k < 65536
+  pub number_lt : number_for r k < 65536
   number_lt = omega (arith, sign-lt k.code h graphics, mark-lt k.attributes k.here)
 
   -- the word of its sign
-  pub word-of : (words flags : List ℕ) (line : FontLine) (d : ℕ) → shownWord words flags line d (numberFor r k % 512) ≡ wide_of (wordBy words flags line graphics k.code) d
-  unfolding shownWord
+  pub word-of : (words flags : List ℕ) (line : FontLine) (d : ℕ) → shown_word words flags line d (number_for r k % 512) ≡ wide_of (word_by words flags line graphics k.code) d
+  unfolding shown_word
   word-of words flags line d = rw (sign-of, sign-mode k.code h graphics, sign-code k.code h graphics)
 
 -- ---- what the tables hold
 
 looked : (f : ℕ → ℕ) (n : ℕ) (xs rest : List ℕ) (i : ℕ) → xs ≡ tab n f ++ rest → i < n → get_or xs i 0 ≡ f i
-looked f n xs rest i e h = rw e (get_or-append (tab n f) rest 0 i (rw (length-tab n f) h)) ∙ getD-tab n f i h
+looked f n xs rest i e h = rw e (get_or-append (tab n f) rest 0 i (rw (length-tab n f) h)) ∙ get_or-tab n f i h
 
 -- a code that is shown is a byte
-pub shown-lt : (k : Reading) (chars attrs : List ℕ) (held a : ℕ) → ((i : ℕ) → get_or chars i 0 < 256) → (fetchedContent k chars attrs held a).code < 256
+pub shown-lt : (k : Reading) (chars attrs : List ℕ) (held a : ℕ) → ((i : ℕ) → get_or chars i 0 < 256) → (fetched_content k chars attrs held a).code < 256
 shown-lt k chars attrs held a bytes = pick-lt 256 (k.hidden && leb 128 (get_or attrs a 0)) 0 _ (omega arith) (bytes a)
 
 -- of a row its cells, of a scan line the levels of a mark
-module _ (k : Reading) (chars attrs : List ℕ) (buffer : Buffer) (held start n : ℕ) (cells rest : List ℕ) (e : cells ≡ tab n (cellBy k chars attrs buffer held start) ++ rest) where
-  pub gathered : (c : ℕ) → c < n → get_or cells c 0 ≡ numberFor k (fetchedContent k chars attrs (heldBy k.runs attrs buffer held start c) (advanceBy buffer c start))
-  unfolding cellBy
+module _ (k : Reading) (chars attrs : List ℕ) (buffer : Buffer) (held start n : ℕ) (cells rest : List ℕ) (e : cells ≡ tab n (cell_by k chars attrs buffer held start) ++ rest) where
+  pub gathered : (c : ℕ) → c < n → get_or cells c 0 ≡ number_for k (fetched_content k chars attrs (held_by k.runs attrs buffer held start c) (advance_by buffer c start))
+  unfolding cell_by
   gathered c h = looked _ n cells rest c e h
 
   pub gathered-lt : ((i : ℕ) → get_or chars i 0 < 256) → (c : ℕ) → c < n → get_or cells c 0 < 65536
   gathered-lt bytes c h =
-      let valid = heldBy k.runs attrs buffer held start c in
-      let a = advanceBy buffer c start in
-      rw (gathered c h) (number_lt k (fetchedContent k chars attrs valid a) (shown-lt k chars attrs valid a bytes))
+      let valid = held_by k.runs attrs buffer held start c in
+      let a = advance_by buffer c start in
+      rw (gathered c h) (number_lt k (fetched_content k chars attrs valid a) (shown-lt k chars attrs valid a bytes))
 
 -- where the walk along the row stands: what is valid before the cell, its number, and what is valid after it
-module _ (k : Reading) (chars attrs : List ℕ) (buffer : Buffer) (held start c : ℕ) (x : Cell) (e : x ≡ cell (advanceBy buffer c start)) (valid : ℕ) (q : valid ≡ heldBy k.runs attrs buffer held start c) where
-  pub as-cell : (v : ℕ) → v ≡ numberFor k (fetchedContent k chars attrs valid x.address) → v ≡ cellBy k chars attrs buffer held start c
-  unfolding cellBy
+module _ (k : Reading) (chars attrs : List ℕ) (buffer : Buffer) (held start c : ℕ) (x : Cell) (e : x ≡ cell (advance_by buffer c start)) (valid : ℕ) (q : valid ≡ held_by k.runs attrs buffer held start c) where
+  pub as-cell : (v : ℕ) → v ≡ number_for k (fetched_content k chars attrs valid x.address) → v ≡ cell_by k chars attrs buffer held start c
+  unfolding cell_by
   as-cell v d = rw (e, q) at d
 
-  pub runs_on : (y : ℕ) → y ≡ pick k.runs (latched (get_or attrs x.address 0) valid) valid → y ≡ heldBy k.runs attrs buffer held start (c + 1)
-  unfolding heldBy lastSet
-  runs_on y d = d ∙ rw (q, e, add-one c) (sym (sets-or k.runs (get_or attrs (advanceBy buffer c start) 0) (heldBy k.runs attrs buffer held start c)))
+  pub runs_on : (y : ℕ) → y ≡ pick k.runs (latched (get_or attrs x.address 0) valid) valid → y ≡ held_by k.runs attrs buffer held start (c + 1)
+  unfolding held_by last_set
+  runs_on y d = d ∙ rw (q, e, add-one c) (sym (sets-or k.runs (get_or attrs (advance_by buffer c start) 0) (held_by k.runs attrs buffer held start c)))
 
-pub not-run : (runs : Bool) (attrs : List ℕ) (buffer : Buffer) (held start : ℕ) → held ≡ heldBy runs attrs buffer held start 0
-unfolding heldBy lastSet
+pub not-run : (runs : Bool) (attrs : List ℕ) (buffer : Buffer) (held start : ℕ) → held ≡ held_by runs attrs buffer held start 0
+unfolding held_by last_set
 not-run runs attrs buffer held start = refl
 
-pub looked-up : (s : Scene) (a : ℕ) (here : Bool) (looks rest : List ℕ) → looks ≡ tab 128 (levelsOf s) ++ rest → get_or looks (mark_of a here) 0 ≡ levelsOf s (mark_of a here)
-looked-up s a here looks rest e = looked (levelsOf s) 128 looks rest (mark_of a here) e (mark-lt a here)
+pub looked-up : (s : Scene) (a : ℕ) (here : Bool) (looks rest : List ℕ) → looks ≡ tab 128 (levels_of s) ++ rest → get_or looks (mark_of a here) 0 ≡ levels_of s (mark_of a here)
+looked-up s a here looks rest e = looked (levels_of s) 128 looks rest (mark_of a here) e (mark-lt a here)
 
 -- of n scan lines, end to end, scan line s
-pub levels-at : (b : Board) (field : ℕ) (xs rest : List ℕ) (n s i : ℕ) → xs ≡ joined 0 n (levelsAt b field) ++ rest → s < n → i < 128
-    → get_or xs (s * 128 + i) 0 ≡ levelsOf (scene_of b s field) i
-unfolding levelsAt
-levels-at b field xs rest n s i e h l = join-element (levelsAt b field) 128 (length-levels b field) xs rest n s i e h l ∙ getD-tab 128 _ i l
+pub levels-at : (b : Board) (field : ℕ) (xs rest : List ℕ) (n s i : ℕ) → xs ≡ joined 0 n (levels_at b field) ++ rest → s < n → i < 128
+    → get_or xs (s * 128 + i) 0 ≡ levels_of (scene_of b s field) i
+unfolding levels_at
+levels-at b field xs rest n s i e h l = join-element (levels_at b field) 128 (length-levels b field) xs rest n s i e h l ∙ get_or-tab 128 _ i l
 
-pub word-at : (words flags : List ℕ) (lines : FontLines) (d : ℕ) (xs rest : List ℕ) (n s i : ℕ) → xs ≡ joined 0 n (wordsAt words flags lines d) ++ rest → s < n → i < 512
-    → get_or xs (s * 512 + i) 0 ≡ shownWord words flags (fontLineAt lines s) d i
-unfolding wordsAt
+pub word-at : (words flags : List ℕ) (lines : FontLines) (d : ℕ) (xs rest : List ℕ) (n s i : ℕ) → xs ≡ joined 0 n (words_at words flags lines d) ++ rest → s < n → i < 512
+    → get_or xs (s * 512 + i) 0 ≡ shown_word words flags (font_line_at lines s) d i
+unfolding words_at
 word-at words flags lines d xs rest n s i e h l =
-    join-element (wordsAt words flags lines d) 512 (length-words words flags lines d) xs rest n s i e h l ∙ getD-tab 512 _ i l
+    join-element (words_at words flags lines d) 512 (length-words words flags lines d) xs rest n s i e h l ∙ get_or-tab 512 _ i l
 
 -- the levels of a mark on a scan line are those of one of sixteen looks
-pub levels-few : (b : Board) (field s i : ℕ) → levelsOf (scene_of b s field) i < 16
-unfolding levelsOf
+pub levels-few : (b : Board) (field s i : ℕ) → levels_of (scene_of b s field) i < 16
+unfolding levels_of
 levels-few b field s i = levels-lt b s field i ((scene_of b s field).gate && eqb (i / 64 % 2) 1)
 
 -- a cell from its mark and its word
 module _ (b : Board) (words flags : List ℕ) (line : FontLine) (scan field : ℕ) (a : Accepted b.page) (k : Content) (v : ℕ)
-    (e : v ≡ levelsOf (scene_of b scan field) (mark_of k.attributes k.here)) where
+    (e : v ≡ levels_of (scene_of b scan field) (mark_of k.attributes k.here)) where
   abbrev d : ℕ
   d = b.page.video.dots.0
 
   abbrev word : ℕ
-  word = wordBy words flags line (graphicsBy (reading_of b.page) k.attributes) k.code
+  word = word_by words flags line (graphics_by (reading_of b.page) k.attributes) k.code
 
   abbrev here : Bool
   here = (scene_of b scan field).gate && k.here
@@ -190,11 +190,11 @@ module _ (b : Board) (words flags : List ℕ) (line : FontLine) (scan field : �
   abbrev look : Look
   look = look_of (scene_of b scan field) k.attributes here
 
-  levelled : v ≡ levelsBy look
+  levelled : v ≡ levels_by look
   levelled = e ∙ mark-look (scene_of b scan field) k.attributes k.here
 
-  pub by_word : shades (v % 4) (v / 4) d (wide_of word d) ≡ scanDots b (wordBy words flags line) scan field k
-  unfolding scanDots
+  pub by_word : shades (v % 4) (v / 4) d (wide_of word d) ≡ scan_dots b (word_by words flags line) scan field k
+  unfolding scan_dots
   by_word =
-      rw (levelled, symbol-of b scan field k.attributes here, under_of b scan field k.attributes here)
+      rw (levelled, symbol-of b scan field k.attributes here, under_of_lem b scan field k.attributes here)
       (cell-shades look word d (by-small _ _ _ _ _) a.most)

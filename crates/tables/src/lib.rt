@@ -4,7 +4,7 @@ ghost use Rattle.lists.specs.Choice.{pick};
 ghost use Rattle.lists.specs.Tab.{tab};
 ghost use Rattle.raster.specs.Moves.{Bounded};
 ghost use Rattle.tables.specs.Run.{whole};
-ghost use Rattle.tables.specs.Tables.{cellNumber, levelsFor, no_word, shownWord, pairWord, Gathers, looksPut, looksFilled, wordsFilled};
+ghost use Rattle.tables.specs.Tables.{cell_number, levels_for, no_word, shown_word, pair_word, Gathers, looks_put, looks_filled, words_filled};
 
 // What attribute bit 5 adds to a code: 256 if it means graphics. A number, since a test in the loop would keep the compiler from making vectors.
 fn graphics_step(graphics: bool) -> u16
@@ -24,7 +24,7 @@ fn sign_of(step: u16, attributes: u8, code: u8) -> u16
 // A cell's sign, and 512 times its mark: the six attributes, and 64 where the cursor's address is the cell's.
 fn cell_number(sign: u16, attributes: u8, here: bool) -> u16
     requires { sign < 512 }
-    ensures { result ≡ cellNumber sign attributes here }
+    ensures { result ≡ cell_number sign attributes here }
 {
     let six = 512 * (attributes % 64) as u16;
     if here {
@@ -130,7 +130,7 @@ pub fn gather(
 // The symbol's level of six attributes, and four times the surround's, which a lit cell shows as its symbol.
 fn levels(s: video::Scene, attributes: u8, here: bool) -> u8
     requires { s.blank < 4 }
-    ensures { result ≡ levelsFor s here attributes }
+    ensures { result ≡ levels_for s here attributes }
 {
     let look = video::look_of(s, attributes, s.gate & here);
     look.symbol + 4 * dots::under(look)
@@ -139,7 +139,7 @@ fn levels(s: video::Scene, attributes: u8, here: bool) -> u8
 // Half of a scan line's table by mark: the cells at the cursor's address, or the others.
 fn half(table: &mut [u8], s: video::Scene, here: bool)
     requires { (64 ≤ length table.old) × (s.blank < 4) }
-    ensures { table.new ≡ tab 64 (levelsFor s here) ++ drop 64 table.old }
+    ensures { table.new ≡ tab 64 (levels_for s here) ++ drop 64 table.old }
 {
     let mut i: usize = 0;
     while i < 64 {
@@ -151,7 +151,7 @@ fn half(table: &mut [u8], s: video::Scene, here: bool)
 // A scan line's table by mark. In a half the cursor is the same for all, so that the compiler makes vectors of it.
 pub fn looks(table: &mut [u8], s: video::Scene)
     requires { (128 ≤ length table.old) × (s.blank < 4) }
-    ensures { table.new ≡ looksPut s table.old }
+    ensures { table.new ≡ looks_put s table.old }
 {
     half(table, s, false);
     half(&mut table[64..], s, true);
@@ -160,7 +160,7 @@ pub fn looks(table: &mut [u8], s: video::Scene)
 // Those of n scan lines, end to end.
 pub fn fill_looks(table: &mut [u8], b: board::Board, field: u8, n: units::Lines)
     requires { (n.0 ≤ 16) × (n.0 * 128 ≤ length table.old) }
-    ensures { table.new ≡ looksFilled b field n.0 table.old }
+    ensures { table.new ≡ looks_filled b field n.0 table.old }
 {
     let count = n.places();
     let mut s: usize = 0;
@@ -188,7 +188,7 @@ fn no_words(table: &mut [u16])
 fn letter_words(table: &mut [u16], words: &[u16], flags: &[u8], line: shape::FontLine, d: usize)
     requires { (length words.now ≡ 1152) × (length flags.now ≡ 128) × (256 ≤ length table.old) }
     ensures { table.new
-        ≡ tab 256 (shownWord words.now flags.now line d) ++ drop 256 table.old }
+        ≡ tab 256 (shown_word words.now flags.now line d) ++ drop 256 table.old }
 {
     no_words(table);
     let mut i: usize = 128;
@@ -202,7 +202,7 @@ fn letter_words(table: &mut [u16], words: &[u16], flags: &[u8], line: shape::Fon
 // The same in graphics mode.
 fn pair_words(table: &mut [u16], group: u8, d: usize)
     requires { 256 ≤ length table.old }
-    ensures { table.new ≡ tab 256 (pairWord group d) ++ drop 256 table.old }
+    ensures { table.new ≡ tab 256 (pair_word group d) ++ drop 256 table.old }
 {
     let mut i: usize = 0;
     while i < 256 {
@@ -215,7 +215,7 @@ fn pair_words(table: &mut [u16], group: u8, d: usize)
 fn shown_words(table: &mut [u16], words: &[u16], flags: &[u8], line: shape::FontLine, d: usize)
     requires { (length words.now ≡ 1152) × (length flags.now ≡ 128) × (512 ≤ length table.old) }
     ensures { table.new
-        ≡ tab 512 (shownWord words.now flags.now line d) ++ drop 512 table.old }
+        ≡ tab 512 (shown_word words.now flags.now line d) ++ drop 512 table.old }
 {
     letter_words(table, words, flags, line, d);
     pair_words(&mut table[256..], line.group, d);
@@ -231,7 +231,7 @@ pub fn fill_words(
     d: usize,
 )
     requires { (length words.now ≡ 1152) × (length flags.now ≡ 128) × (n.0 ≤ 16) × (n.0 * 512 ≤ length table.old) }
-    ensures { table.new ≡ wordsFilled words.now flags.now lines n.0 d table.old }
+    ensures { table.new ≡ words_filled words.now flags.now lines n.0 d table.old }
 {
     let count = n.places();
     let mut s: usize = 0;

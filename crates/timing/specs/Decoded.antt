@@ -3,19 +3,19 @@ use Rattle.std.specs.Prelude.{ℕ, ◌<◌, ◌≡◌}
 use Rattle.board.specs.declared.Page.{Page}
 use Rattle.std.proofs.Common.{arith}
 use Rattle.timing.specs.declared.Timing.{Timing}
-use Rattle.timing.specs.Fields.{hactOf, htOf, vtOf, countsOf, timingOf}
+use Rattle.timing.specs.Fields.{hact_of, ht_of, vt_of, counts_of, timing_of}
 
-module _ (t : Timing) (p : Page) (e : t ≡ timingOf p) where
-  pub hact-is : t.counts.hact.0 ≡ hactOf p
-  unfolding timingOf countsOf
+module _ (t : Timing) (p : Page) (e : t ≡ timing_of p) where
+  pub hact-is : t.counts.hact.0 ≡ hact_of p
+  unfolding timing_of counts_of
   hact-is = rw e
 
-  pub ht-is : t.counts.ht.0 ≡ htOf p
-  unfolding timingOf countsOf
+  pub ht-is : t.counts.ht.0 ≡ ht_of p
+  unfolding timing_of counts_of
   ht-is = rw e
 
-  pub vt_is : t.counts.vt.0 ≡ vtOf p
-  unfolding timingOf countsOf
+  pub vt_is : t.counts.vt.0 ≡ vt_of p
+  unfolding timing_of counts_of
   vt_is = rw e
 
   pub ht-pos : 0 < t.counts.ht.0

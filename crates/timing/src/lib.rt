@@ -3,8 +3,8 @@ ghost use Rattle.std.specs.Prelude.{◌≡◌, [], ◌∷◌, ◌/◌, ◌%◌};
 ghost use Rattle.lists.specs.Choice.{first_of};
 ghost use Rattle.units.specs.Units.{clocks, lines};
 ghost use Rattle.refusal.specs.declared.Refusal.{Refusal};
-ghost use Rattle.timing.specs.Fields.{codedOf, scansOf, lines_of, ecOf, table_of, hsyncOf, hbpOf, vfpOf, vbpOf, blinkOf, rows_of, hactOf, cursorOf, vsyncOf, underlineOf, bufferOf, htOf, rest_of, hfpOf, visibleOf, vtOf, countsOf, timingOf};
-ghost use Rattle.timing.specs.Check.{reservedRefused, backPorchRefused, lineShort, frontPorchRefused, missing, widthRefused, pageCheck, size_of, stateRefused, callCheck};
+ghost use Rattle.timing.specs.Fields.{coded_of, scans_of, lines_of, ec_of, table_of, hsync_of, hbp_of, vfp_of, vbp_of, blink_of, rows_of, hact_of, cursor_of, vsync_of, underline_of, buffer_of, ht_of, rest_of, hfp_of, visible_of, vt_of, counts_of, timing_of};
+ghost use Rattle.timing.specs.Check.{reserved_refused, back_porch_refused, line_short, front_porch_refused, missing, width_refused, page_check, size_of, state_refused, call_check};
 
 // A line's and a frame's front porch and sync, and the counts that the beam goes by.
 #[derive(Drop)]
@@ -36,7 +36,7 @@ pub struct PageSize {
 // Each count is decoded by a function of its own: one function for them all is costly to prove.
 
 pub fn scans_of(p: board::Page) -> units::Lines
-    ensures { result ≡ lines (scansOf p) }
+    ensures { result ≡ lines (scans_of p) }
 {
     units::Lines(p.irs[0] as u32 / 8 % 16 + 1)
 }
@@ -48,31 +48,31 @@ fn lines_of(p: board::Page) -> units::Lines
 }
 
 fn ec_of(p: board::Page) -> units::Clocks
-    ensures { result ≡ clocks (ecOf p) }
+    ensures { result ≡ clocks (ec_of p) }
 {
     units::Clocks(p.irs[1] as u32 % 128 + 1)
 }
 
 fn hsync_of(p: board::Page) -> units::Clocks
-    ensures { result ≡ clocks (hsyncOf p) }
+    ensures { result ≡ clocks (hsync_of p) }
 {
     units::Clocks(2 * (p.irs[2] as u32 / 8 % 16) + 2)
 }
 
 fn hbp_of(p: board::Page) -> units::Clocks
-    ensures { result ≡ clocks (hbpOf p) }
+    ensures { result ≡ clocks (hbp_of p) }
 {
     units::Clocks(4 * (p.irs[2] as u32 % 8)).minus(units::Clocks(1))
 }
 
 fn vfp_of(p: board::Page) -> units::Lines
-    ensures { result ≡ lines (vfpOf p) }
+    ensures { result ≡ lines (vfp_of p) }
 {
     units::Lines(4 * (p.irs[3] as u32 / 32 % 8) + 4)
 }
 
 fn vbp_of(p: board::Page) -> units::Lines
-    ensures { result ≡ lines (vbpOf p) }
+    ensures { result ≡ lines (vbp_of p) }
 {
     units::Lines(2 * (p.irs[3] as u32 % 32) + 4)
 }
@@ -84,14 +84,14 @@ fn rows_of(p: board::Page) -> u32
 }
 
 fn hact_of(p: board::Page) -> units::Clocks
-    ensures { result ≡ clocks (hactOf p) }
+    ensures { result ≡ clocks (hact_of p) }
 {
     units::Clocks(p.irs[5] as u32 % 256 + 1)
 }
 
 // VSYNC by its code.
 fn vsync_of(p: board::Page) -> units::Lines
-    ensures { result ≡ lines (vsyncOf p) }
+    ensures { result ≡ lines (vsync_of p) }
 {
     let code = p.irs[7] / 64 % 4;
     match code {
@@ -103,7 +103,7 @@ fn vsync_of(p: board::Page) -> units::Lines
 }
 
 fn ht_of(p: board::Page) -> units::Clocks
-    ensures { result ≡ clocks (htOf p) }
+    ensures { result ≡ clocks (ht_of p) }
 {
     ec_of(p).plus(hsync_of(p).times(2)).times(2)
 }
@@ -116,14 +116,14 @@ fn rest_of(p: board::Page) -> units::Clocks
 }
 
 fn hfp_of(p: board::Page) -> units::Clocks
-    ensures { result ≡ clocks (hfpOf p) }
+    ensures { result ≡ clocks (hfp_of p) }
 {
     ht_of(p).minus(rest_of(p))
 }
 
 // The lines that show a picture.
 pub fn visible_of(p: board::Page) -> units::Lines
-    ensures { result ≡ visibleOf p }
+    ensures { result ≡ visible_of p }
 {
     lines_of(p).times(rows_of(p))
 }
@@ -143,14 +143,14 @@ pub fn line_of_row(p: board::Page, line: units::Lines) -> units::Lines
 }
 
 fn vt_of(p: board::Page) -> units::Lines
-    ensures { result ≡ lines (vtOf p) }
+    ensures { result ≡ lines (vt_of p) }
 {
     let to_sync = visible_of(p).plus(vfp_of(p));
     to_sync.plus(vsync_of(p)).plus(vbp_of(p))
 }
 
 fn counts_of(p: board::Page) -> raster::Counts
-    ensures { result ≡ countsOf p }
+    ensures { result ≡ counts_of p }
 {
     raster::Counts {
         ht: ht_of(p),
@@ -162,7 +162,7 @@ fn counts_of(p: board::Page) -> raster::Counts
 }
 
 pub fn timing_of(p: board::Page) -> Timing
-    ensures { result ≡ timingOf p }
+    ensures { result ≡ timing_of p }
 {
     Timing {
         hsync: hsync_of(p),
@@ -174,7 +174,7 @@ pub fn timing_of(p: board::Page) -> Timing
 }
 
 pub fn buffer_of(p: board::Page) -> raster::Buffer
-    ensures { result ≡ bufferOf p }
+    ensures { result ≡ buffer_of p }
 {
     raster::Buffer {
         first: p.irs[9] as u16 % 16 * 256 + p.irs[8] as u16 % 256,
@@ -184,7 +184,7 @@ pub fn buffer_of(p: board::Page) -> raster::Buffer
 
 // Whether the row table's entries have codes.
 pub fn coded_of(p: board::Page) -> bool
-    ensures { result ≡ codedOf p }
+    ensures { result ≡ coded_of p }
 {
     p.irs[0] / 128 % 2 == 1
 }
@@ -196,7 +196,7 @@ pub fn table_of(p: board::Page) -> bool
 }
 
 pub fn cursor_of(p: board::Page) -> CursorLook
-    ensures { result ≡ cursorOf p }
+    ensures { result ≡ cursor_of p }
 {
     CursorLook {
         first: units::Lines(p.irs[6] as u32 / 16 % 16),
@@ -207,41 +207,41 @@ pub fn cursor_of(p: board::Page) -> CursorLook
 }
 
 pub fn underline_of(p: board::Page) -> units::Lines
-    ensures { result ≡ underlineOf p }
+    ensures { result ≡ underline_of p }
 {
     units::Lines(p.irs[7] as u32 % 16)
 }
 
 pub fn blink_of(p: board::Page) -> u32
-    ensures { result ≡ blinkOf p }
+    ensures { result ≡ blink_of p }
 {
     64 * (p.irs[4] as u32 / 128 % 2 + 1)
 }
 
 // 4: interlace, or codes without the row table.
 fn reserved_refused(p: board::Page) -> bool
-    ensures { result ≡ reservedRefused p }
+    ensures { result ≡ reserved_refused p }
 {
     (p.irs[1] / 128 % 2 == 1) | (coded_of(p) & !table_of(p))
 }
 
 // 13: HBP code 0.
 fn back_porch_refused(p: board::Page) -> bool
-    ensures { result ≡ backPorchRefused p }
+    ensures { result ≡ back_porch_refused p }
 {
     p.irs[2] % 8 == 0
 }
 
 // 14: the line is too short for its active, sync and back porch clocks.
 fn line_short(p: board::Page) -> bool
-    ensures { result ≡ lineShort p }
+    ensures { result ≡ line_short p }
 {
     ht_of(p).below(rest_of(p))
 }
 
 // 15: a front porch of 0 or 1.
 fn front_porch_refused(p: board::Page) -> bool
-    ensures { result ≡ frontPorchRefused p }
+    ensures { result ≡ front_porch_refused p }
 {
     hfp_of(p).below(units::Clocks(2))
 }
@@ -255,7 +255,7 @@ fn missing(p: board::Page) -> units::Clocks
 
 // 6: dots not 6 to 12.
 pub fn width_refused(d: units::Dots) -> bool
-    ensures { result ≡ widthRefused d }
+    ensures { result ≡ width_refused d }
 {
     d.below(units::Dots(6)) | units::Dots(12).below(d)
 }
@@ -291,7 +291,7 @@ fn first_of(
 }
 
 pub fn page_check(p: board::Page) -> refusal::Refusal
-    ensures { result ≡ pageCheck p }
+    ensures { result ≡ page_check p }
 {
     let dots = p.video.dots;
     first_of(
@@ -326,7 +326,7 @@ pub fn page_size(p: board::Page) -> PageSize
 
 // 7, for a board's own numbers.
 pub fn state_refused(b: board::Board) -> bool
-    ensures { result ≡ stateRefused b }
+    ensures { result ≡ state_refused b }
 {
     let page = b.page;
     let place = b.place;
@@ -366,7 +366,7 @@ pub fn call_check(
     asked: bool,
     room: bool,
 ) -> refusal::Refusal
-    ensures { result ≡ callCheck b lent asked room }
+    ensures { result ≡ call_check b lent asked room }
 {
     let p = b.page;
     let page = page_check(p);

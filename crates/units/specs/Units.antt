@@ -19,14 +19,14 @@ during lo n x = leb lo x && ltb x (lo + n)
 
 -- [board units] clocks, lines and dots are three units, and a count of one is never added to a count of another
 -- the clocks of n lines, where a line has so many
-abbrev pub clocksOf : Lines → Clocks → Clocks
-clocksOf n line = clocks (n.0 * line.0)
+abbrev pub clocks_of : Lines → Clocks → Clocks
+clocks_of n line = clocks (n.0 * line.0)
 
 -- the whole lines of n clocks, where a line has so many
-abbrev pub wholeLines : Clocks → Clocks → Lines
-wholeLines n line = lines (n.0 / line.0)
+abbrev pub whole_lines : Clocks → Clocks → Lines
+whole_lines n line = lines (n.0 / line.0)
 
 -- [board units]
 -- the dots of n clocks, where a clock has so many
-abbrev pub dotsOf : Clocks → Dots → Dots
-dotsOf n clock = dots (n.0 * clock.0)
+abbrev pub dots_of : Clocks → Dots → Dots
+dots_of n clock = dots (n.0 * clock.0)

@@ -3,7 +3,7 @@
 // those to cells of a row and places of a buffer, which are plain numbers. Elsewhere it is only handed on: to C, as the
 // number next to a refusal, to a file, to the listing. The functions of `callers*` read it as C does.
 ghost use Rattle.std.specs.Prelude.{◌≡◌, min, ◌+◌, ◌-◌, ◌*◌, ◌/◌, ◌%◌, ◌<◌, ◌^◌, eqb, ltb, leb};
-ghost use Rattle.units.specs.Units.{clocks, lines, during, clocksOf, dotsOf, wholeLines};
+ghost use Rattle.units.specs.Units.{clocks, lines, during, clocks_of, dots_of, whole_lines};
 
 #[repr(C)]
 #[derive(Drop)]
@@ -219,7 +219,7 @@ impl Dots {
 // The clocks of so many lines.
 pub fn clocks_of(n: Lines, line: Clocks) -> Clocks
     requires { n.0 * line.0 < 2 ^ 32 }
-    ensures { result ≡ clocksOf n line }
+    ensures { result ≡ clocks_of n line }
 {
     Clocks(n.0 * line.0)
 }
@@ -227,7 +227,7 @@ pub fn clocks_of(n: Lines, line: Clocks) -> Clocks
 // The whole lines of so many clocks.
 pub fn whole_lines(n: Clocks, line: Clocks) -> Lines
     requires { 0 < line.0 }
-    ensures { result ≡ wholeLines n line }
+    ensures { result ≡ whole_lines n line }
 {
     Lines(n.0 / line.0)
 }
@@ -235,7 +235,7 @@ pub fn whole_lines(n: Clocks, line: Clocks) -> Lines
 // The dots of so many clocks.
 pub fn dots_of(n: Clocks, clock: Dots) -> Dots
     requires { n.0 * clock.0 < 2 ^ 32 }
-    ensures { result ≡ dotsOf n clock }
+    ensures { result ≡ dots_of n clock }
 {
     Dots(n.0 * clock.0)
 }

@@ -4,13 +4,13 @@ use Rattle.lists.specs.Choice.{neither}
 use Rattle.refusal.specs.declared.Refusal.TheVariants.{Done, Size}
 use Rattle.refusal.specs.Laws.{passed}
 use Rattle.board.specs.declared.Board.{Board}
-use Rattle.board.specs.Range.{memoriesRefused}
+use Rattle.board.specs.Range.{memories_refused}
 use Rattle.board.specs.Laws.{memories-all}
-use Rattle.timing.specs.Check.{callCheck}
+use Rattle.timing.specs.Check.{call_check}
 use Rattle.timing.specs.Laws.{Accepted, InRange, call-passed}
-use Rattle.shape.specs.Font.{Font, Whole, fontRefused}
+use Rattle.shape.specs.Font.{Font, Whole, font_refused}
 use Rattle.shape.specs.Laws.{font-whole}
-use Rattle.video.specs.At.{lentCheck}
+use Rattle.video.specs.At.{lent_check}
 
 -- the board accepted and in range, and whole memories, words and flags
 pub record Lent (b : Board) (chars attrs words flags : List ℕ) : Type 0 where
@@ -21,11 +21,11 @@ pub record Lent (b : Board) (chars attrs words flags : List ℕ) : Type 0 where
   pub words-all : length words ≡ 1152
   pub flags-all : length flags ≡ 128
 
-module _ (b : Board) (chars attrs : List ℕ) (f : Font) (asked room : Bool) (e : callCheck b (lentCheck chars attrs f) asked room ≡ Done) where
-  sizes : (memoriesRefused (length chars) (length attrs) ≡ false) × (fontRefused f ≡ false)
+module _ (b : Board) (chars attrs : List ℕ) (f : Font) (asked room : Bool) (e : call_check b (lent_check chars attrs f) asked room ≡ Done) where
+  sizes : (memories_refused (length chars) (length attrs) ≡ false) × (font_refused f ≡ false)
   sizes =
-      let sized = passed (memoriesRefused (length chars) (length attrs) || fontRefused f) Size _ refl (call-passed b (lentCheck chars attrs f) asked room e).lent-fine in
-      neither (memoriesRefused (length chars) (length attrs)) (fontRefused f) sized.0
+      let sized = passed (memories_refused (length chars) (length attrs) || font_refused f) Size _ refl (call-passed b (lent_check chars attrs f) asked room e).lent-fine in
+      neither (memories_refused (length chars) (length attrs)) (font_refused f) sized.0
 
   -- the font's five parts
   pub lent-font : Whole f
@@ -33,7 +33,7 @@ module _ (b : Board) (chars attrs : List ℕ) (f : Font) (asked room : Bool) (e 
 
   pub lent : Lent b chars attrs f.words f.flags
   lent =
-      let k = call-passed b (lentCheck chars attrs f) asked room e in
+      let k = call-passed b (lent_check chars attrs f) asked room e in
       let m = memories-all (length chars) (length attrs) sizes.0 in
       record {
         page = k.page;

@@ -7,7 +7,7 @@ use Rattle.std.proofs.Math.Bool.{xor}
 use Rattle.lists.specs.Choice.{pick}
 use Rattle.video.specs.declared.Case.{Case}
 use Rattle.video.specs.declared.TableLine.{TableLine}
-use Rattle.video.specs.Levels.{symbolLevel, surroundLevel, blankLevel}
+use Rattle.video.specs.Levels.{symbol_level, surround_level, blank_level}
 
 -- black, gray, white
 abbrev pub B : ℕ
@@ -66,8 +66,8 @@ abbrev pub meets : (mark : ℕ) → Bool → Bool
 meets mark t = eqb mark d || eqb mark (pick t 1 0)
 
 -- the case stands in the line
-abbrev pub standsIn : Case → TableLine → Bool
-standsIn k l =
+abbrev pub stands_in : Case → TableLine → Bool
+stands_in k l =
     meets l.blank k.blank
     && meets l.rblank k.rblank
     && meets l.bkgnd k.bkgnd
@@ -76,14 +76,14 @@ standsIn k l =
     && meets l.nondisplay k.nondisplay
 
 -- in how many lines it stands
-abbrev pub countIn : Case → List TableLine → ℕ
-countIn k [] = 0
-countIn k (l ∷ ls) = pick (standsIn k l) 1 0 + countIn k ls
+abbrev pub count_in : Case → List TableLine → ℕ
+count_in k [] = 0
+count_in k (l ∷ ls) = pick (stands_in k l) 1 0 + count_in k ls
 
 -- the line that it stands in
 abbrev standing : Case → TableLine → List TableLine → TableLine
 standing k last [] = last
-standing k last (l ∷ ls) = pick (standsIn k l) l (standing k last ls)
+standing k last (l ∷ ls) = pick (stands_in k l) l (standing k last ls)
 
 -- [R-3 table]
 unfoldable pub decided : Case → TableLine
@@ -92,22 +92,22 @@ decided k = standing k (line d d d d d d B B) table1
 -- ---- by its columns, as the code reads it
 
 -- of two sides whose lines differ in a column, the one whose mark there, the first side's, is met by the input
-abbrev pub ofTwo : (mark : ℕ) → Bool → TableLine → TableLine → TableLine
-ofTwo mark t a b = pick (meets mark t) a b
+abbrev pub of_two : (mark : ℕ) → Bool → TableLine → TableLine → TableLine
+of_two mark t a b = pick (meets mark t) a b
 
 -- of eight lines that count upward in the last three columns
-unfoldable pub ofEight : Case → (l1 l2 l3 l4 l5 l6 l7 l8 : TableLine) → TableLine
-ofEight k l1 l2 l3 l4 l5 l6 l7 l8 =
-    ofTwo l1.reverse k.reverse
-    (ofTwo l1.ahilt k.ahilt (ofTwo l1.nondisplay k.nondisplay l1 l2) (ofTwo l3.nondisplay k.nondisplay l3 l4))
-    (ofTwo l5.ahilt k.ahilt (ofTwo l5.nondisplay k.nondisplay l5 l6) (ofTwo l7.nondisplay k.nondisplay l7 l8))
+unfoldable pub of_eight : Case → (l1 l2 l3 l4 l5 l6 l7 l8 : TableLine) → TableLine
+of_eight k l1 l2 l3 l4 l5 l6 l7 l8 =
+    of_two l1.reverse k.reverse
+    (of_two l1.ahilt k.ahilt (of_two l1.nondisplay k.nondisplay l1 l2) (of_two l3.nondisplay k.nondisplay l3 l4))
+    (of_two l5.ahilt k.ahilt (of_two l5.nondisplay k.nondisplay l5 l6) (of_two l7.nondisplay k.nondisplay l7 l8))
 
 -- of all: the dark and the light line that were found, and the three blanked lines
 unfoldable pub of_all : Case → (l1 l17 l18 l19 dark light : TableLine) → TableLine
 of_all k l1 l17 l18 l19 dark light =
-    ofTwo l1.blank k.blank
-    (ofTwo l1.bkgnd k.bkgnd dark light)
-    (ofTwo l17.rblank k.rblank (ofTwo l17.bkgnd k.bkgnd l17 l18) l19)
+    of_two l1.blank k.blank
+    (of_two l1.bkgnd k.bkgnd dark light)
+    (of_two l17.rblank k.rblank (of_two l17.bkgnd k.bkgnd l17 l18) l19)
 
 -- ---- what holds of every case
 
@@ -115,28 +115,28 @@ of_all k l1 l17 l18 l19 dark light =
 abbrev numbered : ℕ → TableLine
 numbered i = get_or table1 (i - 1) (line d d d d d d B B)
 
-abbrev byColumns : Case → TableLine
-byColumns k =
+abbrev by_columns : Case → TableLine
+by_columns k =
     of_all k (numbered 1) (numbered 17) (numbered 18) (numbered 19)
-    (ofEight k (numbered 1) (numbered 2) (numbered 3) (numbered 4) (numbered 5) (numbered 6) (numbered 7) (numbered 8))
-    (ofEight k (numbered 9) (numbered 10) (numbered 11) (numbered 12) (numbered 13) (numbered 14) (numbered 15) (numbered 16))
+    (of_eight k (numbered 1) (numbered 2) (numbered 3) (numbered 4) (numbered 5) (numbered 6) (numbered 7) (numbered 8))
+    (of_eight k (numbered 9) (numbered 10) (numbered 11) (numbered 12) (numbered 13) (numbered 14) (numbered 15) (numbered 16))
 
 -- the rule of Levels
-abbrev symbolBy : Case → ℕ
-symbolBy k = pick k.blank (blankLevel k.rblank k.bkgnd) (symbolLevel (xor k.bkgnd k.reverse) k.ahilt k.nondisplay)
+abbrev symbol_by : Case → ℕ
+symbol_by k = pick k.blank (blank_level k.rblank k.bkgnd) (symbol_level (xor k.bkgnd k.reverse) k.ahilt k.nondisplay)
 
-abbrev surroundBy : Case → ℕ
-surroundBy k = pick k.blank (blankLevel k.rblank k.bkgnd) (surroundLevel (xor k.bkgnd k.reverse) k.ahilt)
+abbrev surround_by : Case → ℕ
+surround_by k = pick k.blank (blank_level k.rblank k.bkgnd) (surround_level (xor k.bkgnd k.reverse) k.ahilt)
 
 abbrev Fine : Case → Type 0
-Fine k = (countIn k table1 ≡ 1) × (((decided k).symbol ≡ symbolBy k) × ((decided k).surround ≡ surroundBy k)) × (byColumns k ≡ decided k)
+Fine k = (count_in k table1 ≡ 1) × (((decided k).symbol ≡ symbol_by k) × ((decided k).surround ≡ surround_by k)) × (by_columns k ≡ decided k)
 
 abbrev pub case_of : (blank rblank bkgnd reverse ahilt nondisplay : Bool) → Case
 case_of a b c r h n = record { blank = a; rblank = b; bkgnd = c; reverse = r; ahilt = h; nondisplay = n }
 
 -- a line of the table each
 in-each : (a b c r h n : Bool) → Fine (case_of a b c r h n)
-unfolding table1 decided ofEight of_all xor
+unfolding table1 decided of_eight of_all xor
 in-each false b false false false false = (refl, (refl, refl), refl)
 in-each false b false false false true = (refl, (refl, refl), refl)
 in-each false b false false true false = (refl, (refl, refl), refl)
@@ -162,17 +162,17 @@ fine k = in-each k.blank k.rblank k.bkgnd k.reverse k.ahilt k.nondisplay
 
 -- [R-3 table]
 -- every case of the six inputs stands in exactly one line, don't-cares included
-pub one_line : (k : Case) → countIn k table1 ≡ 1
+pub one_line : (k : Case) → count_in k table1 ≡ 1
 one_line k = (fine k).0
 
 -- [R-3 table]
 -- what the line gives are the levels of the rule
-pub by-rule : (k : Case) → ((decided k).symbol ≡ symbolBy k) × ((decided k).surround ≡ surroundBy k)
+pub by-rule : (k : Case) → ((decided k).symbol ≡ symbol_by k) × ((decided k).surround ≡ surround_by k)
 by-rule k = (fine k).1
 
 -- [R-3 table]
 -- the code's reading, column by column, comes to that line
-pub by-columns : (k : Case) → byColumns k ≡ decided k
+pub by-columns : (k : Case) → by_columns k ≡ decided k
 by-columns k = (fine k).2
 
 -- the calls that read the table, one after the other
@@ -196,12 +196,12 @@ pub read : (k : Case) {l1 l2 l3 l4 l5 l6 l7 l8 l9 l10 l11 l12 l13 l14 l15 l16 l1
     → l17 ≡ numbered 17
     → l18 ≡ numbered 18
     → l19 ≡ numbered 19
-    → dark ≡ ofEight k l1 l2 l3 l4 l5 l6 l7 l8
-    → light ≡ ofEight k l9 l10 l11 l12 l13 l14 l15 l16
-    → shown ≡ ofTwo l1.bkgnd k.bkgnd dark light
-    → border ≡ ofTwo l17.bkgnd k.bkgnd l17 l18
-    → blanked ≡ ofTwo l17.rblank k.rblank border l19
-    → found ≡ ofTwo l1.blank k.blank shown blanked
+    → dark ≡ of_eight k l1 l2 l3 l4 l5 l6 l7 l8
+    → light ≡ of_eight k l9 l10 l11 l12 l13 l14 l15 l16
+    → shown ≡ of_two l1.bkgnd k.bkgnd dark light
+    → border ≡ of_two l17.bkgnd k.bkgnd l17 l18
+    → blanked ≡ of_two l17.rblank k.rblank border l19
+    → found ≡ of_two l1.blank k.blank shown blanked
     → found ≡ decided k
 unfolding of_all
 read k e1 e2 e3 e4 e5 e6 e7 e8 e9 e10 e11 e12 e13 e14 e15 e16 e17 e18 e19 d l s b x f =

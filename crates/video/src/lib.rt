@@ -1,14 +1,14 @@
 // The attributes controller (000): from attributes and cursor to black, gray and white.
 ghost use Rattle.std.specs.Prelude.{◌≡◌, ◌≤◌, ◌<◌};
 ghost use Rattle.std.specs.Bool.{xor};
-ghost use Rattle.lists.specs.Choice.{pick, hasBit};
+ghost use Rattle.lists.specs.Choice.{pick, has_bit};
 ghost use Rattle.units.specs.Units.{lines};
-ghost use Rattle.video.specs.Levels.{blankLevel};
-ghost use Rattle.video.specs.Table.{line, ofTwo, ofEight, decided};
-ghost use Rattle.video.specs.Scene.{blinkAt, cursorGate, scene_of, cursorAt};
+ghost use Rattle.video.specs.Levels.{blank_level};
+ghost use Rattle.video.specs.Table.{line, of_two, of_eight, decided};
+ghost use Rattle.video.specs.Scene.{blink_at, cursor_gate, scene_of, cursor_at};
 ghost use Rattle.video.specs.Look.{look_of};
-ghost use Rattle.shape.specs.Font.{lentFont};
-ghost use Rattle.video.specs.At.{lentRefused, lentBy, lentCheck, reading_of, graphicsBy, scanOf, scanAt, countedByte, shownCode};
+ghost use Rattle.shape.specs.Font.{lent_font};
+ghost use Rattle.video.specs.At.{lent_refused, lent_by, lent_check, reading_of, graphics_by, scan_of, scan_at, counted_byte, shown_code};
 
 // What is the same for all cells of a scan line: whether the picture is shown, the blank level, BKGND, BLINK, whether this is the
 // underline line and the strike line, whether the cursor gate opens on this line, and at which address.
@@ -69,7 +69,7 @@ struct TableLine {
 // The bit of a weight, of the switches or of the attributes.
 fn has(byte: u8, weight: u8) -> bool
     requires { 0 < weight }
-    ensures { result ≡ hasBit byte weight }
+    ensures { result ≡ has_bit byte weight }
 {
     byte / weight % 2 == 1
 }
@@ -77,7 +77,7 @@ fn has(byte: u8, weight: u8) -> bool
 // High in the fourth quarter of the period.
 fn blink_at(period: u32, field: u8) -> bool
     requires { (0 < period) × (period ≤ 128) }
-    ensures { result ≡ blinkAt period field }
+    ensures { result ≡ blink_at period field }
 {
     3 * (period / 4) <= field as u32 % period
 }
@@ -85,7 +85,7 @@ fn blink_at(period: u32, field: u8) -> bool
 // Whether the cursor may show on a scan line of a field.
 fn cursor_gate(k: timing::CursorLook, on: bool, scan: units::Lines, field: u8) -> bool
     requires { 0 < k.period }
-    ensures { result ≡ cursorGate k on scan.0 field }
+    ensures { result ≡ cursor_gate k on scan.0 field }
 {
     let half = (field as u32 % k.period) < k.period / 2;
     on & k.first.at_most(scan) & scan.at_most(k.last) & (!k.blinks | half)
@@ -133,7 +133,7 @@ fn bit(t: bool) -> u8
 
 // Of two sides whose lines differ in a column, the one whose mark there, the first side's, is met by the input.
 fn of_two(mark: u8, t: bool, a: TableLine, b: TableLine) -> TableLine
-    ensures { result ≡ ofTwo mark t a b }
+    ensures { result ≡ of_two mark t a b }
 {
     if (mark == D) | (mark == bit(t)) { a } else { b }
 }
@@ -150,7 +150,7 @@ fn of_eight(
     l7: TableLine,
     l8: TableLine,
 ) -> TableLine
-    ensures { result ≡ ofEight k l1 l2 l3 l4 l5 l6 l7 l8 }
+    ensures { result ≡ of_eight k l1 l2 l3 l4 l5 l6 l7 l8 }
 {
     let a = of_two(l1.nondisplay, k.nondisplay, l1, l2);
     let b = of_two(l3.nondisplay, k.nondisplay, l3, l4);
@@ -195,7 +195,7 @@ fn table_1(k: Case) -> TableLine
 
 // The level while BLANK is high.
 fn blank_level(rblank: bool, bkgnd: bool) -> u8
-    ensures { result ≡ blankLevel rblank bkgnd }
+    ensures { result ≡ blank_level rblank bkgnd }
 {
     let found = table_1(Case {
         blank: true,
@@ -229,7 +229,7 @@ pub fn scene_of(b: board::Board, scan: units::Lines, field: u8) -> Scene
 
 // CURSOR at a fetched address.
 pub fn cursor_at(s: Scene, at: usize) -> bool
-    ensures { result ≡ cursorAt s at }
+    ensures { result ≡ cursor_at s at }
 {
     s.gate & (at == s.cursor as usize)
 }
@@ -247,7 +247,7 @@ pub fn reading_of(p: board::Page) -> Reading
 
 // Whether a cell with these attributes is a graphics cell.
 pub fn graphics_by(k: Reading, attributes: u8) -> bool
-    ensures { result ≡ graphicsBy k attributes }
+    ensures { result ≡ graphics_by k attributes }
 {
     k.graphics & has(attributes, 32)
 }
@@ -255,7 +255,7 @@ pub fn graphics_by(k: Reading, attributes: u8) -> bool
 // The scan line that a line of a row shows, of so many lines.
 pub fn scan_of(k: raster::Code, of: units::Lines, line: units::Lines) -> units::Lines
     requires { (of.0 ≤ 32) × (line.0 ≤ 32) }
-    ensures { result ≡ lines (scanOf k of.0 line.0) }
+    ensures { result ≡ lines (scan_of k of.0 line.0) }
 {
     if raster::is_top(k) {
         return line.half();
@@ -268,7 +268,7 @@ pub fn scan_of(k: raster::Code, of: units::Lines, line: units::Lines) -> units::
 
 // The scan line that a visible line shows.
 pub fn scan_at(p: board::Page, k: raster::Code, line: units::Lines) -> units::Lines
-    ensures { result ≡ lines (scanAt p k line.0) }
+    ensures { result ≡ lines (scan_at p k line.0) }
 {
     let t = timing::timing_of(p);
     scan_of(k, t.counts.lines, timing::line_of_row(p, line))
@@ -276,14 +276,14 @@ pub fn scan_at(p: board::Page, k: raster::Code, line: units::Lines) -> units::Li
 
 // What a cell's attribute byte sets at a column, which shows its cell again or fetches it.
 pub fn counted_byte(k: Reading, again: bool, byte: u8) -> u8
-    ensures { result ≡ countedByte k again byte }
+    ensures { result ≡ counted_byte k again byte }
 {
     if again & k.runs { 0 } else { byte }
 }
 
 // The code that a cell with this attribute byte is shown as: 0, which has zero dots, where it sets attributes and such cells are hidden.
 pub fn shown_code(hidden: bool, code: u8, byte: u8) -> u8
-    ensures { result ≡ shownCode hidden code byte }
+    ensures { result ≡ shown_code hidden code byte }
 {
     if hidden & (128 <= byte) { 0 } else { code }
 }
@@ -333,7 +333,7 @@ pub fn lent_refused(
     shifted: &[u8],
     groups: &[u8],
 ) -> bool
-    ensures { result ≡ lentRefused chars.now attrs.now (lentFont words flags unshifted shifted groups) }
+    ensures { result ≡ lent_refused chars.now attrs.now (lent_font words flags unshifted shifted groups) }
 {
     board::memories_refused(chars.len(), attrs.len())
         | shape::font_refused(words, flags, unshifted, shifted, groups)
@@ -341,7 +341,7 @@ pub fn lent_refused(
 
 // Then 12, for the groups.
 pub fn lent_by(size: bool, groups: &[u8]) -> refusal::Refusal
-    ensures { result ≡ lentBy size groups.now }
+    ensures { result ≡ lent_by size groups.now }
 {
     if size {
         return refusal::Refusal::Size;
@@ -359,7 +359,7 @@ pub fn lent_check(
     shifted: &[u8],
     groups: &[u8],
 ) -> refusal::Refusal
-    ensures { result ≡ lentCheck chars.now attrs.now (lentFont words flags unshifted shifted groups) }
+    ensures { result ≡ lent_check chars.now attrs.now (lent_font words flags unshifted shifted groups) }
 {
     let size = lent_refused(chars, attrs, words, flags, unshifted, shifted, groups);
     lent_by(size, groups)

@@ -5,7 +5,7 @@ use native.Mathlib.Omega.{arith}
 use borrow.Author.Rules.{rules}
 use borrow.Author.Tests.{eq-eqb, ne_eqb}
 use Rattle.lists.specs.Choice.{stop, pass}
-use Rattle.timing.specs.Fields.{timingOf, countsOf}
+use Rattle.timing.specs.Fields.{timing_of, counts_of}
 use Rattle.catalogue.proofs.as_table_order.Statement.{statement}
 use Rattle.catalogue.proofs.as_table_order.Tie as tie
 
@@ -18,7 +18,7 @@ returns-2 c =
     pass _ (sym sheet.before.table_of.ensures ∙ sheet.if1.false) (stop _ (sym c.before.coded-of.ensures ∙ c.if2.true) refl)
 
 few : (c : tie.After-timing-of) → 2 * c.timing-of.result.counts.rows ≤ 256
-unfolding timingOf countsOf
+unfolding timing_of counts_of
 few c = rw c.timing-of.ensures (omega arith)
 
 cast-if3 : tie.Need-overflow-cast-if3
@@ -31,7 +31,7 @@ sub-if3 : tie.Need-overflow-sub-if3
 sub-if3 c = omega (arith, few c.before.before)
 
 returns-3 : tie.Need-returns-3
-unfolding timingOf countsOf
+unfolding timing_of counts_of
 returns-3 c =
     let timed = c.before.before.before in
     let plain = timed.before in
@@ -41,7 +41,7 @@ returns-3 c =
     (stop _ (eq-eqb _ _ (rw (c.before.before.place-for.ensures, timed.timing-of.ensures) at c.if3.true)) refl))
 
 returns-4 : tie.Need-returns-4
-unfolding timingOf countsOf
+unfolding timing_of counts_of
 returns-4 c =
     let timed = c.before.before.before in
     let plain = timed.before in

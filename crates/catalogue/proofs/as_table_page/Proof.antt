@@ -1,10 +1,10 @@
 use borrow.Author.Rules.{rules}
-use Rattle.catalogue.specs.ToTable.{asTablePage}
+use Rattle.catalogue.specs.ToTable.{as_table_page}
 use Rattle.catalogue.proofs.as_table_page.Statement.{statement}
 use Rattle.catalogue.proofs.as_table_page.Tie as tie
 
 returns : tie.Need-returns
-unfolding asTablePage
+unfolding as_table_page
 returns c = cc
 
 pub as-table-page-spec : {M : Type 1} → statement M

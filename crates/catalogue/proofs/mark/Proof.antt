@@ -5,14 +5,14 @@ use native.Mathlib.Omega.{arith}
 use borrow.Author.Rules.{rules}
 use lib.ListN.{length, length-set}
 use Rattle.raster.specs.declared.Cell.{Cell}
-use Rattle.raster.specs.Moves.{cell, advanceBy, advanceBy-zero, advanceBy-lt}
-use Rattle.catalogue.specs.Marks.{markedBy, marked-none, marked_more, one_on}
+use Rattle.raster.specs.Moves.{cell, advance_by, advance_by-zero, advance_by-lt}
+use Rattle.catalogue.specs.Marks.{marked_by, marked-none, marked_more, one_on}
 use Rattle.catalogue.proofs.mark.Statement.{statement}
 use Rattle.catalogue.proofs.mark.Tie as tie
 
 abbrev invariant-loop : tie.invariant-loop
 invariant-loop marks₀ buffer n first i₀ marks here i =
-    (i ≤ n) × (length marks ≡ length marks₀) × (here ≡ cell (advanceBy buffer i first.address)) × (marks ≡ markedBy buffer first.address marks₀ i)
+    (i ≤ n) × (length marks ≡ length marks₀) × (here ≡ cell (advance_by buffer i first.address)) × (marks ≡ marked_by buffer first.address marks₀ i)
 
 abbrev decreases-loop : tie.decreases-loop
 decreases-loop marks₀ buffer n first i₀ marks here i = n - i
@@ -20,13 +20,13 @@ decreases-loop marks₀ buffer n first i₀ marks here i = n - i
 loop-holds : tie.Need-loop-init invariant-loop decreases-loop
 loop-holds c =
     let start = c.before in
-    (omega arith, refl, ap cell (sym (advanceBy-zero _ _ start.requires.2)), marked-none _ _ _ start.requires.0)
+    (omega arith, refl, ap cell (sym (advance_by-zero _ _ start.requires.2)), marked-none _ _ _ start.requires.0)
 
 slice-write-marks : tie.Need-slice-write-marks invariant-loop decreases-loop
 slice-write-marks c =
     let loop = c.before.before.loop in
     let start = c.before.before.before.before in
-    rw loop.invariant.2 (omega (arith, loop.invariant.1, start.requires.0, advanceBy-lt start.args.buffer loop.i start.args.start.address))
+    rw loop.invariant.2 (omega (arith, loop.invariant.1, start.requires.0, advance_by-lt start.args.buffer loop.i start.args.start.address))
 
 loop-again : tie.Need-loop-preserved invariant-loop decreases-loop
 loop-again c =
@@ -43,7 +43,7 @@ returns c =
     let loop = c.before.loop in
     let start = c.before.before.before in
     let all : loop.i ≡ start.args.n = omega (arith, loop.invariant.0, c.loop-test.false) in
-    loop.invariant.3 ∙ ap (markedBy start.args.buffer start.args.start.address start.args.marks.now) all
+    loop.invariant.3 ∙ ap (marked_by start.args.buffer start.args.start.address start.args.marks.now) all
 
 pub mark_spec : {M : Type 1} → statement M
 mark_spec =

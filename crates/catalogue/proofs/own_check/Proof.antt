@@ -1,11 +1,11 @@
 use mathlib.Core.Path.{◌∙◌}
 use borrow.Author.Rules.{rules}
-use Rattle.catalogue.specs.ToTable.{ownCheck}
+use Rattle.catalogue.specs.ToTable.{own_check}
 use Rattle.catalogue.proofs.own_check.Statement.{statement}
 use Rattle.catalogue.proofs.own_check.Tie as tie
 
 returns : tie.Need-returns
-unfolding ownCheck
+unfolding own_check
 returns c = c.call-check.ensures ∙ rw c.before.wrong_size.ensures
 
 pub own-check-spec : {M : Type 1} → statement M

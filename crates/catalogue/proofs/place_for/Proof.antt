@@ -3,18 +3,18 @@ use Prim.Native.Nat.{◌*◌, ◌≤◌}
 use native.Mathlib.Nat.{mul-le-mul}
 use native.Mathlib.Omega.{arith}
 use borrow.Author.Rules.{rules}
-use Rattle.timing.specs.Fields.{rows_of, hactOf, timingOf, countsOf}
+use Rattle.timing.specs.Fields.{rows_of, hact_of, timing_of, counts_of}
 use Rattle.timing.specs.Laws.{buffer-bounded}
 use Rattle.catalogue.specs.Marks.{place_found}
 use Rattle.catalogue.proofs.place_for.Statement.{statement}
 use Rattle.catalogue.proofs.place_for.Tie as tie
 
 times-requires : tie.Need-times-requires
-unfolding timingOf countsOf
+unfolding timing_of counts_of
 times-requires c κs =
     let p = c.before.args.p in
     let rows : rows_of p ≤ 128 = omega arith in
-    let columns : hactOf p ≤ 256 = omega arith in
+    let columns : hact_of p ≤ 256 = omega arith in
     rw c.timing-of.ensures (omega (arith, mul-le-mul rows columns))
 
 mark-requires : tie.Need-mark-requires
@@ -22,7 +22,7 @@ mark-requires c κs = (search rules, rw c.buffer-of.ensures (buffer-bounded _), 
 
 -- two bytes a row, of at most 128
 few : (c : tie.After-timing-of) → (1 ≤ 2 * c.timing-of.result.counts.rows) × (2 * c.timing-of.result.counts.rows ≤ 256)
-unfolding timingOf countsOf
+unfolding timing_of counts_of
 few c = rw c.timing-of.ensures (omega arith, omega arith)
 
 cast-lowest : tie.Need-overflow-cast-lowest

@@ -7,15 +7,15 @@ use native.Mathlib.Omega.{arith}
 use borrow.Author.Rules.{rules}
 use lib.ListN.{length, drop, length-set}
 use Rattle.lists.specs.Tab.{tab}
-use Rattle.raster.specs.Moves.{cell, advanceBy, advanceBy-zero, advanceBy-lt}
-use Rattle.catalogue.specs.Marks.{entryByte, entry-put, row_on}
+use Rattle.raster.specs.Moves.{cell, advance_by, advance_by-zero, advance_by-lt}
+use Rattle.catalogue.specs.Marks.{entry_byte, entry-put, row_on}
 use Rattle.catalogue.proofs.put_table.Statement.{statement}
 use Rattle.catalogue.proofs.put_table.Tie as tie
 
 abbrev invariant-loop : tie.invariant-loop
 invariant-loop out₀ buffer columns rows first r₀ out here r =
-    (r ≤ rows) × (length out ≡ length out₀) × (here ≡ cell (advanceBy buffer (r * columns) first.address))
-    × (out ≡ tab (2 * r) (entryByte buffer first.address (columns)) ++ drop (2 * r) out₀)
+    (r ≤ rows) × (length out ≡ length out₀) × (here ≡ cell (advance_by buffer (r * columns) first.address))
+    × (out ≡ tab (2 * r) (entry_byte buffer first.address (columns)) ++ drop (2 * r) out₀)
 
 abbrev decreases-loop : tie.decreases-loop
 decreases-loop out₀ buffer columns rows first r₀ out here r = rows - r
@@ -26,7 +26,7 @@ loop-holds c =
     let start = c.before in (
       omega arith,
       refl,
-      ap cell (sym (ap (λ (k : ℕ). advanceBy start.args.buffer k start.args.start.address) (zero-mul start.args.columns) ∙ advanceBy-zero _ _ start.requires.4)),
+      ap cell (sym (ap (λ (k : ℕ). advance_by start.args.buffer k start.args.start.address) (zero-mul start.args.columns) ∙ advance_by-zero _ _ start.requires.4)),
       refl,
     )
 
@@ -37,7 +37,7 @@ room c =
     let start = c.before.before.before in (
       omega (arith, loop.invariant.1, start.requires.0, c.loop-test.true),
       omega (arith, start.requires.1, c.loop-test.true),
-      rw loop.invariant.2 (advanceBy-lt start.args.buffer (loop.r * start.args.columns) start.args.start.address),
+      rw loop.invariant.2 (advance_by-lt start.args.buffer (loop.r * start.args.columns) start.args.start.address),
     )
 
 mul-out : tie.Need-overflow-mul-out invariant-loop decreases-loop
@@ -74,7 +74,7 @@ returns c =
     let loop = c.before.loop in
     let start = c.before.before.before in
     let all : 2 * loop.r ≡ 2 * start.args.rows = omega (arith, loop.invariant.0, c.loop-test.false) in
-    loop.invariant.3 ∙ ap (λ (k : ℕ). tab k (entryByte start.args.buffer start.args.start.address start.args.columns) ++ drop k start.args.out.now) all
+    loop.invariant.3 ∙ ap (λ (k : ℕ). tab k (entry_byte start.args.buffer start.args.start.address start.args.columns) ++ drop k start.args.out.now) all
 
 pub put-table-spec : {M : Type 1} → statement M
 put-table-spec =

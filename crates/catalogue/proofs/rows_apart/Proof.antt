@@ -3,27 +3,27 @@ use Prim.Native.Nat.{◌-◌, ◌≤◌, ◌<◌}
 use mathlib.Core.Path.{◌≡◌, refl}
 use native.Mathlib.Omega.{arith}
 use borrow.Author.Rules.{rules}
-use Rattle.lists.specs.Search.{anyBelow}
-use Rattle.timing.specs.Fields.{timingOf, countsOf}
-use Rattle.catalogue.specs.Marks.{apartBy, apart_more, apart-all}
+use Rattle.lists.specs.Search.{any_below}
+use Rattle.timing.specs.Fields.{timing_of, counts_of}
+use Rattle.catalogue.specs.Marks.{apart_by, apart_more, apart-all}
 use Rattle.catalogue.proofs.rows_apart.Statement.{statement}
 use Rattle.catalogue.proofs.rows_apart.Tie as tie
 
 abbrev invariant-loop : tie.invariant-loop
-invariant-loop p chars buffer columns n apart₀ r₀ apart r = (r ≤ n) × (apart ≡ anyBelow (apartBy p chars) r)
+invariant-loop p chars buffer columns n apart₀ r₀ apart r = (r ≤ n) × (apart ≡ any_below (apart_by p chars) r)
 
 abbrev decreases-loop : tie.decreases-loop
 decreases-loop p chars buffer columns n apart₀ r₀ apart r = n - r
 
 few : (c : tie.After-timing-of invariant-loop decreases-loop) → (1 ≤ c.timing-of.result.counts.rows) × (c.timing-of.result.counts.rows ≤ 128)
-unfolding timingOf countsOf
+unfolding timing_of counts_of
 few c = rw c.timing-of.ensures (omega arith, omega arith)
 
 sub-n : tie.Need-overflow-sub-n invariant-loop decreases-loop
 sub-n c = (few c.before.before.before).0
 
 loop-holds : tie.Need-loop-init invariant-loop decreases-loop
-unfolding anyBelow
+unfolding any_below
 loop-holds c = (omega arith, refl)
 
 low : (c : tie.In-loop invariant-loop decreases-loop) → c.before.loop.r < 128

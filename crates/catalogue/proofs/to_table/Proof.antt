@@ -5,13 +5,13 @@ use native.Mathlib.Omega.{arith}
 use borrow.Author.Rules.{rules}
 use lib.ListN.{length}
 use Rattle.refusal.specs.Laws.{done-is, checked}
-use Rattle.catalogue.specs.ToTable.{asTableCheck, tableSize}
+use Rattle.catalogue.specs.ToTable.{as_table_check, table_size}
 use Rattle.catalogue.specs.Marks.{Movable, same_check, as-table-passed, as-table-moved, as-table-kept, as-table-room}
 use Rattle.catalogue.proofs.to_table.Statement.{statement}
 use Rattle.catalogue.proofs.to_table.Tie as tie
 
 -- the check, as the contract has it
-check : (c : tie.After-as-table-check) → c.as-table-check.result ≡ asTableCheck c.before.before.args.b c.before.before.args.chars.now
+check : (c : tie.After-as-table-check) → c.as-table-check.result ≡ as_table_check c.before.before.args.b c.before.before.args.chars.now
 check c = c.as-table-check.ensures ∙ same_check _ _
 
 movable : (c : tie.Then1) → Movable c.before.before.before.before.args.b c.before.before.before.before.args.chars.now
@@ -22,7 +22,7 @@ place-for-requires c κs = (movable c.before).page
 
 -- the table has room where it is written
 room : (c : tie.After-place-for)
-    → (c.place-for.result + tableSize c.before.before.before.before.before.before.args.b.page ≤ length c.before.before.before.before.before.before.args.chars.now) × (c.place-for.result < 16384)
+    → (c.place-for.result + table_size c.before.before.before.before.before.before.args.b.page ≤ length c.before.before.before.before.before.before.args.chars.now) × (c.place-for.result < 16384)
 room c = as-table-room _ _ (movable c.before.before) c.place-for.ensures
 
 write-table-requires : tie.Need-write-table-requires

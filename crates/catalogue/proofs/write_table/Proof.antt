@@ -2,14 +2,14 @@
 use native.Mathlib.Omega.{arith}
 use borrow.Author.Rules.{rules}
 use lib.ListN.{length-take, length-drop}
-use Rattle.timing.specs.Fields.{timingOf, countsOf}
+use Rattle.timing.specs.Fields.{timing_of, counts_of}
 use Rattle.timing.specs.Laws.{buffer-bounded}
 use Rattle.catalogue.specs.Marks.{table-written}
 use Rattle.catalogue.proofs.write_table.Statement.{statement}
 use Rattle.catalogue.proofs.write_table.Tie as tie
 
 put-table-requires : tie.Need-put-table-requires
-unfolding timingOf countsOf
+unfolding timing_of counts_of
 put-table-requires c κs =
     let timed = c.before.before.before.before in
     let start = timed.before.before in (

@@ -3,15 +3,15 @@ use Prim.Native.Nat.{◌-◌, ◌≤◌, ◌<◌}
 use mathlib.Core.Path.{◌≡◌, refl, ap, ◌∙◌}
 use native.Mathlib.Omega.{arith}
 use borrow.Author.Rules.{rules}
-use Rattle.records.specs.Folds.{mateStart, mateTo}
+use Rattle.records.specs.Folds.{mate_start, mate_to}
 use Rattle.phrases.specs.Laws.{mate-begins, mate-all}
-use Rattle.columns.specs.Columns.{recordsOf}
+use Rattle.columns.specs.Columns.{records_of}
 use Rattle.columns.specs.Laws.{each-column, mate-more, ended}
 use Rattle.columns.proofs.mate_of.Statement.{statement}
 use Rattle.columns.proofs.mate_of.Tie as tie
 
 abbrev invariant-loop : tie.invariant-loop
-invariant-loop languages numbers firsts lengths after n o s₀ i₀ s i = (i ≤ n) × (after < i) × (s ≡ mateTo (recordsOf languages numbers firsts lengths) after i)
+invariant-loop languages numbers firsts lengths after n o s₀ i₀ s i = (i ≤ n) × (after < i) × (s ≡ mate_to (records_of languages numbers firsts lengths) after i)
 
 abbrev decreases-loop : tie.decreases-loop
 decreases-loop languages numbers firsts lengths after n o s₀ i₀ s i = n - i
@@ -27,7 +27,7 @@ loop-holds c =
     let at = c.before in (
       omega (arith, at.before.count.ensures, at.before.before.before.before.before.before.requires),
       omega arith,
-      c.start-mate.ensures ∙ ap mateStart at.record-at.ensures ∙ mate-begins _ _,
+      c.start-mate.ensures ∙ ap mate_start at.record-at.ensures ∙ mate-begins _ _,
     )
 
 record-at-requires-2 : tie.Need-record-at-requires-2 invariant-loop decreases-loop
@@ -47,7 +47,7 @@ returns : tie.Need-returns invariant-loop decreases-loop
 returns c =
     let loop = c.before.loop in
     let called = c.before.before.before.before in
-    ended (mateTo _ _) loop.invariant.2 loop.invariant.0 (omega (arith, c.loop-test.false)) called.count.ensures ∙ mate-all _ _
+    ended (mate_to _ _) loop.invariant.2 loop.invariant.0 (omega (arith, c.loop-test.false)) called.count.ensures ∙ mate-all _ _
 
 pub mate-of-spec : {M : Type 1} → statement M
 mate-of-spec =

@@ -3,15 +3,15 @@ use Prim.Native.Nat.{◌-◌, ◌≤◌}
 use mathlib.Core.Path.{◌≡◌, ◌∙◌}
 use native.Mathlib.Omega.{arith}
 use borrow.Author.Rules.{rules}
-use Rattle.records.specs.Folds.{pairsTo}
+use Rattle.records.specs.Folds.{pairs_to}
 use Rattle.phrases.specs.Laws.{pairs-all}
-use Rattle.columns.specs.Columns.{recordsOf}
+use Rattle.columns.specs.Columns.{records_of}
 use Rattle.columns.specs.Laws.{pair-more, ended}
 use Rattle.columns.proofs.records_differ.Statement.{statement}
 use Rattle.columns.proofs.records_differ.Tie as tie
 
 abbrev invariant-loop : tie.invariant-loop
-invariant-loop languages numbers firsts lengths n s₀ i₀ s i = (i ≤ n) × (s ≡ pairsTo (recordsOf languages numbers firsts lengths) i)
+invariant-loop languages numbers firsts lengths n s₀ i₀ s i = (i ≤ n) × (s ≡ pairs_to (records_of languages numbers firsts lengths) i)
 
 abbrev decreases-loop : tie.decreases-loop
 decreases-loop languages numbers firsts lengths n s₀ i₀ s i = n - i
@@ -33,7 +33,7 @@ returns : tie.Need-returns invariant-loop decreases-loop
 returns c =
     let loop = c.before.loop in
     let called = c.before.before.before in
-    ended (pairsTo _) loop.invariant.1 loop.invariant.0 (omega (arith, c.loop-test.false)) called.count.ensures ∙ pairs-all _
+    ended (pairs_to _) loop.invariant.1 loop.invariant.0 (omega (arith, c.loop-test.false)) called.count.ensures ∙ pairs-all _
 
 pub records-differ-spec : {M : Type 1} → statement M
 records-differ-spec =

@@ -3,15 +3,15 @@ use Prim.Native.Nat.{◌-◌, ◌≤◌}
 use mathlib.Core.Path.{◌≡◌, ◌∙◌}
 use native.Mathlib.Omega.{arith}
 use borrow.Author.Rules.{rules}
-use Rattle.records.specs.Folds.{searchTo}
+use Rattle.records.specs.Folds.{search_to}
 use Rattle.phrases.specs.Laws.{search-all}
-use Rattle.columns.specs.Columns.{recordsOf}
+use Rattle.columns.specs.Columns.{records_of}
 use Rattle.columns.specs.Laws.{each-column, search-more, ended}
 use Rattle.columns.proofs.search.Statement.{statement}
 use Rattle.columns.proofs.search.Tie as tie
 
 abbrev invariant-loop : tie.invariant-loop
-invariant-loop languages numbers firsts lengths asked n s₀ i₀ s i = (i ≤ n) × (s ≡ searchTo (recordsOf languages numbers firsts lengths) asked i)
+invariant-loop languages numbers firsts lengths asked n s₀ i₀ s i = (i ≤ n) × (s ≡ search_to (records_of languages numbers firsts lengths) asked i)
 
 abbrev decreases-loop : tie.decreases-loop
 decreases-loop languages numbers firsts lengths asked n s₀ i₀ s i = n - i
@@ -33,7 +33,7 @@ returns : tie.Need-returns invariant-loop decreases-loop
 returns c =
     let loop = c.before.loop in
     let called = c.before.before.before in
-    ended (searchTo _ _) loop.invariant.1 loop.invariant.0 (omega (arith, c.loop-test.false)) called.count.ensures ∙ search-all _ _
+    ended (search_to _ _) loop.invariant.1 loop.invariant.0 (omega (arith, c.loop-test.false)) called.count.ensures ∙ search-all _ _
 
 pub search-spec : {M : Type 1} → statement M
 search-spec =

@@ -6,12 +6,12 @@ use native.Mathlib.Omega.{arith}
 use borrow.Author.Rules.{rules}
 use lib.ListN.{length, drop}
 use Rattle.lists.specs.Tab.{tab, tab-turn}
-use Rattle.dots.specs.Half.{halfBy}
+use Rattle.dots.specs.Half.{half_by}
 use Rattle.dots.proofs.halve.Statement.{statement}
 use Rattle.dots.proofs.halve.Tie as tie
 
 abbrev invariant-loop : tie.invariant-loop
-invariant-loop out₀ cell from d i₀ out i = (i ≤ d) × (length out ≡ length out₀) × (out ≡ tab i (halfBy cell from) ++ drop i out₀)
+invariant-loop out₀ cell from d i₀ out i = (i ≤ d) × (length out ≡ length out₀) × (out ≡ tab i (half_by cell from) ++ drop i out₀)
 
 abbrev decreases-loop : tie.decreases-loop
 decreases-loop out₀ cell from d i₀ out i = d - i
@@ -34,13 +34,13 @@ slice-write-out c =
     omega (arith, start.requires.0, c.before.before.loop.invariant.1, c.before.loop-test.true)
 
 loop-again : tie.Need-loop-preserved invariant-loop decreases-loop
-unfolding halfBy
+unfolding half_by
 loop-again c =
     let start = c.before.before.before in
     let inv = c.before.before.loop.invariant in (
       omega (arith, c.before.loop-test.true),
       search rules,
-      tab-turn (halfBy start.args.cell.now start.args.from) start.args.out.now _ c.before.before.loop.i inv.2 _
+      tab-turn (half_by start.args.cell.now start.args.from) start.args.out.now _ c.before.before.loop.i inv.2 _
           (omega (arith, start.requires.0, c.before.loop-test.true)) refl,
     )
 
@@ -48,7 +48,7 @@ returns : tie.Need-returns invariant-loop decreases-loop
 returns c =
     let start = c.before.before in
     let all : c.before.loop.i ≡ start.args.d = omega (arith, c.before.loop.invariant.0, c.loop-test.false) in
-    c.before.loop.invariant.2 ∙ ap (λ (k : ℕ). tab k (halfBy start.args.cell.now start.args.from) ++ drop k start.args.out.now) all
+    c.before.loop.invariant.2 ∙ ap (λ (k : ℕ). tab k (half_by start.args.cell.now start.args.from) ++ drop k start.args.out.now) all
 
 pub halve-spec : {M : Type 1} → statement M
 halve-spec =

@@ -5,7 +5,7 @@ use native.Mathlib.Omega.{arith}
 use borrow.Author.Rules.{rules}
 use borrow.Author.Tests.{lt-ltb, le-ltb}
 use Rattle.lists.specs.Choice.{stop, pass}
-use Rattle.dots.specs.Stores.{inkOf}
+use Rattle.dots.specs.Stores.{ink_of}
 use Rattle.dots.specs.Bytes.{spread-ones}
 use Rattle.dots.proofs.ink.Statement.{statement}
 use Rattle.dots.proofs.ink.Tie as tie
@@ -14,15 +14,15 @@ mul-result : tie.Need-overflow-mul-result
 mul-result c = omega (arith, c.spread.ensures, spread-ones c.before.before.args.i)
 
 returns : tie.Need-returns
-unfolding inkOf
+unfolding ink_of
 returns c = stop _ (lt-ltb _ _ c.before.if1.true) (ap (λ (k : ℕ). 255 * k) c.spread.ensures)
 
 returns-2 : tie.Need-returns-2
-unfolding inkOf
+unfolding ink_of
 returns-2 c = pass _ (le-ltb _ _ c.before.if1.false) (stop _ (lt-ltb _ _ c.if2.true) refl)
 
 returns-3 : tie.Need-returns-3
-unfolding inkOf
+unfolding ink_of
 returns-3 c =
     pass _ (le-ltb _ _ c.before.before.if1.false)
     (pass _ (le-ltb _ _ c.before.if2.false) (ap (λ (k : ℕ). 72340172838076673 * k) c.change.ensures.0))

@@ -2,11 +2,11 @@ use Prim.Native.Nat.{ℕ, ◌-◌, ◌≤◌, ◌<◌, ◌^◌}
 use native.Mathlib.Nat.{mul-le-mul, le_refl}
 use native.Mathlib.Omega.{arith}
 use borrow.Author.Rules.{rules}
-use Rattle.dots.specs.Stores.{mixOf}
+use Rattle.dots.specs.Stores.{mix_of}
 use Rattle.dots.proofs.mix.Statement.{statement}
 use Rattle.dots.proofs.mix.Tie as tie
 
-small : (s y u : ℕ) → s ≤ 72340172838076673 → y < 256 → u < 256 → mixOf s y u < 2 ^ 64
+small : (s y u : ℕ) → s ≤ 72340172838076673 → y < 256 → u < 256 → mix_of s y u < 2 ^ 64
 small s y u h p q =
     let a : y ≤ 255 = omega arith in
     let b : u ≤ 255 = omega arith in

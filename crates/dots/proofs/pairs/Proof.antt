@@ -6,12 +6,12 @@ use native.Mathlib.Omega.{arith}
 use borrow.Author.Rules.{rules}
 use lib.ListN.{length, drop, length-set}
 use Rattle.lists.specs.Tab.{tab}
-use Rattle.dots.specs.Half.{halfBy, pair_put}
+use Rattle.dots.specs.Half.{half_by, pair_put}
 use Rattle.dots.proofs.pairs.Statement.{statement}
 use Rattle.dots.proofs.pairs.Tie as tie
 
 abbrev invariant-loop : tie.invariant-loop
-invariant-loop out₀ dots n i₀ out i = (i ≤ n) × (length out ≡ length out₀) × (out ≡ tab (2 * i) (halfBy dots 0) ++ drop (2 * i) out₀)
+invariant-loop out₀ dots n i₀ out i = (i ≤ n) × (length out ≡ length out₀) × (out ≡ tab (2 * i) (half_by dots 0) ++ drop (2 * i) out₀)
 
 abbrev decreases-loop : tie.decreases-loop
 decreases-loop out₀ dots n i₀ out i = n - i
@@ -54,7 +54,7 @@ returns : tie.Need-returns invariant-loop decreases-loop
 returns c =
     let start = c.before.before in
     let all : 2 * c.before.loop.i ≡ 2 * start.args.n = omega (arith, c.before.loop.invariant.0, c.loop-test.false) in
-    c.before.loop.invariant.2 ∙ ap (λ (k : ℕ). tab k (halfBy start.args.dots.now 0) ++ drop k start.args.out.now) all
+    c.before.loop.invariant.2 ∙ ap (λ (k : ℕ). tab k (half_by start.args.dots.now 0) ++ drop k start.args.out.now) all
 
 pub pairs-spec : {M : Type 1} → statement M
 pairs-spec =

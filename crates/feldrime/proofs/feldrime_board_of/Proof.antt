@@ -2,7 +2,7 @@
 use mathlib.Core.Path.{◌∙◌}
 use borrow.Author.Rules.{rules}
 use Rattle.refusal.specs.Laws.{done-is, checked}
-use Rattle.feldrime.specs.Pages.{boardFor}
+use Rattle.feldrime.specs.Pages.{board_for}
 use Rattle.numbers.specs.Laws.{numbers-room, numbers-passed}
 use Rattle.feldrime.proofs.feldrime_board_of.Statement.{statement}
 use Rattle.feldrime.proofs.feldrime_board_of.Tie as tie
@@ -13,14 +13,14 @@ board-at-requires c κs =
     numbers-room c.before.before.before.before.args.numbers.now (numbers-passed _ (done-is _ check))
 
 returns : tie.Need-returns
-unfolding boardFor
+unfolding board_for
 returns c =
     let then = c.before.before in
     let check = then.before.before.numbers-check.ensures in
     c.with-board.ensures ∙ rw (check, c.before.board-at.ensures, checked check then.before.is-done.ensures then.if1.true)
 
 returns-2 : tie.Need-returns-2
-unfolding boardFor
+unfolding board_for
 returns-2 c =
     let left = c.before.before in
     let check = left.before.before.numbers-check.ensures in

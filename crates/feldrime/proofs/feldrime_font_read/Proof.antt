@@ -2,8 +2,8 @@
 use mathlib.Core.Path.{ap, ◌∙◌}
 use borrow.Author.Rules.{rules}
 use Rattle.refusal.specs.declared.Refusal.{Refusal}
-use Rattle.refusal.specs.Number.{number_of, besideOf}
-use Rattle.feldrime.specs.Pages.{groupsRead}
+use Rattle.refusal.specs.Number.{number_of, beside_of}
+use Rattle.feldrime.specs.Pages.{groups_read}
 use Rattle.feldrime.proofs.feldrime_font_read.Statement.{statement}
 use Rattle.feldrime.proofs.feldrime_font_read.Tie as tie
 
@@ -13,8 +13,8 @@ returns c =
     let file = c.before.before.before.before.before.before.before.before.before.before.before.before.before.before.before.before.before.before.before.before.before.before.before.before.before.args.file.now in (
       λ i. record {
         refusal = (c.before.before.number.ensures ∙ ap number_of read.0) i;
-        beside = (c.before.beside.ensures ∙ ap besideOf read.0) i;
-        groups = (c.groups-read.ensures ∙ ap (λ (r : Refusal). groupsRead r file) read.0) i;
+        beside = (c.before.beside.ensures ∙ ap beside_of read.0) i;
+        groups = (c.groups-read.ensures ∙ ap (λ (r : Refusal). groups_read r file) read.0) i;
       },
       read.1,
     )

@@ -2,7 +2,7 @@
 use mathlib.Core.Path.{refl, sym, ap, ◌∙◌}
 use borrow.Author.Rules.{rules}
 use Rattle.lists.specs.Choice.{stop, pass}
-use Rattle.refusal.specs.Number.{number_of, besideOf}
+use Rattle.refusal.specs.Number.{number_of, beside_of}
 use Rattle.timing.specs.Check.{size_of}
 use Rattle.timing.specs.declared.PageSize.{PageSize}
 use Rattle.numbers.specs.Laws.{numbers-room}
@@ -25,7 +25,7 @@ returns-2 c =
     pass _ (sym left.before.numbers-refused.ensures ∙ left.if1.false)
     (λ i. record {
       refusal = (c.before.number.ensures ∙ ap (λ (x : PageSize). number_of x.refusal) size) i;
-      beside = (c.beside.ensures ∙ ap (λ (x : PageSize). besideOf x.refusal) size) i;
+      beside = (c.beside.ensures ∙ ap (λ (x : PageSize). beside_of x.refusal) size) i;
       lines = (size i).lines.0;
       dots = (size i).dots.0;
     })

@@ -31,7 +31,7 @@ use denote.Triple.Table.{entered, cited}
 use denote.Triple.Walked.{says, Stays, stay_none_slice, walk_of, AllGo, Goes-none_slice, Walks, ends_at, walked, walk_Meets}
 use denote.Exit.{yes}
 use denote.Struct.Laws as LL
-use Rattle.records.specs.Records.{phrasesDiffer}
+use Rattle.records.specs.Records.{phrases_differ}
 use Rattle.records.specs.declared.PairAnswer.{PairAnswer}
 use Rattle.records.specs.contracts.PairAnswer as S
 use Rattle.records.proofs.PairAnswer.TheLaws as S'
@@ -64,7 +64,7 @@ module _ {M : Type 1} {𝓤 : Ura M} (𝓛 : Logic 𝓤) (mem : Memory → SProp
   ys = (shr_slice_vals y.0, tt)
 
   abbrev answer : PairAnswer
-  answer = phrasesDiffer y.0.now
+  answer = phrases_differ y.0.now
 
   abbrev Post : Val → SProp 𝓤
   Post = (walk_of 𝓛 self.ended stayed (self.clauses 𝓛 mem run)).post ((κs, qs, tt, y, ys), tt)

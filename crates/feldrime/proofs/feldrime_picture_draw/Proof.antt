@@ -1,7 +1,7 @@
 -- Rests on three and taken: 3 for the numbers, else what draw_picture answers.
 use mathlib.Core.Path.{sym, ◌∙◌}
 use borrow.Author.Rules.{rules}
-use Rattle.feldrime.specs.PictureDraw.{pictureDrawCheck, pictureDrawn}
+use Rattle.feldrime.specs.PictureDraw.{picture_draw_check, picture_drawn}
 use Rattle.numbers.specs.Laws.{numbers-room}
 use Rattle.feldrime.specs.Laws.{three, taken}
 use Rattle.feldrime.proofs.feldrime_picture_draw.Statement.{statement}
@@ -12,7 +12,7 @@ abbrev begin : tie.After-numbers-refused → tie.Start
 begin c = c.before.before.before.before.before.before.before.before.before.before
 
 returns : tie.Need-returns
-unfolding pictureDrawCheck pictureDrawn
+unfolding picture_draw_check picture_drawn
 returns c =
     let then = c.before in
     three _ _ _ _ _ (sym then.before.numbers-refused.ensures ∙ then.if1.true) c.answered.ensures
@@ -21,7 +21,7 @@ board-at-requires : tie.Need-board-at-requires
 board-at-requires c κs = numbers-room (begin c.before).args.numbers.now (sym c.before.numbers-refused.ensures ∙ c.if1.false)
 
 returns-2 : tie.Need-returns-2
-unfolding pictureDrawCheck pictureDrawn
+unfolding picture_draw_check picture_drawn
 returns-2 c =
     let draw = c.before.before.before in
     let made = draw.before.before in

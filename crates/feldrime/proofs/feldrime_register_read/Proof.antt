@@ -1,6 +1,6 @@
 use mathlib.Core.Path.{ap, ◌∙◌}
 use borrow.Author.Rules.{rules}
-use Rattle.refusal.specs.Number.{number_of, besideOf}
+use Rattle.refusal.specs.Number.{number_of, beside_of}
 use Rattle.registers.specs.declared.ByteRead.{ByteRead}
 use Rattle.feldrime.proofs.feldrime_register_read.Statement.{statement}
 use Rattle.feldrime.proofs.feldrime_register_read.Tie as tie
@@ -10,7 +10,7 @@ returns c =
     let read = c.before.before.before.read.ensures in
     λ i. record {
       refusal = (c.before.before.number.ensures ∙ ap (λ (x : ByteRead). number_of x.refusal) read) i;
-      beside = (c.before.beside.ensures ∙ ap (λ (x : ByteRead). besideOf x.refusal) read) i;
+      beside = (c.before.beside.ensures ∙ ap (λ (x : ByteRead). beside_of x.refusal) read) i;
       byte = (read i).byte;
     }
 

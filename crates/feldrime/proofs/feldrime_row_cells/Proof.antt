@@ -6,12 +6,12 @@ use borrow.Author.Rules.{rules}
 use Rattle.lists.specs.Choice.{stop, pass}
 use Rattle.fetch.specs.RowLaws.{count_small}
 use Rattle.numbers.specs.Laws.{numbers-room}
-use Rattle.feldrime.specs.RowCells.{cells_for, cellsPutFor}
+use Rattle.feldrime.specs.RowCells.{cells_for, cells_put_for}
 use Rattle.feldrime.proofs.feldrime_row_cells.Statement.{statement}
 use Rattle.feldrime.proofs.feldrime_row_cells.Tie as tie
 
 returns : tie.Need-returns
-unfolding cells_for cellsPutFor
+unfolding cells_for cells_put_for
 returns c = let t = sym c.before.numbers-refused.ensures ∙ c.if1.true in (stop _ t refl, stop _ t refl)
 
 board-at-requires : tie.Need-board-at-requires
@@ -24,7 +24,7 @@ cast-t13 c =
     omega (arith, small)
 
 returns-2 : tie.Need-returns-2
-unfolding cells_for cellsPutFor
+unfolding cells_for cells_put_for
 returns-2 c =
     let row = c.before.before.before.before.before in
     let made = row.before.before in

@@ -2,24 +2,24 @@
 use mathlib.Core.Path.{refl, sym, ap, ◌∙◌}
 use borrow.Author.Rules.{rules}
 use Rattle.lists.specs.Choice.{stop, pass}
-use Rattle.refusal.specs.Number.{number_of, besideOf}
+use Rattle.refusal.specs.Number.{number_of, beside_of}
 use Rattle.board.specs.declared.Board.{Board}
 use Rattle.fetch.specs.Run.{span_of}
 use Rattle.fetch.specs.declared.Span.{Span}
 use Rattle.numbers.specs.Laws.{numbers-room}
-use Rattle.feldrime.specs.Pages.{runFor}
+use Rattle.feldrime.specs.Pages.{run_for}
 use Rattle.feldrime.proofs.feldrime_row_run.Statement.{statement}
 use Rattle.feldrime.proofs.feldrime_row_run.Tie as tie
 
 returns : tie.Need-returns
-unfolding runFor
+unfolding run_for
 returns c = stop _ (sym c.before.numbers-refused.ensures ∙ c.if1.true) refl
 
 board-at-requires : tie.Need-board-at-requires
 board-at-requires c κs = numbers-room c.before.before.before.before.args.numbers.now (sym c.before.numbers-refused.ensures ∙ c.if1.false)
 
 returns-2 : tie.Need-returns-2
-unfolding runFor
+unfolding run_for
 returns-2 c =
     let left = c.before.before.before.before.before.before in
     let args = left.before.before.before.before.args in
@@ -27,7 +27,7 @@ returns-2 c =
     pass _ (sym left.before.numbers-refused.ensures ∙ left.if1.false)
     (λ i. record {
       refusal = (c.before.before.before.number.ensures ∙ ap (λ (x : Span). number_of x.refusal) span) i;
-      beside = (c.before.before.beside.ensures ∙ ap (λ (x : Span). besideOf x.refusal) span) i;
+      beside = (c.before.before.beside.ensures ∙ ap (λ (x : Span). beside_of x.refusal) span) i;
       first = (span i).start;
       count = (span i).count;
     })

@@ -40,7 +40,7 @@ use denote.Triple.Spec.{Meets, triple_of}
 use denote.Triple.Table.{entered, cited}
 use denote.Triple.Walked.{says, Stays, stay_ref, stay_none_slice, walk_of, AllGo, Goes-none_slice, Goes-ref, Walks, ends_at, walked, walk_Meets}
 use denote.Exit.{yes}
-use Rattle.feldrime.specs.Step.{stepNumbers}
+use Rattle.feldrime.specs.Step.{step_numbers}
 use Rattle.board.specs.declared.Board.{Board}
 use Rattle.feldrime.specs.declared.StepBy.{StepBy}
 use Rattle.board.specs.contracts.Board as B
@@ -86,7 +86,7 @@ module _ {M : Type 1} {𝓤 : Ura M} (𝓛 : Logic 𝓤) (at_mem : Memory → SP
   at = (vptr b o ∷ [], ys)
 
   abbrev found : StepBy
-  found = stepNumbers h y.0.now y.1.0.now y.1.1.0.now y.1.1.1.0.now y.1.1.1.1.0.now y.1.1.1.1.1.0.now y.1.1.1.1.1.1.0.now
+  found = step_numbers h y.0.now y.1.0.now y.1.1.0.now y.1.1.1.0.now y.1.1.1.1.0.now y.1.1.1.1.1.0.now y.1.1.1.1.1.1.0.now
 
   abbrev Post : Val → SProp 𝓤
   Post = (walk_of 𝓛 self.ended stayed (self.clauses 𝓛 at_mem run)).post (((κ, κs), (q, qs), tt, a, at), tt)

@@ -3,13 +3,13 @@ use mathlib.Core.Path.{refl, sym, ◌∙◌}
 use native.Mathlib.Omega.{arith}
 use borrow.Author.Rules.{rules}
 use Rattle.lists.specs.Choice.{stop, pass}
-use Rattle.files.specs.Page.{versionIn}
+use Rattle.files.specs.Page.{version_in}
 use Rattle.files.specs.FontLaws.{groups-most}
 use Rattle.feldrime.proofs.groups_read.Statement.{statement}
 use Rattle.feldrime.proofs.groups_read.Tie as tie
 
 cast-result : tie.Need-overflow-cast-result
-cast-result c = omega (arith, c.groups-in.ensures, groups-most (versionIn c.before.before.before.before.args.file.now))
+cast-result c = omega (arith, c.groups-in.ensures, groups-most (version_in c.before.before.before.before.args.file.now))
 
 returns : tie.Need-returns
 returns c = stop _ (sym c.before.before.is-done.ensures ∙ c.before.if1.true) c.groups-in.ensures

@@ -5,19 +5,19 @@ use Rattle.lists.specs.Choice.{stop, pass}
 use Rattle.board.specs.declared.Board.{Board}
 use Rattle.records.specs.Ends.{asked_of}
 use Rattle.numbers.specs.Laws.{numbers-room}
-use Rattle.feldrime.specs.Phrases.{askedFor}
+use Rattle.feldrime.specs.Phrases.{asked_for}
 use Rattle.feldrime.proofs.numbers_asked.Statement.{statement}
 use Rattle.feldrime.proofs.numbers_asked.Tie as tie
 
 returns : tie.Need-returns
-unfolding askedFor
+unfolding asked_for
 returns c = stop _ (sym c.before.numbers-refused.ensures ∙ c.if1.true) refl
 
 board-at-requires : tie.Need-board-at-requires
 board-at-requires c κs = numbers-room c.before.before.before.before.args.numbers.now (sym c.before.numbers-refused.ensures ∙ c.if1.false)
 
 returns-2 : tie.Need-returns-2
-unfolding askedFor
+unfolding asked_for
 returns-2 c =
     let left = c.before.before in
     let args = left.before.before.before.before.args in

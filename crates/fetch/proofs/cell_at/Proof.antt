@@ -1,13 +1,13 @@
 use mathlib.Core.Path.{ap, ◌∙◌}
 use borrow.Author.Rules.{rules}
 use Rattle.raster.specs.Moves.{cell}
-use Rattle.fetch.specs.Rows.{fetchAt}
+use Rattle.fetch.specs.Rows.{fetch_at}
 use Rattle.fetch.specs.Laws.{cell-moved}
 use Rattle.fetch.proofs.cell_at.Statement.{statement}
 use Rattle.fetch.proofs.cell_at.Tie as tie
 
 returns : tie.Need-returns
-unfolding fetchAt
+unfolding fetch_at
 returns c =
     c.advance-by.ensures
     ∙ rw (c.before.buffer-of.ensures, c.before.before.row-start.ensures, c.before.before.before.moved-of.ensures) (ap cell (cell-moved _ _ _ _))

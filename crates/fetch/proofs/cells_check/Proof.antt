@@ -1,10 +1,10 @@
 use borrow.Author.Rules.{rules}
-use Rattle.fetch.specs.RowCells.{cellsCheck}
+use Rattle.fetch.specs.RowCells.{cells_check}
 use Rattle.fetch.proofs.cells_check.Statement.{statement}
 use Rattle.fetch.proofs.cells_check.Tie as tie
 
 returns : tie.Need-returns
-unfolding cellsCheck
+unfolding cells_check
 returns c = c.row-check.ensures
 
 pub cells-check-spec : {M : Type 1} → statement M

@@ -1,13 +1,13 @@
 -- Rests on moved_by: two columns a move if the row is of double width; moved-past beyond the last column.
 use mathlib.Core.Path.{sym, ◌∙◌}
 use borrow.Author.Rules.{rules}
-use Rattle.timing.specs.Fields.{timingOf, countsOf}
+use Rattle.timing.specs.Fields.{timing_of, counts_of}
 use Rattle.fetch.specs.Laws.{wide_is, moved_by, moved-past}
 use Rattle.fetch.proofs.moved_of.Statement.{statement}
 use Rattle.fetch.proofs.moved_of.Tie as tie
 
 returns : tie.Need-returns
-unfolding timingOf countsOf
+unfolding timing_of counts_of
 returns c =
     let asked = c.before.before in
     let then = asked.before.before.before in
@@ -17,7 +17,7 @@ returns c =
     (rw then.before.before.timing-of.ensures at (sym then.before.below.ensures ∙ then.if1.true))
 
 returns-2 : tie.Need-returns-2
-unfolding timingOf countsOf
+unfolding timing_of counts_of
 returns-2 c =
     let asked = c.before.before in
     let then = asked.before.before.before in
@@ -27,7 +27,7 @@ returns-2 c =
     (rw then.before.before.timing-of.ensures at (sym then.before.below.ensures ∙ then.if1.true))
 
 returns-3 : tie.Need-returns-3
-unfolding timingOf countsOf
+unfolding timing_of counts_of
 returns-3 c =
     let left = c.before in
     c.fetched-of.ensures

@@ -2,7 +2,7 @@
 use mathlib.Core.Path.{sym, ap, ◌∙◌}
 use native.Mathlib.Omega.{arith}
 use Rattle.raster.specs.Moves.{cell}
-use Rattle.timing.specs.Fields.{timingOf, countsOf}
+use Rattle.timing.specs.Fields.{timing_of, counts_of}
 use Rattle.fetch.specs.Laws.{moves-fit, start-table, start-sheet}
 use borrow.Author.Rules.{rules}
 use Rattle.fetch.proofs.row_start.Statement.{statement}
@@ -12,13 +12,13 @@ returns : tie.Need-returns
 returns c = c.entry.ensures ∙ ap cell (start-table _ _ _ (sym c.before.before.table_of.ensures ∙ c.before.if1.true))
 
 times-requires : tie.Need-times-requires
-unfolding timingOf countsOf
+unfolding timing_of counts_of
 times-requires c κs =
     let start = c.before.before.before.before in
     rw c.timing-of.ensures (omega (arith, moves-fit start.args.p start.args.row start.requires.1))
 
 returns-2 : tie.Need-returns-2
-unfolding timingOf countsOf
+unfolding timing_of counts_of
 returns-2 c =
     let left = c.before.before.before.before.before in
     c.advance-by.ensures

@@ -1,10 +1,10 @@
 use borrow.Author.Rules.{rules}
-use Rattle.fetch.specs.Run.{runCheck}
+use Rattle.fetch.specs.Run.{run_check}
 use Rattle.fetch.proofs.run_check.Statement.{statement}
 use Rattle.fetch.proofs.run_check.Tie as tie
 
 returns : tie.Need-returns
-unfolding runCheck
+unfolding run_check
 returns c = c.row-check.ensures
 
 pub run-check-spec : {M : Type 1} → statement M

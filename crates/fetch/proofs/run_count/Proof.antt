@@ -1,12 +1,12 @@
 -- Rests on the callee that takes the smaller of two counts, twice.
 use borrow.Author.Rules.{rules}
-use Rattle.raster.specs.Moves.{toLast}
-use Rattle.fetch.specs.Run.{runCount}
+use Rattle.raster.specs.Moves.{to_last}
+use Rattle.fetch.specs.Run.{run_count}
 use Rattle.fetch.proofs.run_count.Statement.{statement}
 use Rattle.fetch.proofs.run_count.Tie as tie
 
 returns : tie.Need-returns
-unfolding runCount toLast
+unfolding run_count to_last
 returns c =
     rw (
       c.least2.ensures,

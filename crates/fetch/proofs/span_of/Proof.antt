@@ -14,8 +14,8 @@ use Rattle.raster.specs.Moves.{cell}
 use Rattle.refusal.specs.Laws.{done-is, checked}
 use Rattle.board.specs.declared.Board.{Board}
 use Rattle.fetch.specs.declared.Span.{Span}
-use Rattle.fetch.specs.Rows.{rowStart, fetchedOf}
-use Rattle.fetch.specs.Run.{runCheck, runCount, span, span_of}
+use Rattle.fetch.specs.Rows.{row_start, fetched_of}
+use Rattle.fetch.specs.Run.{run_check, run_count, span, span_of}
 use Rattle.fetch.specs.Laws.{Run, run-passed, row-start-lt, span_small}
 use Rattle.fetch.proofs.span_of.Statement.{statement}
 use Rattle.fetch.proofs.span_of.Tie as tie
@@ -23,8 +23,8 @@ use Rattle.fetch.proofs.span_of.Tie as tie
 fits : (b : Board) (chars : List ℕ) (row : ℕ) (s : Span) → s ≡ span_of b chars row → (s.start + s.count ≤ 16384) × (s.start + s.count ≤ length chars)
 fits b chars row s e = rw e (span_small b chars row)
 
-shown : (b : Board) (chars : List ℕ) (row : ℕ) (x : Refusal) (m : ℕ) (a : Cell) (n : ℕ) → x ≡ runCheck b (length chars) row → done_of (runCheck b (length chars) row) ≡ true
-    → m ≡ fetchedOf b.page chars row → a ≡ cell (rowStart b.page chars row) → n ≡ runCount b.page m a.address → span x a.address n ≡ span_of b chars row
+shown : (b : Board) (chars : List ℕ) (row : ℕ) (x : Refusal) (m : ℕ) (a : Cell) (n : ℕ) → x ≡ run_check b (length chars) row → done_of (run_check b (length chars) row) ≡ true
+    → m ≡ fetched_of b.page chars row → a ≡ cell (row_start b.page chars row) → n ≡ run_count b.page m a.address → span x a.address n ≡ span_of b chars row
 unfolding span_of
 shown b chars row x m a n p t f q r = rw (t, p, r, f, q)
 

@@ -2,23 +2,23 @@
 use mathlib.Core.Path.{refl, sym, ◌∙◌}
 use borrow.Author.Rules.{rules}
 use Rattle.lists.specs.Choice.{stop, pass}
-use Rattle.files.specs.File.{fileCheck}
+use Rattle.files.specs.File.{file_check}
 use Rattle.files.proofs.file_check.Statement.{statement}
 use Rattle.files.proofs.file_check.Tie as tie
 
 returns : tie.Need-returns
-unfolding fileCheck
+unfolding file_check
 returns c = stop _ (sym c.before.version-refused.ensures ∙ c.if1.true) refl
 
 returns-2 : tie.Need-returns-2
-unfolding fileCheck
+unfolding file_check
 returns-2 c =
     let one = c.before.before in
     pass _ (sym one.before.version-refused.ensures ∙ one.if1.false)
     (stop _ (sym c.before.length-refused.ensures ∙ c.if2.true) refl)
 
 returns-3 : tie.Need-returns-3
-unfolding fileCheck
+unfolding file_check
 returns-3 c =
     let two = c.before in
     let one = two.before.before in
@@ -26,7 +26,7 @@ returns-3 c =
     (pass _ (sym two.before.length-refused.ensures ∙ two.if2.false) (stop _ c.if3.true refl))
 
 returns-4 : tie.Need-returns-4
-unfolding fileCheck
+unfolding file_check
 returns-4 c =
     let two = c.before in
     let one = two.before.before in

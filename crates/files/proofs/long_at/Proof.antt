@@ -1,10 +1,10 @@
 use borrow.Author.Rules.{rules}
-use Rattle.files.specs.File.{longAt}
+use Rattle.files.specs.File.{long_at}
 use Rattle.files.proofs.long_at.Statement.{statement}
 use Rattle.files.proofs.long_at.Tie as tie
 
 returns : tie.Need-returns
-unfolding longAt
+unfolding long_at
 returns c = rw (c.before.word-at.ensures, c.word-at2.ensures)
 
 pub long-at-spec : {M : Type 1} → statement M

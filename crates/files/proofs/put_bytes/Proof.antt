@@ -6,7 +6,7 @@ use borrow.Author.Rules.{rules}
 use lib.ListN.{length, take}
 use lib.Seq.{length-take-le}
 use Rattle.board.specs.declared.Layout.{Layout}
-use Rattle.board.specs.Layout.{layoutOf}
+use Rattle.board.specs.Layout.{layout_of}
 use Rattle.board.specs.Laws.{layout-fits}
 use Rattle.files.specs.Laws.{tail-long, bytes-put}
 use Rattle.files.proofs.put_bytes.Statement.{statement}
@@ -15,10 +15,10 @@ use Rattle.files.proofs.put_bytes.Tie as tie
 irs-all : (c : tie.Start) → length c.args.p.irs ≡ 15
 irs-all c = search rules
 
-irs-is : (c : tie.After-layout-of) → c.layout_of.result.irs ≡ (layoutOf c.before.before.before.before.args.p.version).irs
+irs-is : (c : tie.After-layout-of) → c.layout_of.result.irs ≡ (layout_of c.before.before.before.before.args.p.version).irs
 irs-is c = ap (λ (l : Layout). l.irs) c.layout_of.ensures
 
-rest-is : (c : tie.After-layout-of) → c.layout_of.result.rest ≡ (layoutOf c.before.before.before.before.args.p.version).rest
+rest-is : (c : tie.After-layout-of) → c.layout_of.result.rest ≡ (layout_of c.before.before.before.before.args.p.version).rest
 rest-is c = ap (λ (l : Layout). l.rest) c.layout_of.ensures
 
 most : (c : tie.After-layout-of) → (c.layout_of.result.irs ≤ 15) × (c.layout_of.result.rest ≤ 10)

@@ -7,25 +7,25 @@ use borrow.Author.Rules.{rules}
 use lib.Dec.{eqb}
 use lib.ListN.{length, take, drop}
 use Rattle.refusal.specs.Laws.{done-is, checked}
-use Rattle.shape.specs.Font.{Font, fontOf}
-use Rattle.files.specs.FontFile.{fontShort, fontCheck}
+use Rattle.shape.specs.Font.{Font, font_of}
+use Rattle.files.specs.FontFile.{font_short, font_check}
 use Rattle.copies.specs.Put.{length_part}
 use Rattle.files.specs.FontLaws.{FontTaken, font-least, font-passed, font-done, font-kept}
 use Rattle.files.proofs.read_font.Statement.{statement}
 use Rattle.files.proofs.read_font.Tie as tie
 
 abbrev lent : tie.Start → Font
-lent c = fontOf c.args.words.now c.args.flags.now c.args.unshifted.now c.args.shifted.now c.args.groups.now
+lent c = font_of c.args.words.now c.args.flags.now c.args.unshifted.now c.args.shifted.now c.args.groups.now
 
 -- where the function begins, from where the file is judged
 abbrev begin : tie.After-font-check → tie.Start
 begin c = c.before.before.before.before.before.before.before.before.before.before.before.before.before.before
 
-check-is : (c : tie.After-font-check) → c.font-check.result ≡ fontCheck (begin c).args.file.now (fontShort (begin c).args.file.now (lent (begin c)))
+check-is : (c : tie.After-font-check) → c.font-check.result ≡ font_check (begin c).args.file.now (font_short (begin c).args.file.now (lent (begin c)))
 check-is c =
     let file = c.before.before.before.before.before.before.before.before.before.before.before.before.before.before.args.file.now in
     c.font-check.ensures
-    ∙ ap₂ (λ (t : Bool) (v : ℕ). fontCheck file (t || (eqb v 2 && eqb (length c.before.before.before.before.before.before.before.before.before.before.before.before.before.before.args.groups.now) 0))) c.before.before.font-refused.ensures c.before.version-in.ensures
+    ∙ ap₂ (λ (t : Bool) (v : ℕ). font_check file (t || (eqb v 2 && eqb (length c.before.before.before.before.before.before.before.before.before.before.before.before.before.before.args.groups.now) 0))) c.before.before.font-refused.ensures c.before.version-in.ensures
 
 fits : (c : tie.Then1) → FontTaken (begin c.before.before).args.file.now (lent (begin c.before.before))
 fits c = font-passed _ (lent (begin c.before.before)) (done-is _ (checked (check-is c.before.before) c.before.is-done.ensures c.if1.true))

@@ -6,12 +6,12 @@ use borrow.Author.Tests.{eq-eqb, ne_eqb}
 use borrow.Author.Rules.{rules}
 use lib.ListN.{take, drop}
 use Rattle.lists.specs.Choice.{stop, pass}
-use Rattle.files.specs.Page.{versionIn}
-use Rattle.files.specs.FontFile.{groupCount}
+use Rattle.files.specs.Page.{version_in}
+use Rattle.files.specs.FontFile.{group_count}
 use Rattle.files.proofs.read_groups.Statement.{statement}
 use Rattle.files.proofs.read_groups.Tie as tie
 
-two : (c : tie.Then1) → versionIn c.before.before.before.before.args.file.now ≡ 2
+two : (c : tie.Then1) → version_in c.before.before.before.before.args.file.now ≡ 2
 two c = sym c.before.version-in.ensures ∙ c.if1.true
 
 take-from-requires : tie.Need-take-from-requires
@@ -22,7 +22,7 @@ take-from-requires c κs =
 returns : tie.Need-returns
 returns c =
     let then = c.before.before.before.before in
-    let many : groupCount (versionIn c.before.before.before.before.before.before.before.before.args.file.now) ≡ 16 = rw (two then) in
+    let many : group_count (version_in c.before.before.before.before.before.before.before.before.args.file.now) ≡ 16 = rw (two then) in
     stop _ (eq-eqb _ _ (two then)) (c.before.before.take-from.ensures ∙ ap (λ (n : ℕ). take n (drop 2455 c.before.before.before.before.before.before.before.before.args.file.now)) ((c.before.before.before.before.before.before.before.before.requires (two then)).1 ∙ sym many))
 
 returns-2 : tie.Need-returns-2

@@ -5,10 +5,10 @@ use native.Mathlib.Omega.{arith}
 use borrow.Author.Rules.{rules}
 use lib.ListN.{length, take, drop}
 use Rattle.refusal.specs.Laws.{done-is, checked}
-use Rattle.board.specs.Range.{memoriesRefused}
+use Rattle.board.specs.Range.{memories_refused}
 use Rattle.board.specs.Laws.{layout-fits}
-use Rattle.files.specs.Page.{versionIn}
-use Rattle.files.specs.File.{readCheck}
+use Rattle.files.specs.Page.{version_in}
+use Rattle.files.specs.File.{read_check}
 use Rattle.files.specs.Laws.{Taken, read-passed, read_done, read-refused}
 use Rattle.files.proofs.read_page.Statement.{statement}
 use Rattle.files.proofs.read_page.Tie as tie
@@ -20,8 +20,8 @@ begin c = c.before.before.before.before.before.before.before
 abbrev start : tie.After-read-check → tie.Start
 start c = c.before.before.before.before.before
 
-check : (c : tie.After-read-check) → c.read-check.result ≡ readCheck (start c).args.file.now (memoriesRefused (length (start c).args.chars.now) (length (start c).args.attrs.now))
-check c = c.read-check.ensures ∙ ap (readCheck (start c).args.file.now) c.before.memories-refused.ensures
+check : (c : tie.After-read-check) → c.read-check.result ≡ read_check (start c).args.file.now (memories_refused (length (start c).args.chars.now) (length (start c).args.attrs.now))
+check c = c.read-check.ensures ∙ ap (read_check (start c).args.file.now) c.before.memories-refused.ensures
 
 taken : (c : tie.Then1) → Taken (begin c).args.file.now (length (begin c).args.chars.now) (length (begin c).args.attrs.now)
 taken c = read-passed _ _ _ (done-is _ (checked (check c.before.before) c.before.is-done.ensures c.if1.true))
@@ -33,7 +33,7 @@ take-from-requires : tie.Need-take-from-requires
 take-from-requires c κs = omega (arith, c.before.chars-place.ensures, (taken c.before.before.before).file-all, (taken c.before.before.before).chars-all)
 
 add-take-from : tie.Need-overflow-add-take-from
-add-take-from c = record { fits = omega (arith, c.before.before.before.before.chars-place.ensures, (layout-fits (versionIn (begin c.before.before.before.before.before.before).args.file.now)).page-most) }
+add-take-from c = record { fits = omega (arith, c.before.before.before.before.chars-place.ensures, (layout-fits (version_in (begin c.before.before.before.before.before.before).args.file.now)).page-most) }
 
 take-from-requires-2 : tie.Need-take-from-requires-2
 take-from-requires-2 c κs = omega (arith, c.before.before.before.before.before.chars-place.ensures, (taken c.before.before.before.before.before.before.before).file-all, (taken c.before.before.before.before.before.before.before).attrs-all)

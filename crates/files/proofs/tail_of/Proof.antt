@@ -1,12 +1,12 @@
 -- Rests on the definition: each byte stands at its place.
 use mathlib.Core.List.{[], ◌∷◌}
 use borrow.Author.Rules.{rules}
-use Rattle.files.specs.Page.{tailOf}
+use Rattle.files.specs.Page.{tail_of}
 use Rattle.files.proofs.tail_of.Statement.{statement}
 use Rattle.files.proofs.tail_of.Tie as tie
 
 returns : tie.Need-returns
-unfolding tailOf
+unfolding tail_of
 returns c =
     let p = c.before.before.before.before.before.before.before.before.args.p in
     λ i. c.before.before.before.before.before.before.high.ensures i

@@ -1,13 +1,13 @@
 -- Rests on font-write-passed for what the callee asks, on font-write-done and font-write-kept for the answer.
 use borrow.Author.Rules.{rules}
 use Rattle.refusal.specs.Laws.{done-is, checked}
-use Rattle.shape.specs.Font.{Font, fontOf}
+use Rattle.shape.specs.Font.{Font, font_of}
 use Rattle.files.specs.FontLaws.{font-write-passed, font-write-done, font-write-kept}
 use Rattle.files.proofs.write_font.Statement.{statement}
 use Rattle.files.proofs.write_font.Tie as tie
 
 abbrev lent : tie.Start → Font
-lent c = fontOf c.args.words.now c.args.flags.now c.args.unshifted.now c.args.shifted.now c.args.groups.now
+lent c = font_of c.args.words.now c.args.flags.now c.args.unshifted.now c.args.shifted.now c.args.groups.now
 
 put-font-requires : tie.Need-put-font-requires
 put-font-requires c κs = font-write-passed (lent c.before.before.before.before.before.before.before.before.before.before) _ (done-is _ (checked c.before.before.before.font-write-check.ensures c.before.before.is-done.ensures c.before.if1.true))

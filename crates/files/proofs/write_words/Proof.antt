@@ -6,12 +6,12 @@ use native.Mathlib.Omega.{arith}
 use borrow.Author.Rules.{rules}
 use lib.ListN.{length, drop}
 use Rattle.lists.specs.Tab.{tab, tab-turn, tab-ends}
-use Rattle.files.specs.FontFile.{byteOf}
+use Rattle.files.specs.FontFile.{byte_of}
 use Rattle.files.proofs.write_words.Statement.{statement}
 use Rattle.files.proofs.write_words.Tie as tie
 
 abbrev invariant-loop : tie.invariant-loop
-invariant-loop src dst₀ i₀ dst i = (i ≤ length dst₀) × (length dst ≡ length dst₀) × (dst ≡ tab i (byteOf src) ++ drop i dst₀)
+invariant-loop src dst₀ i₀ dst i = (i ≤ length dst₀) × (length dst ≡ length dst₀) × (dst ≡ tab i (byte_of src) ++ drop i dst₀)
 
 abbrev decreases-loop : tie.decreases-loop
 decreases-loop src dst₀ i₀ dst i = length dst₀ - i
@@ -24,13 +24,13 @@ loop-again : tie.Need-loop-preserved invariant-loop decreases-loop
 loop-again c =
     let at = c.before.before in
     let start = at.before.before.before in
-    (search rules, search rules, tab-turn (byteOf start.args.src.now) start.args.dst.now _ at.loop.i at.loop.invariant.2 _ (omega arith) c.byte_of.ensures)
+    (search rules, search rules, tab-turn (byte_of start.args.src.now) start.args.dst.now _ at.loop.i at.loop.invariant.2 _ (omega arith) c.byte_of.ensures)
 
 returns : tie.Need-returns invariant-loop decreases-loop
 returns c =
     let at = c.before in
     let start = at.before.before.before in
-    tab-ends (byteOf start.args.src.now) start.args.dst.now _ at.loop.i at.loop.invariant.2 (omega arith)
+    tab-ends (byte_of start.args.src.now) start.args.dst.now _ at.loop.i at.loop.invariant.2 (omega arith)
 
 pub write-words-spec : {M : Type 1} → statement M
 write-words-spec =

@@ -4,12 +4,12 @@ use mathlib.Core.Path.{◌≡◌, refl, sym, ◌∙◌}
 use mathlib.Core.List.{List}
 use native.Mathlib.Omega.{arith}
 use borrow.Author.Rules.{rules}
-use Rattle.raster.specs.Latch.{lastSet}
+use Rattle.raster.specs.Latch.{last_set}
 use Rattle.board.specs.declared.Page.{Page}
-use Rattle.timing.specs.Fields.{bufferOf}
-use Rattle.fetch.specs.Rows.{rowStart, fetchedOf}
+use Rattle.timing.specs.Fields.{buffer_of}
+use Rattle.fetch.specs.Rows.{row_start, fetched_of}
 use Rattle.latch.specs.Held.{held_at}
-use Rattle.latch.specs.Laws.{rowByte, held_first, looked-in, found-above, none_above}
+use Rattle.latch.specs.Laws.{row_byte, held_first, looked-in, found-above, none_above}
 use Rattle.latch.proofs.held_above.Statement.{statement}
 use Rattle.latch.proofs.held_above.Tie as tie
 use Rattle.latch.proofs.held_above.Reads as reads
@@ -42,9 +42,9 @@ module _ (c : lts.After-last-in-row (buffer-of-reads.Asked, buffer-of-reads.Lear
   abbrev byte : ℕ
   byte = c.last-in-row.result
 
-  looked : byte ≡ lastSet (rowByte attrs (bufferOf p) (rowStart p chars (left - 1))) 0 (fetchedOf p chars (left - 1))
+  looked : byte ≡ last_set (row_byte attrs (buffer_of p) (row_start p chars (left - 1))) 0 (fetched_of p chars (left - 1))
   looked =
-      looked-in p chars attrs c.before.before.before.before.before.before.before.before.requires.3 (left - 1) (fetchedOf p chars (left - 1)) c.before.before.before.before.before.buffer-of.ensures c.before.row-start.ensures
+      looked-in p chars attrs c.before.before.before.before.before.before.before.before.requires.3 (left - 1) (fetched_of p chars (left - 1)) c.before.before.before.before.before.buffer-of.ensures c.before.row-start.ensures
       c.before.before.fetched-of.ensures c.last-in-row.ensures
 
   found : (byte ≡ 0 → ⊥) → byte ≡ held_at p chars attrs left 0

@@ -6,14 +6,14 @@ use mathlib.Core.List.{List}
 use native.Mathlib.Omega.{arith}
 use borrow.Author.Rules.{rules}
 use borrow.Author.Tests.{not-true, not-false}
-use Rattle.raster.specs.Latch.{lastSet}
+use Rattle.raster.specs.Latch.{last_set}
 use Rattle.board.specs.declared.Page.{Page}
-use Rattle.board.specs.Modes.{fieldMode}
-use Rattle.timing.specs.Fields.{hactOf, bufferOf}
-use Rattle.fetch.specs.Rows.{rowStart, fetchedBefore}
+use Rattle.board.specs.Modes.{field_mode}
+use Rattle.timing.specs.Fields.{hact_of, buffer_of}
+use Rattle.fetch.specs.Rows.{row_start, fetched_before}
 use Rattle.fetch.specs.Laws.{begun-least}
 use Rattle.latch.specs.Held.{held_at}
-use Rattle.latch.specs.Laws.{rowByte, held-least, held_plain, looked-in, found_here, none_here}
+use Rattle.latch.specs.Laws.{row_byte, held-least, held_plain, looked-in, found_here, none_here}
 use Rattle.latch.proofs.held_at.Statement.{statement}
 use Rattle.latch.proofs.held_at.Tie as tie
 use Rattle.latch.proofs.held_at.Reads as reads
@@ -47,19 +47,19 @@ module _ (c : lts.After-last-in-row (field-mode-reads.Asked, field-mode-reads.Le
   abbrev byte : ℕ
   byte = c.last-in-row.result
 
-  runs : fieldMode p ≡ true
+  runs : field_mode p ≡ true
   runs = sym c.before.before.before.before.before.field-mode.ensures ∙ not-false _ c.before.before.before.before.if1.false
 
-  looked : byte ≡ lastSet (rowByte attrs (bufferOf p) (rowStart p chars row)) 0 (fetchedBefore p chars row (min column (hactOf p)))
+  looked : byte ≡ last_set (row_byte attrs (buffer_of p) (row_start p chars row)) 0 (fetched_before p chars row (min column (hact_of p)))
   looked =
-      looked-in p chars attrs runs row (fetchedBefore p chars row (min column (hactOf p))) c.before.buffer-of.ensures c.before.before.row-start.ensures
+      looked-in p chars attrs runs row (fetched_before p chars row (min column (hact_of p))) c.before.buffer-of.ensures c.before.before.row-start.ensures
       (c.before.before.before.fetched-before.ensures ∙ sym (begun-least p chars row column)) c.last-in-row.ensures
 
   found : (byte ≡ 0 → ⊥) → byte ≡ held_at p chars attrs row column
-  found some = found_here p chars attrs runs row (min column (hactOf p)) byte (omega arith) looked some ∙ held-least p chars attrs row column
+  found some = found_here p chars attrs runs row (min column (hact_of p)) byte (omega arith) looked some ∙ held-least p chars attrs row column
 
   none : byte ≡ 0 → held_at p chars attrs row 0 ≡ held_at p chars attrs row column
-  none zero = none_here p chars attrs runs row (min column (hactOf p)) byte (omega arith) looked zero ∙ held-least p chars attrs row column
+  none zero = none_here p chars attrs runs row (min column (hact_of p)) byte (omega arith) looked zero ∙ held-least p chars attrs row column
 
 returns-2 : tie.Need-returns-2
 returns-2 c = found c.before c.if2.true

@@ -4,12 +4,12 @@ use mathlib.Core.Path.{◌≡◌, refl, sym}
 use native.Mathlib.Omega.{arith}
 use borrow.Author.Rules.{rules}
 use lib.ListN.{length, get_or}
-use Rattle.raster.specs.Latch.{lastSet, last_none, search-over, search-on, search-none}
+use Rattle.raster.specs.Latch.{last_set, last_none, search-over, search-on, search-none}
 use Rattle.latch.proofs.last_set.Statement.{statement}
 use Rattle.latch.proofs.last_set.Tie as tie
 
 abbrev invariant-loop : tie.invariant-loop
-invariant-loop bytes left₀ left = (left ≤ length bytes) × (lastSet (λ (i : ℕ). get_or bytes i 0) 0 left ≡ lastSet (λ (i : ℕ). get_or bytes i 0) 0 (length bytes))
+invariant-loop bytes left₀ left = (left ≤ length bytes) × (last_set (λ (i : ℕ). get_or bytes i 0) 0 left ≡ last_set (λ (i : ℕ). get_or bytes i 0) 0 (length bytes))
 
 abbrev decreases-loop : tie.decreases-loop
 decreases-loop bytes left₀ left = left

@@ -7,15 +7,15 @@ use borrow.Author.Rules.{rules}
 use lib.ListN.{drop, length, length-take, length-drop}
 use Rattle.lists.specs.Fill.{Filling}
 use Rattle.lists.specs.Join.{joined, stretch-inside, join-begins, join-turn, join-ends}
-use Rattle.line.specs.Walk.{columnFor, length-column, as-column}
+use Rattle.line.specs.Walk.{column_for, length-column, as-column}
 use Rattle.line.proofs.cells.Statement.{statement}
 use Rattle.line.proofs.cells.Tie as tie
 
 abbrev invariant-loop : tie.invariant-loop
 invariant-loop out₀ w row looks words flags n d c₀ out c =
     (c ≤ n)
-    × Filling (joined 0 n (columnFor w row looks words flags) ++ drop (n * d) out₀) out₀ (n * d) out (c * d)
-    (joined c (n - c) (columnFor w row looks words flags))
+    × Filling (joined 0 n (column_for w row looks words flags) ++ drop (n * d) out₀) out₀ (n * d) out (c * d)
+    (joined c (n - c) (column_for w row looks words flags))
 
 abbrev decreases-loop : tie.decreases-loop
 decreases-loop out₀ w row looks words flags n d c₀ out c = n - c
@@ -29,7 +29,7 @@ start c = begin c.before.before
 
 -- each cell has a stretch of that width, and there is room for all of them
 wide : (c : tie.After-places invariant-loop decreases-loop) (i : ℕ)
-    → length (columnFor (begin c).args.w (begin c).args.row.now (begin c).args.looks.now (begin c).args.words.now (begin c).args.flags.now i) ≡ c.places.result
+    → length (column_for (begin c).args.w (begin c).args.row.now (begin c).args.looks.now (begin c).args.words.now (begin c).args.flags.now i) ≡ c.places.result
 wide c i = length-column _ _ _ _ _ i ∙ sym c.places.ensures
 
 whole : (c : tie.After-places invariant-loop decreases-loop) → (begin c).args.n * c.places.result ≤ length (begin c).args.out.now

@@ -2,16 +2,16 @@ use mathlib.Core.Path.{refl}
 use borrow.Author.Rules.{rules}
 use borrow.Author.Tests.{lt-ltb, le-ltb}
 use Rattle.lists.specs.Choice.{stop, pass}
-use Rattle.line.specs.Walk.{heldFor}
+use Rattle.line.specs.Walk.{held_for}
 use Rattle.line.proofs.held_for.Statement.{statement}
 use Rattle.line.proofs.held_for.Tie as tie
 
 returns : tie.Need-returns
-unfolding heldFor
+unfolding held_for
 returns c = stop _ (lt-ltb _ _ c.before.if1.true) c.held-before.ensures
 
 returns-2 : tie.Need-returns-2
-unfolding heldFor
+unfolding held_for
 returns-2 c = pass _ (le-ltb _ _ c.if1.false) refl
 
 pub held-for-spec : {M : Type 1} → statement M

@@ -1,8 +1,8 @@
 -- Rests on write_cell, and on by-small: a word has ten bits.
 use borrow.Author.Rules.{rules}
 use Rattle.shape.specs.Laws.{by-small}
-use Rattle.tables.specs.Tables.{shownWord}
-use Rattle.line.specs.Walk.{dotsFor}
+use Rattle.tables.specs.Tables.{shown_word}
+use Rattle.line.specs.Walk.{dots_for}
 use Rattle.line.proofs.put.Statement.{statement}
 use Rattle.line.proofs.put.Tie as tie
 
@@ -16,7 +16,7 @@ write-cell-requires c κs =
     (rw c.before.word-by.ensures (by-small _ _ _ _ _), pre.1.1, pre.1.2, pre.1.3)
 
 returns : tie.Need-returns
-unfolding dotsFor shownWord
+unfolding dots_for shown_word
 returns c =
     let drawn = c.before.before in
     let word = drawn.before.before in

@@ -4,7 +4,7 @@ use mathlib.Core.Path.{◌≡◌}
 use native.Mathlib.Omega.{arith}
 use borrow.Author.Rules.{rules}
 use lib.ListN.{length, get_or}
-use Rattle.timing.specs.Fields.{timingOf, countsOf}
+use Rattle.timing.specs.Fields.{timing_of, counts_of}
 use Rattle.timing.specs.Laws.{buffer-bounded}
 use Rattle.fetch.specs.Laws.{row-start-lt, fetched-small}
 use Rattle.tables.specs.Marks.{blank-lt}
@@ -75,7 +75,7 @@ bytes : (c : tie.After-row-of) (i : ℕ) → get_or (begin c).args.chars.now i 0
 bytes c i = omega (arith, c.before.before.before.before.before.before.shared-slice-known.given i)
 
 columns-requires : tie.Need-columns-requires
-unfolding timingOf countsOf
+unfolding timing_of counts_of
 columns-requires c κs =
     let k = c.before.before.before in
     let few : (started k).before.timing-of.result.counts.hact.0 ≤ 256 = rw (started k).before.timing-of.ensures (omega arith) in

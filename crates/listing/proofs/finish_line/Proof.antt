@@ -5,7 +5,7 @@ use mathlib.Core.List.{List, ◌++◌, map}
 use native.Mathlib.Omega.{arith}
 use borrow.Author.Rules.{rules}
 use lib.ListN.{length, take, drop, length-map, length-take}
-use Rattle.listing.specs.Listing.{letterOf}
+use Rattle.listing.specs.Listing.{letter_of}
 use Rattle.listing.specs.Bytes.{ended}
 use Rattle.listing.proofs.finish_line.Statement.{statement}
 use Rattle.listing.proofs.finish_line.Tie as tie
@@ -18,7 +18,7 @@ returns c =
     let start = c.before.before.before.before.before in
     let out = start.args.out.now in
     let n = start.args.n in
-    let marks = map letterOf (take n out) in
+    let marks = map letter_of (take n out) in
     let all : length marks ≡ n = simp (length-map, length-take) (omega arith) in
     ended out _ marks _ n (ap (λ (l : List ℕ). l ++ drop n out) c.before.before.mark-all.ensures) all start.requires
 

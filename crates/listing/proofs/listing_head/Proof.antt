@@ -7,14 +7,14 @@ use borrow.Author.Tests.{not-true, not-false}
 use lib.ListN.{length, length-take, length-drop}
 use Rattle.refusal.specs.Laws.{done-is, checked}
 use Rattle.timing.specs.declared.PageSize.{PageSize}
-use Rattle.timing.specs.Check.{pageCheck}
+use Rattle.timing.specs.Check.{page_check}
 use Rattle.timing.specs.Laws.{size-refusal}
 use Rattle.listing.specs.Head.{Measured, head-refused, head-short, head-put}
 use Rattle.listing.proofs.listing_head.Statement.{statement}
 use Rattle.listing.proofs.listing_head.Tie as tie
 
 -- the refusal that comes with the size is the page's own
-check : (c : tie.After-page-size) → c.page-size.result.refusal ≡ pageCheck c.before.before.args.p
+check : (c : tie.After-page-size) → c.page-size.result.refusal ≡ page_check c.before.before.args.p
 check c = ap (λ (s : PageSize). s.refusal) c.page-size.ensures ∙ size-refusal c.before.before.args.p
 
 returns : tie.Need-returns

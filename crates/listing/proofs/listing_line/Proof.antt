@@ -4,7 +4,7 @@ use native.Mathlib.Omega.{arith}
 use borrow.Author.Rules.{rules}
 use borrow.Author.Tests.{not-true, not-false}
 use lib.ListN.{length-take}
-use Rattle.shape.specs.Font.{Font, fontOf}
+use Rattle.shape.specs.Font.{Font, font_of}
 use Rattle.listing.specs.Line.{line_refused, line-fits, line-put}
 use Rattle.listing.proofs.listing_line.Statement.{statement}
 use Rattle.listing.proofs.listing_line.Tie as tie
@@ -17,7 +17,7 @@ abbrev begin : tie.After-draw-line → tie.Start
 begin c = c.before.before.before.before.before.before.before.before.before.before.before
 
 abbrev font : tie.After-draw-line → Font
-font c = fontOf (begin c).args.words.now (begin c).args.flags.now (begin c).args.unshifted.now (begin c).args.shifted.now (begin c).args.groups.now
+font c = font_of (begin c).args.words.now (begin c).args.flags.now (begin c).args.unshifted.now (begin c).args.shifted.now (begin c).args.groups.now
 
 returns : tie.Need-returns
 returns c =

@@ -4,7 +4,7 @@ use native.Mathlib.Omega.{arith}
 use borrow.Author.Rules.{rules}
 use lib.ListN.{take}
 use lib.Seq.{length-take-le}
-use Rattle.files.specs.Page.{versionIn}
+use Rattle.files.specs.Page.{version_in}
 use Rattle.files.specs.FontLaws.{groups-most}
 use Rattle.listing_program.proofs.list_page.Statement.{statement}
 use Rattle.listing_program.proofs.list_page.Tie as tie
@@ -13,7 +13,7 @@ array-share-prefix-groups : tie.Need-array-share-prefix-groups
 array-share-prefix-groups c =
     let font = c.before.before.before.before.before.before.before.before.before in
     let input = font.before.before.before.before.before.before.before.before.before.read-input in
-    omega (arith, c.groups-in.ensures, font.read-font.auto.1.1.1.1.1.0, groups-most (versionIn (take input.result.count input.new.0)))
+    omega (arith, c.groups-in.ensures, font.read-font.auto.1.1.1.1.1.0, groups-most (version_in (take input.result.count input.new.0)))
 
 slice-aggregate-lent : tie.Need-slice-aggregate-lent
 slice-aggregate-lent c = sym (length-take-le _ _ (array-share-prefix-groups c.before))

@@ -8,7 +8,7 @@ use borrow.Rule.Slice.PartMut.{mid_of, put_mid, same_len_mid}
 use lib.ListN.{length, take, drop, length-append, length-take, length-drop}
 use lib.Seq.{length-take-le}
 use Rattle.io.specs.Counts.{IsPrefixLen}
-use Rattle.files.specs.Page.{versionIn}
+use Rattle.files.specs.Page.{version_in}
 use Rattle.files.specs.Laws.{file-most}
 use Rattle.listing_program.proofs.read_page_file.Statement.{statement}
 use Rattle.listing_program.proofs.read_page_file.Tie as tie
@@ -39,7 +39,7 @@ counted file rest size n h e m =
 part-read-input-end : tie.Need-slice-bounds-read-input-end
 part-read-input-end c =
     let first = c.before.before.before.before.before.before in
-    omega (arith, c.file-size.ensures, file-most (versionIn (file first)), as_long first)
+    omega (arith, c.file-size.ensures, file-most (version_in (file first)), as_long first)
 
 returns-2 : tie.Need-returns-2
 returns-2 c =

@@ -4,7 +4,7 @@ use mathlib.Core.Bool.{true}
 use borrow.Author.Rules.{rules}
 use Rattle.refusal.specs.Number.{done_of}
 use Rattle.refusal.specs.Laws.{done-is, checked}
-use Rattle.timing.specs.Check.{pageCheck}
+use Rattle.timing.specs.Check.{page_check}
 use Rattle.timing.specs.Laws.{accepted}
 use Rattle.numbers.specs.Laws.{page-put, not-room, saved, not_saved}
 use Rattle.numbers.proofs.numbers_of.Statement.{statement}
@@ -17,7 +17,7 @@ returns c = let args = c.before.before.args in not-room args.b args.numbers.now 
 abbrev begin : tie.After-page-check → tie.Start
 begin c = c.before.before.before
 
-done : (c : tie.Then2) → done_of (pageCheck (begin c.before.before).args.b.page) ≡ true
+done : (c : tie.Then2) → done_of (page_check (begin c.before.before).args.b.page) ≡ true
 done c = checked c.before.before.page-check.ensures c.before.is-done.ensures c.if2.true
 
 put-own-requires : tie.Need-put-own-requires

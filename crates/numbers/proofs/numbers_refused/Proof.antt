@@ -1,10 +1,10 @@
 use borrow.Author.Rules.{rules}
-use Rattle.numbers.specs.Numbers.{numbersRefused}
+use Rattle.numbers.specs.Numbers.{numbers_refused}
 use Rattle.numbers.proofs.numbers_refused.Statement.{statement}
 use Rattle.numbers.proofs.numbers_refused.Tie as tie
 
 returns : tie.Need-returns
-unfolding numbersRefused
+unfolding numbers_refused
 returns c = rw c.version-refused.ensures
 
 pub numbers-refused-spec : {M : Type 1} → statement M

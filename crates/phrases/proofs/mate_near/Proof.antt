@@ -1,5 +1,5 @@
 -- `phrases::mate_near` meets its contract: a walk of its MIR, by hand, with a loop. Each turn calls `phrase_at` on the slice and the index, and `visit_mate` on what it gives. The slice itself is never opened here.
--- The invariant at i: the local s holds `mateTo` of the first i records. What s owns is carried, so nothing is proved of its fields. Assumes nothing.
+-- The invariant at i: the local s holds `mate_to` of the first i records. What s owns is carried, so nothing is proved of its fields. Assumes nothing.
 use mathlib.Core.Path.{◌≡◌, refl, sym, ap, ◌∙◌}
 use Prim.Native.Nat.{ℕ, ◌+◌, ◌-◌, ◌≤◌, ◌<◌, ◌^◌}
 use native.Mathlib.Nat.{eq-or-lt_of_le, lt_of_le_of_lt}
@@ -48,7 +48,7 @@ use denote.Triple.Walked.{says, needs, Stays, stay_none, stay_none_slice, walk_o
 use denote.Exit.{yes}
 use denote.Struct.Laws as LL
 use Rattle.records.specs.Records.{none}
-use Rattle.records.specs.Folds.{mateVisit, mateTo, mateStart}
+use Rattle.records.specs.Folds.{mate_visit, mate_to, mate_start}
 use Rattle.phrases.specs.Laws.{mate-begins, mate-turn}
 use Rattle.records.specs.declared.Phrase.{Phrase}
 use Rattle.records.specs.declared.Mate.{Mate}
@@ -118,7 +118,7 @@ module _ {M : Type 1} {𝓤 : Ura M} (𝓛 : Logic 𝓤) (mem : Memory → SProp
   ys = (LL.vals T.the_type T'.the_laws y.0, tt)
 
   abbrev upto : ℕ → Mate
-  upto i = mateTo s.now after i
+  upto i = mate_to s.now after i
 
   abbrev at : Vals self.signature (κ, tt)
   at = (v ∷ [], (vint w64 after ∷ [], (vint w64 end ∷ [], tt)))
@@ -147,8 +147,8 @@ module _ {M : Type 1} {𝓤 : Ura M} (𝓛 : Logic 𝓤) (mem : Memory → SProp
   asked-starts : ent 𝓤 (⋆ 𝓛 (‵ ftrue ∷ ‵ (owns (T.the_row ∷ []) y ys) ∷ [])) ((Starts 𝓛 mem run).pre to-starts)
   asked-starts = qed 𝓛 (‵ ftrue ∷ ‵ (owns (T.the_row ∷ []) y ys) ∷ []) ∵ join ! $ frame ! $ done !
 
-  said-starts : (r : Mate) → ent 𝓤 (ensured 𝓛 starts.ended (starts.clauses 𝓛 mem run) tt y tt r) (fact 𝓤 (r ≡ mateStart y.0))
-  said-starts r = ex_e 𝓤 _ (λ ws. snd∗ 𝓤 (sem 𝓛 (lasts starts.ended tt y ws)) (fact 𝓤 (r ≡ mateStart y.0)))
+  said-starts : (r : Mate) → ent 𝓤 (ensured 𝓛 starts.ended (starts.clauses 𝓛 mem run) tt y tt r) (fact 𝓤 (r ≡ mate_start y.0))
+  said-starts r = ex_e 𝓤 _ (λ ws. snd∗ 𝓤 (sem 𝓛 (lasts starts.ended tt y ws)) (fact 𝓤 (r ≡ mate_start y.0)))
 
   abbrev to_reads : ℕ → (Reads 𝓛 mem run).Ghost
   to_reads i = (((κ, tt), (q, tt), tt, (s, (i, tt)), (v ∷ [], (vint w64 i ∷ [], tt))), tt)
@@ -165,8 +165,8 @@ module _ {M : Type 1} {𝓤 : Ura M} (𝓛 : Logic 𝓤) (mem : Memory → SProp
   asked-visits : (i : ℕ) (p : Phrase) (u : Val) → ent 𝓤 (⋆ 𝓛 (‵ ftrue ∷ ‵ (owns (S.the_row ∷ T.the_row ∷ usize ∷ T.the_row ∷ []) (upto i, (p, (i, y))) (sval (upto i) ∷ [], (u ∷ [], (vint w64 i ∷ [], ys)))) ∷ [])) ((Visits 𝓛 mem run).pre (to-visits i p u))
   asked-visits i p u = qed 𝓛 (‵ ftrue ∷ ‵ (owns (S.the_row ∷ T.the_row ∷ usize ∷ T.the_row ∷ []) (upto i, (p, (i, y))) (sval (upto i) ∷ [], (u ∷ [], (vint w64 i ∷ [], ys)))) ∷ []) ∵ join ! $ frame ! $ done !
 
-  said-visits : (i : ℕ) (p : Phrase) (u : Val) (r : Mate) → ent 𝓤 (ensured 𝓛 visits.ended (visits.clauses 𝓛 mem run) tt (upto i, (p, (i, y))) tt r) (fact 𝓤 (r ≡ mateVisit (upto i) p i y.0))
-  said-visits i p u r = ex_e 𝓤 _ (λ ws. snd∗ 𝓤 (sem 𝓛 (lasts visits.ended tt (upto i, (p, (i, y))) ws)) (fact 𝓤 (r ≡ mateVisit (upto i) p i y.0)))
+  said-visits : (i : ℕ) (p : Phrase) (u : Val) (r : Mate) → ent 𝓤 (ensured 𝓛 visits.ended (visits.clauses 𝓛 mem run) tt (upto i, (p, (i, y))) tt r) (fact 𝓤 (r ≡ mate_visit (upto i) p i y.0))
+  said-visits i p u r = ex_e 𝓤 _ (λ ws. snd∗ 𝓤 (sem 𝓛 (lasts visits.ended tt (upto i, (p, (i, y))) ws)) (fact 𝓤 (r ≡ mate_visit (upto i) p i y.0)))
 
   exits : (i : ℕ) → i ≡ end → ent 𝓤 (⋆ 𝓛 (Toks ∷ ‵ Own ∷ Has i ∷ Rest ∷ [])) (Post (sval (upto i)))
   exits i ei =
@@ -186,8 +186,8 @@ module _ {M : Type 1} {𝓤 : Ura M} (𝓛 : Logic 𝓤) (mem : Memory → SProp
   abbrev next : (i : Upto) → i.0 < end → Upto
   next i less = (i.0 + 1, omega (arith, i.1), add-one-le less, i.3)
 
-  is-next : (i : Upto) (r : Phrase) (r' : Mate) → r ≡ get_or s.now i.0 none → r' ≡ mateVisit (upto i.0) r i.0 y.0 → r' ≡ upto (i.0 + 1)
-  is-next i r r' e₁ e₂ = e₂ ∙ ap (λ (p : Phrase). mateVisit (upto i.0) p i.0 y.0) e₁ ∙ mate-turn s.now after i.0 i.1 ∙ sym (ap upto (add-one i.0))
+  is-next : (i : Upto) (r : Phrase) (r' : Mate) → r ≡ get_or s.now i.0 none → r' ≡ mate_visit (upto i.0) r i.0 y.0 → r' ≡ upto (i.0 + 1)
+  is-next i r r' e₁ e₂ = e₂ ∙ ap (λ (p : Phrase). mate_visit (upto i.0) p i.0 y.0) e₁ ∙ mate-turn s.now after i.0 i.1 ∙ sym (ap upto (add-one i.0))
 
   module _ (n-fits : n < 2 ^ 64) (𝓣 : Tables 𝓤 H) (known-starts : Triple 𝓤 (𝓣.C #starts) (Starts 𝓛 mem run)) (known-reads : Triple 𝓤 (𝓣.C #reads) (Reads 𝓛 mem run)) (known-visits : Triple 𝓤 (𝓣.C #visits) (Visits 𝓛 mem run)) where
     abbrev C : Calls 𝓤 H
@@ -227,7 +227,7 @@ module _ {M : Type 1} {𝓤 : Ura M} (𝓛 : Logic 𝓤) (mem : Memory → SProp
           move ! (4 ∷ []) $ use1 𝓛 (Rest ⊛ Rest) rest-twice $ split ! $ owned ! usize (Is usize) (uint_Makes 𝓛 w64) i.0 _ (refl, fits i) $ move ! (1 ∷ []) $ move ! (1 ∷ 0 ∷ []) $ fjoin ! $ move ! (2 ∷ 0 ∷ []) $ fjoin ! $ move ! (4 ∷ 0 ∷ []) $ fjoin ! $ nothing ! $ use2 𝓛 (raw ((Visits 𝓛 mem run).pre (to-visits i.0 r u))) (asked-visits i.0 r u) $
           calls_at ! fm (Visits 𝓛 mem run) known-visits (to-visits i.0 r u) (and_then ! (load ! (from ! (stop !)) (look ! 10 refl)) (and_then ! (load ! (from ! (stop !)) (look ! 4 refl)) (and_then ! (load ! (from ! (stop !)) (look ! 8 refl)) (and_then ! (load ! (from ! (stop !)) (look ! 12 refl)) (no_more !))))) (λ u'.
           use1 𝓛 (later (some (λ (r' : Mate). (‵ ftrue ⊛ ‵ ((S.the_row).own_val r' (u' ∷ []))) ⊛ raw (ensured 𝓛 visits.ended (visits.clauses 𝓛 mem run) tt (upto i.0, (r, (i.0, y))) tt r')))) (id⊢ 𝓤 _) $ await ! tt $ pick ! (λ r'.
-          split ! $ move ! (1 ∷ []) $ use1 𝓛 (raw (fact 𝓤 (r' ≡ mateVisit (upto i.0) r i.0 y.0))) (said-visits i.0 r u r') $ heard ! (r' ≡ mateVisit (upto i.0) r i.0 y.0) (λ e₂. split ! $ drop ! $
+          split ! $ move ! (1 ∷ []) $ use1 𝓛 (raw (fact 𝓤 (r' ≡ mate_visit (upto i.0) r i.0 y.0))) (said-visits i.0 r u r') $ heard ! (r' ≡ mate_visit (upto i.0) r i.0 y.0) (λ e₂. split ! $ drop ! $
           peeks ! S.the_row (Is S.the_row) (shows 𝓛 S.the_row) r' (u' ∷ []) (λ is'. land ! (from ! (stop !)) (store ! 10 refl ((LL.lawful S.the_type S'.the_laws 𝓛).typed r' _ is').0) $
           assigns_last ! (bin ! (load ! (from ! (stop !)) (look ! 8 refl)) (lit ! tt) (record { fits = fits (next i less) })) (from ! (stop !)) (store ! 8 refl (tt, record { fits = fits (next i less) })) $ forget ! 4 refl $ forget ! 6 refl $
           rewrite ! 0 (λ (us : List Val). ‵ ((S.the_row).own_val r' us)) (LL.tells S.the_type S'.the_laws r' (u' ∷ []) is') refl $ rewrite ! 0 (λ (t : Mate). ‵ ((S.the_row).own_val t (LL.vals S.the_type S'.the_laws t))) (is-next i r r' e₁ e₂) refl $ rewrite ! 10 (λ (us : List Val). ‵ (fat full_share S'.mir l5 0 (only us))) (LL.tells S.the_type S'.the_laws r' (u' ∷ []) is') refl $ rewrite ! 10 (λ (t : Mate). ‵ (fat full_share S'.mir l5 0 (only (LL.vals S.the_type S'.the_laws t)))) (is-next i r r' e₁ e₂) refl $
@@ -267,7 +267,7 @@ module _ {M : Type 1} {𝓤 : Ura M} (𝓛 : Logic 𝓤) (mem : Memory → SProp
         nothing ! $ move ! (1 ∷ 0 ∷ []) $ fjoin ! $ use1 𝓛 (Rest ⊛ Rest) rest-twice $ split ! $ nothing ! $ use2 𝓛 (raw ((Starts 𝓛 mem run).pre to-starts)) asked-starts $
         calls_at ! fm (Starts 𝓛 mem run) known-starts to-starts (and_then ! (load ! (from ! (stop !)) (look ! 12 refl)) (no_more !)) (λ u.
         use1 𝓛 (later (some (λ (r : Mate). (‵ ftrue ⊛ ‵ ((S.the_row).own_val r (u ∷ []))) ⊛ raw (ensured 𝓛 starts.ended (starts.clauses 𝓛 mem run) tt y tt r)))) (id⊢ 𝓤 _) $ await ! tt $ pick ! (λ r.
-        split ! $ move ! (1 ∷ []) $ use1 𝓛 (raw (fact 𝓤 (r ≡ mateStart y.0))) (said-starts r) $ heard ! (r ≡ mateStart y.0) (λ e₀. split ! $ drop ! $
+        split ! $ move ! (1 ∷ []) $ use1 𝓛 (raw (fact 𝓤 (r ≡ mate_start y.0))) (said-starts r) $ heard ! (r ≡ mate_start y.0) (λ e₀. split ! $ drop ! $
         peeks ! S.the_row (Is S.the_row) (shows 𝓛 S.the_row) r (u ∷ []) (λ is. land ! (from ! (stop !)) (init ! 10 refl ((LL.lawful S.the_type S'.the_laws 𝓛).typed r _ is).0) $
         assigns ! (bin ! (load ! (from ! (stop !)) (look ! 16 refl)) (lit ! tt) (record { fits = fits (after + 1, omega arith, add-one-le inside.0, inside.1) })) (from ! (stop !)) (init ! 8 refl (tt, record { fits = fits (after + 1, omega arith, add-one-le inside.0, inside.1) })) $
         rewrite ! 0 (λ (us : List Val). ‵ ((S.the_row).own_val r us)) (LL.tells S.the_type S'.the_laws r (u ∷ []) is) refl $ rewrite ! 0 (λ (t : Mate). ‵ ((S.the_row).own_val t (LL.vals S.the_type S'.the_laws t))) (e₀ ∙ mate-begins s.now after) refl $ rewrite ! 10 (λ (us : List Val). ‵ (fat full_share S'.mir l5 0 (only us))) (LL.tells S.the_type S'.the_laws r (u ∷ []) is) refl $ rewrite ! 10 (λ (t : Mate). ‵ (fat full_share S'.mir l5 0 (only (LL.vals S.the_type S'.the_laws t)))) (e₀ ∙ mate-begins s.now after) refl $

@@ -1,5 +1,5 @@
 -- `phrases::mate_of` meets its contract: a walk of its MIR, by hand, with a loop. Each turn calls `phrase_at` on the slice and the index, and `visit_four` on what it gives. The slice itself is never opened here.
--- The invariant at i: the local s holds `mateTo` of the first i records. What s owns is carried, so nothing is proved of its fields. Assumes nothing.
+-- The invariant at i: the local s holds `mate_to` of the first i records. What s owns is carried, so nothing is proved of its fields. Assumes nothing.
 use mathlib.Core.Path.{◌≡◌, refl, ap, ◌∙◌}
 use Prim.Native.Nat.{ℕ, ◌+◌, ◌-◌, ◌%◌, ◌≤◌, ◌<◌, ◌^◌}
 use native.Mathlib.Nat.{eq-or-lt_of_le, lt_of_le_of_lt}
@@ -48,7 +48,7 @@ use denote.Triple.Walked.{says, needs, Stays, stay_none, stay_none_slice, walk_o
 use denote.Exit.{yes}
 use denote.Struct.Laws as LL
 use Rattle.records.specs.Records.{none}
-use Rattle.records.specs.Folds.{mateFour, mateTo, foursFrom, fours-within}
+use Rattle.records.specs.Folds.{mate_four, mate_to, fours_from, fours-within}
 use Rattle.phrases.specs.Laws.{mate-all, mate-fours}
 use Rattle.records.specs.declared.Phrase.{Phrase}
 use Rattle.records.specs.declared.Mate.{Mate}
@@ -125,7 +125,7 @@ module _ {M : Type 1} {𝓤 : Ura M} (𝓛 : Logic 𝓤) (mem : Memory → SProp
   ys = (LL.vals T.the_type T'.the_laws y.0, tt)
 
   abbrev upto : ℕ → Mate
-  upto i = mateTo s.now after i
+  upto i = mate_to s.now after i
 
   abbrev at : Vals self.signature (κ, tt)
   at = (v ∷ [], (vint w64 after ∷ [], tt))
@@ -163,8 +163,8 @@ module _ {M : Type 1} {𝓤 : Ura M} (𝓛 : Logic 𝓤) (mem : Memory → SProp
   asked-begins : after < n → ent 𝓤 (⋆ 𝓛 (‵ ftrue ∷ ‵ (owns (usize ∷ usize ∷ []) (after, (n, tt)) (vint w64 after ∷ [], (vint w64 n ∷ [], tt))) ∷ [])) ((Begins 𝓛 mem run).pre to-begins)
   asked-begins l = qed 𝓛 (‵ ftrue ∷ ‵ (owns (usize ∷ usize ∷ []) (after, (n, tt)) (vint w64 after ∷ [], (vint w64 n ∷ [], tt))) ∷ []) ∵ says ! l $ frame ! $ done !
 
-  said-begins : (r : ℕ) → ent 𝓤 (ensured 𝓛 begins.ended (begins.clauses 𝓛 mem run) tt (after, (n, tt)) tt r) (fact 𝓤 (r ≡ (foursFrom after n)))
-  said-begins r = ex_e 𝓤 _ (λ ws. snd∗ 𝓤 (sem 𝓛 (lasts begins.ended tt (after, (n, tt)) ws)) (fact 𝓤 (r ≡ (foursFrom after n))))
+  said-begins : (r : ℕ) → ent 𝓤 (ensured 𝓛 begins.ended (begins.clauses 𝓛 mem run) tt (after, (n, tt)) tt r) (fact 𝓤 (r ≡ (fours_from after n)))
+  said-begins r = ex_e 𝓤 _ (λ ws. snd∗ 𝓤 (sem 𝓛 (lasts begins.ended tt (after, (n, tt)) ws)) (fact 𝓤 (r ≡ (fours_from after n))))
 
   abbrev to-nears : ℕ → (Nears 𝓛 mem run).Ghost
   to-nears i = (((κ, tt), (q, tt), tt, (s, (after, (i, tt))), (v ∷ [], (vint w64 after ∷ [], (vint w64 i ∷ [], tt)))), tt)
@@ -181,8 +181,8 @@ module _ {M : Type 1} {𝓤 : Ura M} (𝓛 : Logic 𝓤) (mem : Memory → SProp
   asked-visits : (i : ℕ) (p₁ : Phrase) (p₂ : Phrase) (p₃ : Phrase) (p₄ : Phrase) (u₁ : Val) (u₂ : Val) (u₃ : Val) (u₄ : Val) → i + 3 < 2 ^ 64 → ent 𝓤 (⋆ 𝓛 (‵ ftrue ∷ ‵ (owns (S.the_row ∷ T.the_row ∷ T.the_row ∷ T.the_row ∷ T.the_row ∷ usize ∷ T.the_row ∷ []) (upto i, (p₁, (p₂, (p₃, (p₄, (i, y)))))) (sval (upto i) ∷ [], (u₁ ∷ [], (u₂ ∷ [], (u₃ ∷ [], (u₄ ∷ [], (vint w64 i ∷ [], ys))))))) ∷ [])) ((Visits 𝓛 mem run).pre (to-visits i p₁ p₂ p₃ p₄ u₁ u₂ u₃ u₄))
   asked-visits i p₁ p₂ p₃ p₄ u₁ u₂ u₃ u₄ l = qed 𝓛 (‵ ftrue ∷ ‵ (owns (S.the_row ∷ T.the_row ∷ T.the_row ∷ T.the_row ∷ T.the_row ∷ usize ∷ T.the_row ∷ []) (upto i, (p₁, (p₂, (p₃, (p₄, (i, y)))))) (sval (upto i) ∷ [], (u₁ ∷ [], (u₂ ∷ [], (u₃ ∷ [], (u₄ ∷ [], (vint w64 i ∷ [], ys))))))) ∷ []) ∵ says ! l $ frame ! $ done !
 
-  said-visits : (i : ℕ) (p₁ : Phrase) (p₂ : Phrase) (p₃ : Phrase) (p₄ : Phrase) (u₁ : Val) (u₂ : Val) (u₃ : Val) (u₄ : Val) (r : Mate) → ent 𝓤 (ensured 𝓛 visits.ended (visits.clauses 𝓛 mem run) tt (upto i, (p₁, (p₂, (p₃, (p₄, (i, y)))))) tt r) (fact 𝓤 (r ≡ mateFour (upto i) p₁ p₂ p₃ p₄ i y.0))
-  said-visits i p₁ p₂ p₃ p₄ u₁ u₂ u₃ u₄ r = ex_e 𝓤 _ (λ ws. snd∗ 𝓤 (sem 𝓛 (lasts visits.ended tt (upto i, (p₁, (p₂, (p₃, (p₄, (i, y)))))) ws)) (fact 𝓤 (r ≡ mateFour (upto i) p₁ p₂ p₃ p₄ i y.0)))
+  said-visits : (i : ℕ) (p₁ : Phrase) (p₂ : Phrase) (p₃ : Phrase) (p₄ : Phrase) (u₁ : Val) (u₂ : Val) (u₃ : Val) (u₄ : Val) (r : Mate) → ent 𝓤 (ensured 𝓛 visits.ended (visits.clauses 𝓛 mem run) tt (upto i, (p₁, (p₂, (p₃, (p₄, (i, y)))))) tt r) (fact 𝓤 (r ≡ mate_four (upto i) p₁ p₂ p₃ p₄ i y.0))
+  said-visits i p₁ p₂ p₃ p₄ u₁ u₂ u₃ u₄ r = ex_e 𝓤 _ (λ ws. snd∗ 𝓤 (sem 𝓛 (lasts visits.ended tt (upto i, (p₁, (p₂, (p₃, (p₄, (i, y)))))) ws)) (fact 𝓤 (r ≡ mate_four (upto i) p₁ p₂ p₃ p₄ i y.0)))
 
   exits : (i : ℕ) → i ≡ n → ent 𝓤 (⋆ 𝓛 (Toks ∷ ‵ Own ∷ Has i ∷ Rest ∷ [])) (Post (sval (upto i)))
   exits i ei =
@@ -202,7 +202,7 @@ module _ {M : Type 1} {𝓤 : Ura M} (𝓛 : Logic 𝓤) (mem : Memory → SProp
   abbrev next : (i : Upto) → i.0 < n → Upto
   next i less = (i.0 + 4, omega (arith, i.1), omega (arith, less, i.2, i.3), omega (arith, less, i.2, i.3))
 
-  is-next : (i : Upto) (r₁ r₂ r₃ r₄ : Phrase) (r' : Mate) → r₁ ≡ get_or s.now i.0 none → r₂ ≡ get_or s.now (i.0 + 1) none → r₃ ≡ get_or s.now (i.0 + 2) none → r₄ ≡ get_or s.now (i.0 + 3) none → r' ≡ mateFour (upto i.0) r₁ r₂ r₃ r₄ i.0 y.0 → r' ≡ upto (i.0 + 4)
+  is-next : (i : Upto) (r₁ r₂ r₃ r₄ : Phrase) (r' : Mate) → r₁ ≡ get_or s.now i.0 none → r₂ ≡ get_or s.now (i.0 + 1) none → r₃ ≡ get_or s.now (i.0 + 2) none → r₄ ≡ get_or s.now (i.0 + 3) none → r' ≡ mate_four (upto i.0) r₁ r₂ r₃ r₄ i.0 y.0 → r' ≡ upto (i.0 + 4)
   is-next i r₁ r₂ r₃ r₄ r' e₁ e₂ e₃ e₄ e₅ = e₅ ∙ rw (e₁, e₂, e₃, e₄) (mate-fours s.now after i.0 i.1)
 
   module _ (n-fits : n < 2 ^ 64) (𝓣 : Tables 𝓤 H) (known-reads : Triple 𝓤 (𝓣.C #reads) (Reads 𝓛 mem run)) (known-begins : Triple 𝓤 (𝓣.C #begins) (Begins 𝓛 mem run)) (known-nears : Triple 𝓤 (𝓣.C #nears) (Nears 𝓛 mem run)) (known-visits : Triple 𝓤 (𝓣.C #visits) (Visits 𝓛 mem run)) where
@@ -262,7 +262,7 @@ module _ {M : Type 1} {𝓤 : Ura M} (𝓛 : Logic 𝓤) (mem : Memory → SProp
           move ! (7 ∷ []) $ use1 𝓛 (Rest ⊛ Rest) rest-twice $ split ! $ owned ! usize (Is usize) (uint_Makes 𝓛 w64) i.0 _ (refl, fits i) $ move ! (1 ∷ []) $ move ! (1 ∷ 0 ∷ []) $ fjoin ! $ move ! (2 ∷ 0 ∷ []) $ fjoin ! $ move ! (4 ∷ 0 ∷ []) $ fjoin ! $ move ! (4 ∷ 0 ∷ []) $ fjoin ! $ move ! (4 ∷ 0 ∷ []) $ fjoin ! $ move ! (4 ∷ 0 ∷ []) $ fjoin ! $ nothing ! $ use2 𝓛 (raw ((Visits 𝓛 mem run).pre (to-visits i.0 r₁ r₂ r₃ r₄ u₁ u₂ u₃ u₄))) (asked-visits i.0 r₁ r₂ r₃ r₄ u₁ u₂ u₃ u₄ (omega (arith, n-fits, less, i.2, i.3))) $
           calls_at ! fm (Visits 𝓛 mem run) known-visits (to-visits i.0 r₁ r₂ r₃ r₄ u₁ u₂ u₃ u₄) (and_then ! (load ! (from ! (stop !)) (look ! 22 refl)) (and_then ! (load ! (from ! (stop !)) (look ! 14 refl)) (and_then ! (load ! (from ! (stop !)) (look ! 12 refl)) (and_then ! (load ! (from ! (stop !)) (look ! 10 refl)) (and_then ! (load ! (from ! (stop !)) (look ! 6 refl)) (and_then ! (load ! (from ! (stop !)) (look ! 24 refl)) (and_then ! (load ! (from ! (stop !)) (look ! 26 refl)) (no_more !)))))))) (λ u'.
           use1 𝓛 (later (some (λ (r' : Mate). (‵ ftrue ⊛ ‵ ((S.the_row).own_val r' (u' ∷ []))) ⊛ raw (ensured 𝓛 visits.ended (visits.clauses 𝓛 mem run) tt (upto i.0, (r₁, (r₂, (r₃, (r₄, (i.0, y)))))) tt r')))) (id⊢ 𝓤 _) $ await ! tt $ pick ! (λ r'.
-          split ! $ move ! (1 ∷ []) $ use1 𝓛 (raw (fact 𝓤 (r' ≡ mateFour (upto i.0) r₁ r₂ r₃ r₄ i.0 y.0))) (said-visits i.0 r₁ r₂ r₃ r₄ u₁ u₂ u₃ u₄ r') $ heard ! (r' ≡ mateFour (upto i.0) r₁ r₂ r₃ r₄ i.0 y.0) (λ e₅. split ! $ drop ! $
+          split ! $ move ! (1 ∷ []) $ use1 𝓛 (raw (fact 𝓤 (r' ≡ mate_four (upto i.0) r₁ r₂ r₃ r₄ i.0 y.0))) (said-visits i.0 r₁ r₂ r₃ r₄ u₁ u₂ u₃ u₄ r') $ heard ! (r' ≡ mate_four (upto i.0) r₁ r₂ r₃ r₄ i.0 y.0) (λ e₅. split ! $ drop ! $
           peeks ! S.the_row (Is S.the_row) (shows 𝓛 S.the_row) r' (u' ∷ []) (λ is'. land ! (from ! (stop !)) (store ! 22 refl ((LL.lawful S.the_type S'.the_laws 𝓛).typed r' _ is').0) $
           assigns_last ! (bin ! (load ! (from ! (stop !)) (look ! 24 refl)) (lit ! tt) (record { fits = fits (next i less) })) (from ! (stop !)) (store ! 24 refl (tt, record { fits = fits (next i less) })) $ forget ! 4 refl $ forget ! 6 refl $ forget ! 8 refl $ forget ! 10 refl $ forget ! 12 refl $ forget ! 14 refl $ forget ! 16 refl $ forget ! 18 refl $
           rewrite ! 0 (λ (us : List Val). ‵ ((S.the_row).own_val r' us)) (LL.tells S.the_type S'.the_laws r' (u' ∷ []) is') refl $ rewrite ! 0 (λ (t : Mate). ‵ ((S.the_row).own_val t (LL.vals S.the_type S'.the_laws t))) (is-next i r₁ r₂ r₃ r₄ r' e₁ e₂ e₃ e₄ e₅) refl $ rewrite ! 22 (λ (us : List Val). ‵ (fat full_share S'.mir l5 0 (only us))) (LL.tells S.the_type S'.the_laws r' (u' ∷ []) is') refl $ rewrite ! 22 (λ (t : Mate). ‵ (fat full_share S'.mir l5 0 (only (LL.vals S.the_type S'.the_laws t)))) (is-next i r₁ r₂ r₃ r₄ r' e₁ e₂ e₃ e₄ e₅) refl $
@@ -285,8 +285,8 @@ module _ {M : Type 1} {𝓤 : Ura M} (𝓛 : Logic 𝓤) (mem : Memory → SProp
       turns i = ⊎_elim (leaves i) (more i) (eq-or-lt_of_le i.2)
 
       -- the loop, and what follows it: a lemma of its own, or the check of `walk` runs out of steps
-      looped : (inside : after < n) → Sq 𝓛 (At ((foursFrom after n), (fours-within after n inside).0, (fours-within after n inside).1, (fours-within after n inside).2)) (runs C Λ En t-5 (at_ret En Post))
-      looped inside = first ! $ blocks ! $ loops ! 𝓣 Nearer Nearer-wf At turns ((foursFrom after n), (fours-within after n inside).0, (fours-within after n inside).1, (fours-within after n inside).2)
+      looped : (inside : after < n) → Sq 𝓛 (At ((fours_from after n), (fours-within after n inside).0, (fours-within after n inside).1, (fours-within after n inside).2)) (runs C Λ En t-5 (at_ret En Post))
+      looped inside = first ! $ blocks ! $ loops ! 𝓣 Nearer Nearer-wf At turns ((fours_from after n), (fours-within after n inside).0, (fours-within after n inside).1, (fours-within after n inside).2)
 
     walk : after < n → ent 𝓤 (on_entry 𝓛 self.signature (κ, tt) (q, tt) (s, (after, tt)) at) (WpFn 𝓤 H C Λ code.function (v ∷ only at.1.0 ∷ []) Post)
     walk inside =
@@ -304,13 +304,13 @@ module _ {M : Type 1} {𝓤 : Ura M} (𝓛 : Logic 𝓤) (mem : Memory → SProp
         nothing ! $ owned ! usize (Is usize) (uint_Makes 𝓛 w64) n _ (refl, n-fits) $ owned ! usize (Is usize) (uint_Makes 𝓛 w64) after _ (refl, after-fits) $ move ! (2 ∷ []) $ move ! (2 ∷ 0 ∷ []) $ fjoin ! $ move ! (1 ∷ 0 ∷ []) $ fjoin ! $ nothing ! $ use2 𝓛 (raw ((Begins 𝓛 mem run).pre to-begins)) (asked-begins inside) $
         calls_at ! fm (Begins 𝓛 mem run) known-begins to-begins (and_then ! (load ! (from ! (stop !)) (look ! 28 refl)) (and_then ! (load ! (from ! (stop !)) (look ! 20 refl)) (no_more !))) (λ u₂.
         use1 𝓛 (later (some (λ (b : ℕ). (‵ ftrue ⊛ ‵ (usize.own_val b (u₂ ∷ []))) ⊛ raw (ensured 𝓛 begins.ended (begins.clauses 𝓛 mem run) tt (after, (n, tt)) tt b)))) (id⊢ 𝓤 _) $ await ! tt $ pick ! (λ b.
-        split ! $ move ! (1 ∷ []) $ use1 𝓛 (raw (fact 𝓤 (b ≡ (foursFrom after n)))) (said-begins b) $ heard ! (b ≡ (foursFrom after n)) (λ e₂. split ! $ drop ! $
+        split ! $ move ! (1 ∷ []) $ use1 𝓛 (raw (fact 𝓤 (b ≡ (fours_from after n)))) (said-begins b) $ heard ! (b ≡ (fours_from after n)) (λ e₂. split ! $ drop ! $
         peeks ! usize (Is usize) (shows 𝓛 usize) b (u₂ ∷ []) (λ is₂. land ! (from ! (stop !)) (init ! 24 refl ((uint_Lawful 𝓛 w64).typed b _ is₂).0) $
         drop ! $ rewrite ! 23 (λ (us : List Val). ‵ (fat full_share word l4 0 (only us))) (uint_Tells w64 b (u₂ ∷ []) is₂) refl $ rewrite ! 23 (λ (t : ℕ). ‵ (fat full_share word l4 0 (only (vint w64 t ∷ [])))) e₂ refl $ forget ! 19 refl $
-        move ! (2 ∷ []) $ use1 𝓛 (‵ Own ⊛ ‵ Own) ((shr_slice_copy 𝓛 (named 0) κ T.the_row).twice s (v ∷ [])) $ split ! $ nothing ! $ owned ! usize (Is usize) (uint_Makes 𝓛 w64) after _ (refl, after-fits) $ owned ! usize (Is usize) (uint_Makes 𝓛 w64) (foursFrom after n) _ (refl, fits ((foursFrom after n), (fours-within after n inside).0, (fours-within after n inside).1, (fours-within after n inside).2)) $ move ! (2 ∷ []) $ move ! (1 ∷ 0 ∷ []) $ fjoin ! $ move ! (1 ∷ 0 ∷ []) $ fjoin ! $ move ! (1 ∷ 0 ∷ []) $ fjoin ! $ move ! (3 ∷ 0 ∷ []) $ use2 𝓛 (raw ((Nears 𝓛 mem run).pre (to-nears (foursFrom after n)))) (asked-nears (foursFrom after n) ((fours-within after n inside).0, (fours-within after n inside).1)) $
-        calls_at ! fm (Nears 𝓛 mem run) known-nears (to-nears (foursFrom after n)) (and_then ! (load ! (from ! (stop !)) (look ! 29 refl)) (and_then ! (load ! (from ! (stop !)) (look ! 27 refl)) (and_then ! (load ! (from ! (stop !)) (look ! 23 refl)) (no_more !)))) (λ u.
-        use1 𝓛 (later (some (λ (r : Mate). (Toks ⊛ ‵ ((S.the_row).own_val r (u ∷ []))) ⊛ raw (ensured 𝓛 nears.ended (nears.clauses 𝓛 mem run) (κ, tt) (s, (after, ((foursFrom after n), tt))) tt r)))) (id⊢ 𝓤 _) $ await ! tt $ pick ! (λ r.
-        split ! $ move ! (1 ∷ []) $ use1 𝓛 (raw (fact 𝓤 (r ≡ upto (foursFrom after n)))) (said-nears (foursFrom after n) r) $ heard ! (r ≡ upto (foursFrom after n)) (λ e₀. split ! $ move ! (1 ∷ []) $
+        move ! (2 ∷ []) $ use1 𝓛 (‵ Own ⊛ ‵ Own) ((shr_slice_copy 𝓛 (named 0) κ T.the_row).twice s (v ∷ [])) $ split ! $ nothing ! $ owned ! usize (Is usize) (uint_Makes 𝓛 w64) after _ (refl, after-fits) $ owned ! usize (Is usize) (uint_Makes 𝓛 w64) (fours_from after n) _ (refl, fits ((fours_from after n), (fours-within after n inside).0, (fours-within after n inside).1, (fours-within after n inside).2)) $ move ! (2 ∷ []) $ move ! (1 ∷ 0 ∷ []) $ fjoin ! $ move ! (1 ∷ 0 ∷ []) $ fjoin ! $ move ! (1 ∷ 0 ∷ []) $ fjoin ! $ move ! (3 ∷ 0 ∷ []) $ use2 𝓛 (raw ((Nears 𝓛 mem run).pre (to-nears (fours_from after n)))) (asked-nears (fours_from after n) ((fours-within after n inside).0, (fours-within after n inside).1)) $
+        calls_at ! fm (Nears 𝓛 mem run) known-nears (to-nears (fours_from after n)) (and_then ! (load ! (from ! (stop !)) (look ! 29 refl)) (and_then ! (load ! (from ! (stop !)) (look ! 27 refl)) (and_then ! (load ! (from ! (stop !)) (look ! 23 refl)) (no_more !)))) (λ u.
+        use1 𝓛 (later (some (λ (r : Mate). (Toks ⊛ ‵ ((S.the_row).own_val r (u ∷ []))) ⊛ raw (ensured 𝓛 nears.ended (nears.clauses 𝓛 mem run) (κ, tt) (s, (after, ((fours_from after n), tt))) tt r)))) (id⊢ 𝓤 _) $ await ! tt $ pick ! (λ r.
+        split ! $ move ! (1 ∷ []) $ use1 𝓛 (raw (fact 𝓤 (r ≡ upto (fours_from after n)))) (said-nears (fours_from after n) r) $ heard ! (r ≡ upto (fours_from after n)) (λ e₀. split ! $ move ! (1 ∷ []) $
         peeks ! S.the_row (Is S.the_row) (shows 𝓛 S.the_row) r (u ∷ []) (λ is. land ! (from ! (stop !)) (init ! 22 refl ((LL.lawful S.the_type S'.the_laws 𝓛).typed r _ is).0) $
         rewrite ! 0 (λ (us : List Val). ‵ ((S.the_row).own_val r us)) (LL.tells S.the_type S'.the_laws r (u ∷ []) is) refl $ rewrite ! 0 (λ (t : Mate). ‵ ((S.the_row).own_val t (LL.vals S.the_type S'.the_laws t))) (e₀) refl $ rewrite ! 22 (λ (us : List Val). ‵ (fat full_share S'.mir l5 0 (only us))) (LL.tells S.the_type S'.the_laws r (u ∷ []) is) refl $ rewrite ! 22 (λ (t : Mate). ‵ (fat full_share S'.mir l5 0 (only (LL.vals S.the_type S'.the_laws t)))) (e₀) refl $
         keep ! (1 ∷ 2 ∷ 0 ∷ 3 ∷ 4 ∷ 5 ∷ 6 ∷ 7 ∷ 8 ∷ 9 ∷ 10 ∷ 11 ∷ 12 ∷ 13 ∷ 14 ∷ 15 ∷ 16 ∷ 17 ∷ 18 ∷ 19 ∷ 20 ∷ 21 ∷ 22 ∷ 23 ∷ 24 ∷ 25 ∷ 26 ∷ 27 ∷ 28 ∷ 29 ∷ 30 ∷ 31 ∷ 32 ∷ 33 ∷ []) $ looped l0 l1 l2 l3 l4 l5 l6 l7 l8 l9 l10 l11 l12 l13 l14 inside)))))))))))))))))))))))))))

@@ -36,7 +36,7 @@ use denote.Triple.Walked.{says, Stays, stay_none, stay_none_slice, walk_of, AllG
 use denote.Exit.{yes}
 use denote.Struct.Laws as LL
 use Rattle.records.specs.Ends.{asked_of}
-use Rattle.records.specs.Folds.{searchOf}
+use Rattle.records.specs.Folds.{search_of}
 use Rattle.phrases.specs.Laws.{row-held}
 use Rattle.records.specs.declared.Phrase.{Phrase}
 use Rattle.records.specs.declared.Asked.{Asked}
@@ -147,14 +147,14 @@ module _ {M : Type 1} {𝓤 : Ura M} (𝓛 : Logic 𝓤) (mem : Memory → SProp
   asked-seconds : (m : Asked) (u : Val) → ent 𝓤 (⋆ 𝓛 (Toks₂ ∷ ‵ (owns (ShrSlice (named 1) κs.1.0 T.the_row ∷ Q.the_row ∷ []) (s, (m, tt)) (shr_slice_vals s, (u ∷ [], tt))) ∷ [])) ((Seconds 𝓛 mem run).pre (to-seconds m u))
   asked-seconds m u = qed 𝓛 (Toks₂ ∷ ‵ (owns (ShrSlice (named 1) κs.1.0 T.the_row ∷ Q.the_row ∷ []) (s, (m, tt)) (shr_slice_vals s, (u ∷ [], tt))) ∷ []) ∵ join ! $ frame ! $ done !
 
-  said-seconds : (m : Asked) (u : Val) (r : PhraseAnswer) → ent 𝓤 (ensured 𝓛 seconds.ended (seconds.clauses 𝓛 mem run) (κs.1.0, tt) (s, (m, tt)) tt r) (fact 𝓤 (r ≡ searchOf s.now m))
-  said-seconds m u r = ex_e 𝓤 _ (λ ws. snd∗ 𝓤 (sem 𝓛 (lasts seconds.ended (κs.1.0, tt) (s, (m, tt)) ws)) (fact 𝓤 (r ≡ searchOf s.now m)))
+  said-seconds : (m : Asked) (u : Val) (r : PhraseAnswer) → ent 𝓤 (ensured 𝓛 seconds.ended (seconds.clauses 𝓛 mem run) (κs.1.0, tt) (s, (m, tt)) tt r) (fact 𝓤 (r ≡ search_of s.now m))
+  said-seconds m u r = ex_e 𝓤 _ (λ ws. snd∗ 𝓤 (sem 𝓛 (lasts seconds.ended (κs.1.0, tt) (s, (m, tt)) ws)) (fact 𝓤 (r ≡ search_of s.now m)))
 
-  exits : (m : Asked) (r : PhraseAnswer) (u : Val) → m ≡ answer → r ≡ searchOf s.now m → ent 𝓤 (⋆ 𝓛 (Toks ∷ Rest ∷ ‵ ((S.the_row).own_val r (u ∷ [])) ∷ [])) (Post u)
+  exits : (m : Asked) (r : PhraseAnswer) (u : Val) → m ≡ answer → r ≡ search_of s.now m → ent 𝓤 (⋆ 𝓛 (Toks ∷ Rest ∷ ‵ ((S.the_row).own_val r (u ∷ [])) ∷ [])) (Post u)
   exits m r u e₁ e₂ =
       qed 𝓛 (Toks ∷ Rest ∷ ‵ ((S.the_row).own_val r (u ∷ [])) ∷ []) ∵
       suffices ! _ (ends_at 𝓛 self.ended stayed (self.clauses 𝓛 mem run) ((κs, qs, tt, y, ys), tt) u r (tt, (tt, (tt, (tt, tt)))) (tt, (tt, (tt, (tt, tt))))) $
-      says ! (e₂ ∙ ap (searchOf s.now) e₁ ∙ row-held y.0 y.1.0.now y.1.1.0.now y.1.1.1.0) $ frame ! $ done !
+      says ! (e₂ ∙ ap (search_of s.now) e₁ ∙ row-held y.0 y.1.0.now y.1.1.0.now y.1.1.1.0) $ frame ! $ done !
 
   module _ (C : Calls 𝓤 H) (Λ : Loops 𝓤 H) (fm : FmC 𝓤 H 𝓛.laws C) (known-firsts : Triple 𝓤 (C #firsts) (Firsts 𝓛 mem run)) (known-seconds : Triple 𝓤 (C #seconds) (Seconds 𝓛 mem run)) where
     walk : Are (All κs) (Ises (All κs)) y ys → ent 𝓤 (on_entry 𝓛 self.signature κs qs y ys) (WpFn 𝓤 H C Λ code.function (only ys.0 ∷ only ys.1.0 ∷ only ys.1.1.0 ∷ only ys.1.1.1.0 ∷ []) Post)
@@ -173,7 +173,7 @@ module _ {M : Type 1} {𝓤 : Ura M} (𝓛 : Logic 𝓤) (mem : Memory → SProp
         nothing ! $ move ! (1 ∷ 0 ∷ []) $ fjoin ! $ move ! (3 ∷ 0 ∷ []) $ fjoin ! $ move ! (2 ∷ 0 ∷ []) $ use2 𝓛 (raw ((Seconds 𝓛 mem run).pre (to-seconds m u))) (asked-seconds m u) $
         calls_at ! fm (Seconds 𝓛 mem run) known-seconds (to-seconds m u) (and_then ! (load ! (from ! (stop !)) (look ! 7 refl)) (and_then ! (load ! (from ! (stop !)) (look ! 3 refl)) (no_more !))) (λ u'.
         use1 𝓛 (later (some (λ (r : PhraseAnswer). (Toks₂ ⊛ ‵ ((S.the_row).own_val r (u' ∷ []))) ⊛ raw (ensured 𝓛 seconds.ended (seconds.clauses 𝓛 mem run) (κs.1.0, tt) (s, (m, tt)) tt r)))) (id⊢ 𝓤 _) $ await ! tt $ pick ! (λ r.
-        split ! $ move ! (1 ∷ []) $ use1 𝓛 (raw (fact 𝓤 (r ≡ searchOf s.now m))) (said-seconds m u r) $ heard ! (r ≡ searchOf s.now m) (λ e₂. split ! $ move ! (1 ∷ []) $
+        split ! $ move ! (1 ∷ []) $ use1 𝓛 (raw (fact 𝓤 (r ≡ search_of s.now m))) (said-seconds m u r) $ heard ! (r ≡ search_of s.now m) (λ e₂. split ! $ move ! (1 ∷ []) $
         peeks ! S.the_row (Is S.the_row) (shows 𝓛 S.the_row) r (u' ∷ []) (λ is'. land ! (from ! (stop !)) (init ! 14 refl ((LL.lawful S.the_type S'.the_laws 𝓛).typed r _ is').0) $
         returns ! (look ! 14 refl) $ forget ! 4 refl $ forget ! 6 refl $ forget ! 8 refl $ forget ! 10 refl $ forget ! 12 refl $ forget ! 14 refl $
         move ! (14 ∷ 15 ∷ []) $ free1 ! $ move ! (12 ∷ 13 ∷ []) $ free1 ! $ move ! (10 ∷ 11 ∷ []) $ free1 ! $ move ! (8 ∷ 9 ∷ []) $ free1 ! $ move ! (6 ∷ 7 ∷ []) $ free1 ! $ move ! (4 ∷ 5 ∷ []) $ free1 ! $ free0 ! $

@@ -1,5 +1,5 @@
 -- `phrases::phrases_differ` meets its contract: a walk of its MIR, by hand, with a loop. Each turn calls `mate_of` on the slice and the index, and `visit_pair` on what it gives. The slice itself is never opened here.
--- The invariant at i: the local s holds `pairsTo` of the first i records. What s owns is carried, so nothing is proved of its fields. Assumes nothing.
+-- The invariant at i: the local s holds `pairs_to` of the first i records. What s owns is carried, so nothing is proved of its fields. Assumes nothing.
 use mathlib.Core.Path.{◌≡◌, refl, sym, ap, ◌∙◌}
 use Prim.Native.Nat.{ℕ, ◌+◌, ◌-◌, ◌≤◌, ◌<◌, ◌^◌, zero-le}
 use native.Mathlib.Nat.{eq-or-lt_of_le, lt_of_le_of_lt}
@@ -49,7 +49,7 @@ use denote.Triple.Table.{entered, cited}
 use denote.Triple.Walked.{says, Stays, stay_none_slice, walk_of, AllGo, Goes-none_slice, Walks, ends_at, walked, walk_Meets}
 use denote.Exit.{yes}
 use denote.Struct.Laws as LL
-use Rattle.records.specs.Folds.{mateOf, pairVisit, pairsTo}
+use Rattle.records.specs.Folds.{mate_of, pair_visit, pairs_to}
 use Rattle.phrases.specs.Laws.{pairs-all}
 use Rattle.records.specs.declared.Phrase.{Phrase}
 use Rattle.records.specs.declared.PairAnswer.{PairAnswer}
@@ -117,7 +117,7 @@ module _ {M : Type 1} {𝓤 : Ura M} (𝓛 : Logic 𝓤) (mem : Memory → SProp
   ys = tt
 
   abbrev upto : ℕ → PairAnswer
-  upto i = pairsTo s.now i
+  upto i = pairs_to s.now i
 
   abbrev at : Vals self.signature (κ, tt)
   at = (v ∷ [], ys)
@@ -155,8 +155,8 @@ module _ {M : Type 1} {𝓤 : Ura M} (𝓛 : Logic 𝓤) (mem : Memory → SProp
   asked-reads : (i : ℕ) → i < n → ent 𝓤 (⋆ 𝓛 (Toks ∷ ‵ (owns (ShrSlice (named 0) κ T.the_row ∷ usize ∷ []) (s, (i, tt)) (v ∷ [], (vint w64 i ∷ [], tt))) ∷ [])) ((Reads 𝓛 mem run).pre (to_reads i))
   asked-reads i l = qed 𝓛 (Toks ∷ ‵ (owns (ShrSlice (named 0) κ T.the_row ∷ usize ∷ []) (s, (i, tt)) (v ∷ [], (vint w64 i ∷ [], tt))) ∷ []) ∵ says ! l $ frame ! $ done !
 
-  said-reads : (i : ℕ) (r : Mate) → ent 𝓤 (ensured 𝓛 reads.ended (reads.clauses 𝓛 mem run) (κ, tt) (s, (i, tt)) tt r) (fact 𝓤 (r ≡ mateOf s.now i))
-  said-reads i r = ex_e 𝓤 _ (λ ws. snd∗ 𝓤 (sem 𝓛 (lasts reads.ended (κ, tt) (s, (i, tt)) ws)) (fact 𝓤 (r ≡ mateOf s.now i)))
+  said-reads : (i : ℕ) (r : Mate) → ent 𝓤 (ensured 𝓛 reads.ended (reads.clauses 𝓛 mem run) (κ, tt) (s, (i, tt)) tt r) (fact 𝓤 (r ≡ mate_of s.now i))
+  said-reads i r = ex_e 𝓤 _ (λ ws. snd∗ 𝓤 (sem 𝓛 (lasts reads.ended (κ, tt) (s, (i, tt)) ws)) (fact 𝓤 (r ≡ mate_of s.now i)))
 
   abbrev to-visits : ℕ → Mate → Val → (Visits 𝓛 mem run).Ghost
   to-visits i p u = ((tt, tt, tt, (upto i, (p, (i, y))), (sval (upto i) ∷ [], (u ∷ [], (vint w64 i ∷ [], ys)))), tt)
@@ -164,8 +164,8 @@ module _ {M : Type 1} {𝓤 : Ura M} (𝓛 : Logic 𝓤) (mem : Memory → SProp
   asked-visits : (i : ℕ) (p : Mate) (u : Val) → ent 𝓤 (⋆ 𝓛 (‵ ftrue ∷ ‵ (owns (S.the_row ∷ Q.the_row ∷ usize ∷ []) (upto i, (p, (i, y))) (sval (upto i) ∷ [], (u ∷ [], (vint w64 i ∷ [], ys)))) ∷ [])) ((Visits 𝓛 mem run).pre (to-visits i p u))
   asked-visits i p u = qed 𝓛 (‵ ftrue ∷ ‵ (owns (S.the_row ∷ Q.the_row ∷ usize ∷ []) (upto i, (p, (i, y))) (sval (upto i) ∷ [], (u ∷ [], (vint w64 i ∷ [], ys)))) ∷ []) ∵ join ! $ frame ! $ done !
 
-  said-visits : (i : ℕ) (p : Mate) (u : Val) (r : PairAnswer) → ent 𝓤 (ensured 𝓛 visits.ended (visits.clauses 𝓛 mem run) tt (upto i, (p, (i, y))) tt r) (fact 𝓤 (r ≡ pairVisit (upto i) p i))
-  said-visits i p u r = ex_e 𝓤 _ (λ ws. snd∗ 𝓤 (sem 𝓛 (lasts visits.ended tt (upto i, (p, (i, y))) ws)) (fact 𝓤 (r ≡ pairVisit (upto i) p i)))
+  said-visits : (i : ℕ) (p : Mate) (u : Val) (r : PairAnswer) → ent 𝓤 (ensured 𝓛 visits.ended (visits.clauses 𝓛 mem run) tt (upto i, (p, (i, y))) tt r) (fact 𝓤 (r ≡ pair_visit (upto i) p i))
+  said-visits i p u r = ex_e 𝓤 _ (λ ws. snd∗ 𝓤 (sem 𝓛 (lasts visits.ended tt (upto i, (p, (i, y))) ws)) (fact 𝓤 (r ≡ pair_visit (upto i) p i)))
 
   exits : (i : ℕ) → i ≡ n → ent 𝓤 (⋆ 𝓛 (Toks ∷ ‵ Own ∷ Has i ∷ Rest ∷ [])) (Post (sval (upto i)))
   exits i ei =
@@ -185,8 +185,8 @@ module _ {M : Type 1} {𝓤 : Ura M} (𝓛 : Logic 𝓤) (mem : Memory → SProp
   abbrev next : (i : Upto) → i.0 < n → Upto
   next i less = (i.0 + 1, add-one-le less)
 
-  is-next : (i : Upto) (r : Mate) (r' : PairAnswer) → r ≡ mateOf s.now i.0 → r' ≡ pairVisit (upto i.0) r i.0 → r' ≡ upto (i.0 + 1)
-  is-next i r r' e₁ e₂ = e₂ ∙ ap (λ (p : Mate). pairVisit (upto i.0) p i.0) e₁ ∙ sym (ap upto (add-one i.0))
+  is-next : (i : Upto) (r : Mate) (r' : PairAnswer) → r ≡ mate_of s.now i.0 → r' ≡ pair_visit (upto i.0) r i.0 → r' ≡ upto (i.0 + 1)
+  is-next i r r' e₁ e₂ = e₂ ∙ ap (λ (p : Mate). pair_visit (upto i.0) p i.0) e₁ ∙ sym (ap upto (add-one i.0))
 
   module _ (n-fits : n < 2 ^ 64) (𝓣 : Tables 𝓤 H) (known-starts : Triple 𝓤 (𝓣.C #starts) (Starts 𝓛 mem run)) (known-reads : Triple 𝓤 (𝓣.C #reads) (Reads 𝓛 mem run)) (known-visits : Triple 𝓤 (𝓣.C #visits) (Visits 𝓛 mem run)) where
     abbrev C : Calls 𝓤 H
@@ -222,12 +222,12 @@ module _ {M : Type 1} {𝓤 : Ura M} (𝓛 : Logic 𝓤) (mem : Memory → SProp
           move ! (1 ∷ []) $ use1 𝓛 (‵ Own ⊛ ‵ Own) ((shr_slice_copy 𝓛 (named 0) κ T.the_row).twice s (v ∷ [])) $ split ! $ nothing ! $ owned ! usize (Is usize) (uint_Makes 𝓛 w64) i.0 _ (refl, fits i) $ move ! (1 ∷ []) $ move ! (1 ∷ 0 ∷ []) $ fjoin ! $ move ! (1 ∷ 0 ∷ []) $ fjoin ! $ move ! (2 ∷ 0 ∷ []) $ use2 𝓛 (raw ((Reads 𝓛 mem run).pre (to_reads i.0))) (asked-reads i.0 less) $
           calls_at ! fm (Reads 𝓛 mem run) known-reads (to_reads i.0) (and_then ! (load ! (from ! (stop !)) (look ! 14 refl)) (and_then ! (load ! (from ! (stop !)) (look ! 10 refl)) (no_more !))) (λ u.
           use1 𝓛 (later (some (λ (r : Mate). (Toks ⊛ ‵ ((Q.the_row).own_val r (u ∷ []))) ⊛ raw (ensured 𝓛 reads.ended (reads.clauses 𝓛 mem run) (κ, tt) (s, (i.0, tt)) tt r)))) (id⊢ 𝓤 _) $ await ! tt $ pick ! (λ r.
-          split ! $ move ! (1 ∷ []) $ use1 𝓛 (raw (fact 𝓤 (r ≡ mateOf s.now i.0))) (said-reads i.0 r) $ heard ! (r ≡ mateOf s.now i.0) (λ e₁. split ! $ move ! (1 ∷ []) $
+          split ! $ move ! (1 ∷ []) $ use1 𝓛 (raw (fact 𝓤 (r ≡ mate_of s.now i.0))) (said-reads i.0 r) $ heard ! (r ≡ mate_of s.now i.0) (λ e₁. split ! $ move ! (1 ∷ []) $
           peeks ! Q.the_row (Is Q.the_row) (shows 𝓛 Q.the_row) r (u ∷ []) (λ is. land ! (from ! (stop !)) (init ! 5 refl ((LL.lawful Q.the_type Q'.the_laws 𝓛).typed r _ is).0) $
           move ! (4 ∷ []) $ use1 𝓛 (Rest ⊛ Rest) rest-twice $ split ! $ owned ! usize (Is usize) (uint_Makes 𝓛 w64) i.0 _ (refl, fits i) $ move ! (1 ∷ []) $ move ! (1 ∷ 0 ∷ []) $ fjoin ! $ move ! (2 ∷ 0 ∷ []) $ fjoin ! $ move ! (4 ∷ 0 ∷ []) $ fjoin ! $ nothing ! $ use2 𝓛 (raw ((Visits 𝓛 mem run).pre (to-visits i.0 r u))) (asked-visits i.0 r u) $
           calls_at ! fm (Visits 𝓛 mem run) known-visits (to-visits i.0 r u) (and_then ! (load ! (from ! (stop !)) (look ! 12 refl)) (and_then ! (load ! (from ! (stop !)) (look ! 4 refl)) (and_then ! (load ! (from ! (stop !)) (look ! 10 refl)) (no_more !)))) (λ u'.
           use1 𝓛 (later (some (λ (r' : PairAnswer). (‵ ftrue ⊛ ‵ ((S.the_row).own_val r' (u' ∷ []))) ⊛ raw (ensured 𝓛 visits.ended (visits.clauses 𝓛 mem run) tt (upto i.0, (r, (i.0, y))) tt r')))) (id⊢ 𝓤 _) $ await ! tt $ pick ! (λ r'.
-          split ! $ move ! (1 ∷ []) $ use1 𝓛 (raw (fact 𝓤 (r' ≡ pairVisit (upto i.0) r i.0))) (said-visits i.0 r u r') $ heard ! (r' ≡ pairVisit (upto i.0) r i.0) (λ e₂. split ! $ drop ! $
+          split ! $ move ! (1 ∷ []) $ use1 𝓛 (raw (fact 𝓤 (r' ≡ pair_visit (upto i.0) r i.0))) (said-visits i.0 r u r') $ heard ! (r' ≡ pair_visit (upto i.0) r i.0) (λ e₂. split ! $ drop ! $
           peeks ! S.the_row (Is S.the_row) (shows 𝓛 S.the_row) r' (u' ∷ []) (λ is'. land ! (from ! (stop !)) (store ! 12 refl ((LL.lawful S.the_type S'.the_laws 𝓛).typed r' _ is').0) $
           assigns_last ! (bin ! (load ! (from ! (stop !)) (look ! 10 refl)) (lit ! tt) (record { fits = fits (next i less) })) (from ! (stop !)) (store ! 10 refl (tt, record { fits = fits (next i less) })) $ forget ! 4 refl $ forget ! 6 refl $ forget ! 8 refl $
           rewrite ! 0 (λ (us : List Val). ‵ ((S.the_row).own_val r' us)) (LL.tells S.the_type S'.the_laws r' (u' ∷ []) is') refl $ rewrite ! 0 (λ (t : PairAnswer). ‵ ((S.the_row).own_val t (LL.vals S.the_type S'.the_laws t))) (is-next i r r' e₁ e₂) refl $ rewrite ! 12 (λ (us : List Val). ‵ (fat full_share S'.mir l2 0 (only us))) (LL.tells S.the_type S'.the_laws r' (u' ∷ []) is') refl $ rewrite ! 12 (λ (t : PairAnswer). ‵ (fat full_share S'.mir l2 0 (only (LL.vals S.the_type S'.the_laws t)))) (is-next i r r' e₁ e₂) refl $

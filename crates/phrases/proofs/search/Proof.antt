@@ -1,5 +1,5 @@
 -- `phrases::search` meets its contract: a walk of its MIR, by hand, with a loop. Each turn calls `phrase_at` on the slice and the index, and `visit` on what it gives. The slice itself is never opened here.
--- The invariant at i: the local s holds `searchTo` of the first i records. What s owns is carried, so nothing is proved of its fields. Assumes nothing.
+-- The invariant at i: the local s holds `search_to` of the first i records. What s owns is carried, so nothing is proved of its fields. Assumes nothing.
 use mathlib.Core.Path.{◌≡◌, refl, sym, ap, ◌∙◌}
 use Prim.Native.Nat.{ℕ, ◌+◌, ◌-◌, ◌≤◌, ◌<◌, ◌^◌, zero-le}
 use native.Mathlib.Nat.{eq-or-lt_of_le, lt_of_le_of_lt}
@@ -50,7 +50,7 @@ use denote.Triple.Walked.{says, Stays, stay_none, stay_none_slice, walk_of, AllG
 use denote.Exit.{yes}
 use denote.Struct.Laws as LL
 use Rattle.records.specs.Records.{none}
-use Rattle.records.specs.Folds.{visitOf, searchTo}
+use Rattle.records.specs.Folds.{visit_of, search_to}
 use Rattle.phrases.specs.Laws.{search-all}
 use Rattle.records.specs.declared.Phrase.{Phrase}
 use Rattle.records.specs.declared.PhraseAnswer.{PhraseAnswer}
@@ -118,7 +118,7 @@ module _ {M : Type 1} {𝓤 : Ura M} (𝓛 : Logic 𝓤) (mem : Memory → SProp
   ys = (LL.vals P2.the_type P2'.the_laws y.0, tt)
 
   abbrev upto : ℕ → PhraseAnswer
-  upto i = searchTo s.now y.0 i
+  upto i = search_to s.now y.0 i
 
   abbrev at : Vals self.signature (κ, tt)
   at = (v ∷ [], ys)
@@ -165,8 +165,8 @@ module _ {M : Type 1} {𝓤 : Ura M} (𝓛 : Logic 𝓤) (mem : Memory → SProp
   asked-visits : (i : ℕ) (p : Phrase) (u : Val) → ent 𝓤 (⋆ 𝓛 (‵ ftrue ∷ ‵ (owns (S.the_row ∷ T.the_row ∷ usize ∷ P2.the_row ∷ []) (upto i, (p, (i, y))) (sval (upto i) ∷ [], (u ∷ [], (vint w64 i ∷ [], ys)))) ∷ [])) ((Visits 𝓛 mem run).pre (to-visits i p u))
   asked-visits i p u = qed 𝓛 (‵ ftrue ∷ ‵ (owns (S.the_row ∷ T.the_row ∷ usize ∷ P2.the_row ∷ []) (upto i, (p, (i, y))) (sval (upto i) ∷ [], (u ∷ [], (vint w64 i ∷ [], ys)))) ∷ []) ∵ join ! $ frame ! $ done !
 
-  said-visits : (i : ℕ) (p : Phrase) (u : Val) (r : PhraseAnswer) → ent 𝓤 (ensured 𝓛 visits.ended (visits.clauses 𝓛 mem run) tt (upto i, (p, (i, y))) tt r) (fact 𝓤 (r ≡ visitOf (upto i) p i y.0))
-  said-visits i p u r = ex_e 𝓤 _ (λ ws. snd∗ 𝓤 (sem 𝓛 (lasts visits.ended tt (upto i, (p, (i, y))) ws)) (fact 𝓤 (r ≡ visitOf (upto i) p i y.0)))
+  said-visits : (i : ℕ) (p : Phrase) (u : Val) (r : PhraseAnswer) → ent 𝓤 (ensured 𝓛 visits.ended (visits.clauses 𝓛 mem run) tt (upto i, (p, (i, y))) tt r) (fact 𝓤 (r ≡ visit_of (upto i) p i y.0))
+  said-visits i p u r = ex_e 𝓤 _ (λ ws. snd∗ 𝓤 (sem 𝓛 (lasts visits.ended tt (upto i, (p, (i, y))) ws)) (fact 𝓤 (r ≡ visit_of (upto i) p i y.0)))
 
   exits : (i : ℕ) → i ≡ n → ent 𝓤 (⋆ 𝓛 (Toks ∷ ‵ Own ∷ Has i ∷ Rest ∷ [])) (Post (sval (upto i)))
   exits i ei =
@@ -186,8 +186,8 @@ module _ {M : Type 1} {𝓤 : Ura M} (𝓛 : Logic 𝓤) (mem : Memory → SProp
   abbrev next : (i : Upto) → i.0 < n → Upto
   next i less = (i.0 + 1, add-one-le less)
 
-  is-next : (i : Upto) (r : Phrase) (r' : PhraseAnswer) → r ≡ get_or s.now i.0 none → r' ≡ visitOf (upto i.0) r i.0 y.0 → r' ≡ upto (i.0 + 1)
-  is-next i r r' e₁ e₂ = e₂ ∙ ap (λ (p : Phrase). visitOf (upto i.0) p i.0 y.0) e₁ ∙ sym (ap upto (add-one i.0))
+  is-next : (i : Upto) (r : Phrase) (r' : PhraseAnswer) → r ≡ get_or s.now i.0 none → r' ≡ visit_of (upto i.0) r i.0 y.0 → r' ≡ upto (i.0 + 1)
+  is-next i r r' e₁ e₂ = e₂ ∙ ap (λ (p : Phrase). visit_of (upto i.0) p i.0 y.0) e₁ ∙ sym (ap upto (add-one i.0))
 
   module _ (n-fits : n < 2 ^ 64) (𝓣 : Tables 𝓤 H) (known-starts : Triple 𝓤 (𝓣.C #starts) (Starts 𝓛 mem run)) (known-reads : Triple 𝓤 (𝓣.C #reads) (Reads 𝓛 mem run)) (known-visits : Triple 𝓤 (𝓣.C #visits) (Visits 𝓛 mem run)) where
     abbrev C : Calls 𝓤 H
@@ -228,7 +228,7 @@ module _ {M : Type 1} {𝓤 : Ura M} (𝓛 : Logic 𝓤) (mem : Memory → SProp
           move ! (4 ∷ []) $ use1 𝓛 (Rest ⊛ Rest) rest-twice $ split ! $ owned ! usize (Is usize) (uint_Makes 𝓛 w64) i.0 _ (refl, fits i) $ move ! (1 ∷ []) $ move ! (1 ∷ 0 ∷ []) $ fjoin ! $ move ! (2 ∷ 0 ∷ []) $ fjoin ! $ move ! (4 ∷ 0 ∷ []) $ fjoin ! $ nothing ! $ use2 𝓛 (raw ((Visits 𝓛 mem run).pre (to-visits i.0 r u))) (asked-visits i.0 r u) $
           calls_at ! fm (Visits 𝓛 mem run) known-visits (to-visits i.0 r u) (and_then ! (load ! (from ! (stop !)) (look ! 12 refl)) (and_then ! (load ! (from ! (stop !)) (look ! 4 refl)) (and_then ! (load ! (from ! (stop !)) (look ! 10 refl)) (and_then ! (load ! (from ! (stop !)) (look ! 14 refl)) (no_more !))))) (λ u'.
           use1 𝓛 (later (some (λ (r' : PhraseAnswer). (‵ ftrue ⊛ ‵ ((S.the_row).own_val r' (u' ∷ []))) ⊛ raw (ensured 𝓛 visits.ended (visits.clauses 𝓛 mem run) tt (upto i.0, (r, (i.0, y))) tt r')))) (id⊢ 𝓤 _) $ await ! tt $ pick ! (λ r'.
-          split ! $ move ! (1 ∷ []) $ use1 𝓛 (raw (fact 𝓤 (r' ≡ visitOf (upto i.0) r i.0 y.0))) (said-visits i.0 r u r') $ heard ! (r' ≡ visitOf (upto i.0) r i.0 y.0) (λ e₂. split ! $ drop ! $
+          split ! $ move ! (1 ∷ []) $ use1 𝓛 (raw (fact 𝓤 (r' ≡ visit_of (upto i.0) r i.0 y.0))) (said-visits i.0 r u r') $ heard ! (r' ≡ visit_of (upto i.0) r i.0 y.0) (λ e₂. split ! $ drop ! $
           peeks ! S.the_row (Is S.the_row) (shows 𝓛 S.the_row) r' (u' ∷ []) (λ is'. land ! (from ! (stop !)) (store ! 12 refl ((LL.lawful S.the_type S'.the_laws 𝓛).typed r' _ is').0) $
           assigns_last ! (bin ! (load ! (from ! (stop !)) (look ! 10 refl)) (lit ! tt) (record { fits = fits (next i less) })) (from ! (stop !)) (store ! 10 refl (tt, record { fits = fits (next i less) })) $ forget ! 4 refl $ forget ! 6 refl $ forget ! 8 refl $
           rewrite ! 0 (λ (us : List Val). ‵ ((S.the_row).own_val r' us)) (LL.tells S.the_type S'.the_laws r' (u' ∷ []) is') refl $ rewrite ! 0 (λ (t : PhraseAnswer). ‵ ((S.the_row).own_val t (LL.vals S.the_type S'.the_laws t))) (is-next i r r' e₁ e₂) refl $ rewrite ! 12 (λ (us : List Val). ‵ (fat full_share S'.mir l3 0 (only us))) (LL.tells S.the_type S'.the_laws r' (u' ∷ []) is') refl $ rewrite ! 12 (λ (t : PhraseAnswer). ‵ (fat full_share S'.mir l3 0 (only (LL.vals S.the_type S'.the_laws t)))) (is-next i r r' e₁ e₂) refl $

@@ -8,16 +8,16 @@ use lib.ListN.{drop, length, length-take, length-drop}
 use Rattle.lists.specs.Fill.{Filling}
 use Rattle.lists.specs.Join.{joined, stretch-inside, join-begins, join-turn, join-ends}
 use Rattle.timing.specs.Fields.{rows_of}
-use Rattle.line.specs.Line.{rowFor}
-use Rattle.picture.specs.Agree.{scan-few, shapedAt, plan-visible, plan-small, line_row, line-room, line-width, as-line-at, lined}
+use Rattle.line.specs.Line.{row_for}
+use Rattle.picture.specs.Agree.{scan-few, shaped_at, plan-visible, plan-small, line_row, line-room, line-width, as-line-at, lined}
 use Rattle.picture.proofs.by_lines.Statement.{statement}
 use Rattle.picture.proofs.by_lines.Tie as tie
 
 abbrev invariant-loop : tie.invariant-loop
 invariant-loop out₀ b chars attrs words flags lines field n width l₀ out l =
     (l ≤ n)
-    × Filling (joined 0 n (shapedAt b chars attrs words flags lines field) ++ drop (n * width) out₀) out₀ (n * width) out (l * width)
-    (joined l (n - l) (shapedAt b chars attrs words flags lines field))
+    × Filling (joined 0 n (shaped_at b chars attrs words flags lines field) ++ drop (n * width) out₀) out₀ (n * width) out (l * width)
+    (joined l (n - l) (shaped_at b chars attrs words flags lines field))
 
 abbrev decreases-loop : tie.decreases-loop
 decreases-loop out₀ b chars attrs words flags lines field n width l₀ out l = n - l
@@ -29,10 +29,10 @@ begin k = k.before.before.before.before.before.before.before
 abbrev start : tie.In-loop invariant-loop decreases-loop → tie.Start invariant-loop decreases-loop
 start c = begin c.before.before
 
-abbrev drawnAt : tie.Start invariant-loop decreases-loop → ℕ → List ℕ
-drawnAt c = shapedAt c.args.b c.args.chars.now c.args.attrs.now c.args.words.now c.args.flags.now c.args.lines c.args.field
+abbrev drawn_at : tie.Start invariant-loop decreases-loop → ℕ → List ℕ
+drawn_at c = shaped_at c.args.b c.args.chars.now c.args.attrs.now c.args.words.now c.args.flags.now c.args.lines c.args.field
 
-wide : (c : tie.Start invariant-loop decreases-loop) (l : ℕ) → length (drawnAt c l) ≡ c.args.p.width
+wide : (c : tie.Start invariant-loop decreases-loop) (l : ℕ) → length (drawn_at c l) ≡ c.args.p.width
 wide c = line-width c.args.b _ _ _ _ c.args.lines c.args.field _ c.requires.1.1 c.requires.0.page
 
 times-requires : tie.Need-times-requires invariant-loop decreases-loop
@@ -60,7 +60,7 @@ few c = omega (arith, c.loop-test.true, counted c.before.before)
 loop-holds : tie.Need-loop-init invariant-loop decreases-loop
 loop-holds c =
     let start = begin c in
-    (omega arith, join-begins (drawnAt start) _ (wide start) _ _)
+    (omega arith, join-begins (drawn_at start) _ (wide start) _ _)
 
 mul-a : tie.Need-overflow-mul-a invariant-loop decreases-loop
 mul-a c = omega (arith, room c)
@@ -68,7 +68,7 @@ mul-a c = omega (arith, room c)
 cast-t19 : tie.Need-overflow-cast-t19 invariant-loop decreases-loop
 cast-t19 c = omega (arith, few c, plan-small _ _ (start c).requires.1.1 (start c).requires.0.page)
 
-visible : (c : tie.In-loop invariant-loop decreases-loop) → rowFor (start c).args.b c.before.loop.l < rows_of (start c).args.b.page
+visible : (c : tie.In-loop invariant-loop decreases-loop) → row_for (start c).args.b c.before.loop.l < rows_of (start c).args.b.page
 visible c = line_row (start c).args.b (start c).args.p (start c).requires.1.1 _ (few c)
 
 scan-for-requires : tie.Need-scan-for-requires invariant-loop decreases-loop
@@ -100,7 +100,7 @@ loop-again c =
     let i = scan.before in
     let k = start i in (
       omega (arith, i.loop-test.true),
-      join-turn (drawnAt k) _ (wide k) _ _ _ i.before.loop.invariant.1 i.loop-test.true (whole i.before.before)
+      join-turn (drawn_at k) _ (wide k) _ _ _ i.before.loop.invariant.1 i.loop-test.true (whole i.before.before)
           (as-line-at k.args.b _ _ _ _ k.args.lines k.args.field _ k.pre.1.1 _ _ _
           (rw (call.before.before.font-line-at.ensures, scan.scan-for.ensures) at call.whole-line.ensures)),
     )
@@ -113,7 +113,7 @@ returns c =
     let all = c.before.before in
     let k = begin all in
     lined k.args.b _ _ _ _ k.args.lines k.args.field _ k.pre.1.1 _ _
-    (rw (counted all) at (join-ends (drawnAt k) _ (wide k) _ _ c.before.loop.invariant.1 (omega arith) (omega arith)))
+    (rw (counted all) at (join-ends (drawn_at k) _ (wide k) _ _ c.before.loop.invariant.1 (omega arith) (omega arith)))
 
 pub by-lines-spec : {M : Type 1} → statement M
 by-lines-spec =

@@ -8,15 +8,15 @@ use borrow.Author.Rules.{rules}
 use lib.ListN.{drop, length, get_or, length-take, length-drop}
 use Rattle.lists.specs.Join.{joined, stretch-inside}
 use Rattle.picture.specs.Spill.{Spilling, spill-begins, spill-turn, spill-ends}
-use Rattle.picture.specs.Plan.{cellFrom, length-cell, front-cell, length-stored, as-cell}
+use Rattle.picture.specs.Plan.{cell_from, length-cell, front-cell, length-stored, as-cell}
 use Rattle.picture.proofs.draw_cells.Statement.{statement}
 use Rattle.picture.proofs.draw_cells.Tie as tie
 
 abbrev invariant-loop : tie.invariant-loop
 invariant-loop out₀ p cells shown looks inks scan n last d i₀ out i =
     (i ≤ last)
-    × Spilling (joined 0 (last + 1) (cellFrom cells shown looks d scan.0) ++ drop ((last + 1) * d) out₀) out₀ ((last + 1) * d) out (i * d) d
-    (joined i (last + 1 - i) (cellFrom cells shown looks d scan.0))
+    × Spilling (joined 0 (last + 1) (cell_from cells shown looks d scan.0) ++ drop ((last + 1) * d) out₀) out₀ ((last + 1) * d) out (i * d) d
+    (joined i (last + 1 - i) (cell_from cells shown looks d scan.0))
 
 abbrev decreases-loop : tie.decreases-loop
 decreases-loop out₀ p cells shown looks inks scan n last d i₀ out i = last - i
@@ -119,7 +119,7 @@ returns c =
     let a = (begin k).args in
     let at : l.before.loop.i ≡ a.n - 1 = omega (arith, l.before.loop.invariant.0, l.loop-test.false) in
     spill-ends _ _ (length-cell _ _ _ _ _) _ _ _ (rw at at l.before.loop.invariant.1) refl (rw (all k) (whole k)) (as-cell a.cells.now a.shown.now a.looks.now _ _ _ _ _ (rw (sym k.places.ensures) at put.put2.ensures))
-    ∙ ap₂ (λ (n d : ℕ). joined 0 n (cellFrom a.cells.now a.shown.now a.looks.now d a.scan.0) ++ drop (n * d) a.out.now) (all k) k.places.ensures
+    ∙ ap₂ (λ (n d : ℕ). joined 0 n (cell_from a.cells.now a.shown.now a.looks.now d a.scan.0) ++ drop (n * d) a.out.now) (all k) k.places.ensures
 
 pub draw-cells-spec : {M : Type 1} → statement M
 draw-cells-spec =

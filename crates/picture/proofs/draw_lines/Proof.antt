@@ -8,15 +8,15 @@ use lib.ListN.{drop, length, length-take, length-drop}
 use Rattle.lists.specs.Fill.{Filling}
 use Rattle.lists.specs.Join.{joined, stretch-inside, join-begins, join-turn, join-ends}
 use Rattle.dots.specs.Half.{cells_same}
-use Rattle.picture.specs.Plan.{lineFrom, length-line, as_line}
+use Rattle.picture.specs.Plan.{line_from, length-line, as_line}
 use Rattle.picture.proofs.draw_lines.Statement.{statement}
 use Rattle.picture.proofs.draw_lines.Tie as tie
 
 abbrev invariant-loop : tie.invariant-loop
 invariant-loop out₀ p k cells shown looks inks n width wide s₀ out s =
     (s ≤ n)
-    × Filling (joined 0 n (lineFrom p k cells shown looks) ++ drop (n * width) out₀) out₀ (n * width) out (s * width)
-    (joined s (n - s) (lineFrom p k cells shown looks))
+    × Filling (joined 0 n (line_from p k cells shown looks) ++ drop (n * width) out₀) out₀ (n * width) out (s * width)
+    (joined s (n - s) (line_from p k cells shown looks))
 
 abbrev decreases-loop : tie.decreases-loop
 decreases-loop out₀ p k cells shown looks inks n width wide s₀ out s = n - s

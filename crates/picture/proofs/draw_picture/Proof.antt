@@ -4,9 +4,9 @@ use borrow.Author.Rules.{rules}
 use lib.ListN.{length}
 use Rattle.refusal.specs.declared.Refusal.{Refusal}
 use Rattle.refusal.specs.Laws.{done-is, checked}
-use Rattle.shape.specs.Font.{Font, fontOf}
-use Rattle.video.specs.At.{lentCheck}
-use Rattle.picture.specs.Picture.{pictureCheck}
+use Rattle.shape.specs.Font.{Font, font_of}
+use Rattle.video.specs.At.{lent_check}
+use Rattle.picture.specs.Picture.{picture_check}
 use Rattle.picture.specs.Agree.{picture-passed, as-picture, left-pictured, left_alone}
 use Rattle.picture.proofs.draw_picture.Statement.{statement}
 use Rattle.picture.proofs.draw_picture.Tie as tie
@@ -16,13 +16,13 @@ abbrev begin : tie.After-picture-check → tie.Start
 begin c = c.before.before.before.before.before.before.before.before.before.before
 
 abbrev font : tie.After-picture-check → Font
-font c = fontOf (begin c).args.words.now (begin c).args.flags.now (begin c).args.unshifted.now (begin c).args.shifted.now (begin c).args.groups.now
+font c = font_of (begin c).args.words.now (begin c).args.flags.now (begin c).args.unshifted.now (begin c).args.shifted.now (begin c).args.groups.now
 
 check : (c : tie.After-picture-check)
-    → c.picture-check.result ≡ pictureCheck (begin c).args.b (lentCheck (begin c).args.chars.now (begin c).args.attrs.now (font c)) (length (begin c).args.out.now)
+    → c.picture-check.result ≡ picture_check (begin c).args.b (lent_check (begin c).args.chars.now (begin c).args.attrs.now (font c)) (length (begin c).args.out.now)
 check c =
     c.picture-check.ensures
-    ∙ ap (λ (lent : Refusal). pictureCheck (begin c).args.b lent (length (begin c).args.out.now)) c.before.lent-check.ensures
+    ∙ ap (λ (lent : Refusal). picture_check (begin c).args.b lent (length (begin c).args.out.now)) c.before.lent-check.ensures
 
 whole-picture-requires : tie.Need-whole-picture-requires
 whole-picture-requires c κs =

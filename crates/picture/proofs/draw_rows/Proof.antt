@@ -10,7 +10,7 @@ use Rattle.lists.specs.Join.{joined, stretch-inside, join-begins, join-turn, joi
 use Rattle.fetch.specs.Laws.{row-start-lt}
 use Rattle.latch.specs.Held.{held_at}
 use Rattle.latch.specs.Laws.{held_first}
-use Rattle.picture.specs.Plan.{rowDrawn, length-row, as-row-at, counted, carried_on}
+use Rattle.picture.specs.Plan.{row_drawn, length-row, as-row-at, counted, carried_on}
 use Rattle.picture.specs.Agree.{plan-rows}
 use Rattle.picture.proofs.draw_rows.Statement.{statement}
 use Rattle.picture.proofs.draw_rows.Tie as tie
@@ -18,8 +18,8 @@ use Rattle.picture.proofs.draw_rows.Tie as tie
 abbrev invariant-loop : tie.invariant-loop
 invariant-loop out₀ p page chars attrs shown looks inks n size held₀ r₀ out held r =
     (r ≤ n)
-    × Filling (joined 0 n (rowDrawn p page chars attrs shown looks) ++ drop (n * size) out₀) out₀ (n * size) out (r * size)
-    (joined r (n - r) (rowDrawn p page chars attrs shown looks))
+    × Filling (joined 0 n (row_drawn p page chars attrs shown looks) ++ drop (n * size) out₀) out₀ (n * size) out (r * size)
+    (joined r (n - r) (row_drawn p page chars attrs shown looks))
     × (held ≡ held_at page chars attrs r 0)
 
 abbrev decreases-loop : tie.decreases-loop

@@ -3,18 +3,18 @@ use Prim.Native.Nat.{◌*◌, ◌≤◌}
 use native.Mathlib.Nat.{mul-le-mul}
 use native.Mathlib.Omega.{arith}
 use borrow.Author.Rules.{rules}
-use Rattle.timing.specs.Fields.{timingOf, countsOf}
+use Rattle.timing.specs.Fields.{timing_of, counts_of}
 use Rattle.timing.specs.Laws.{lines-le, dots-bound}
 use Rattle.picture.specs.Plan.{plan_of}
 use Rattle.picture.proofs.plan_of.Statement.{statement}
 use Rattle.picture.proofs.plan_of.Tie as tie
 
 width-le : (c : tie.After-timing-of) → c.timing-of.result.counts.hact.0 * c.before.args.p.video.dots.0 ≤ 3072
-unfolding timingOf countsOf
+unfolding timing_of counts_of
 width-le c = rw c.timing-of.ensures (dots-bound c.before.args.p c.before.requires)
 
 few-lines : (c : tie.After-timing-of) → c.timing-of.result.counts.lines.0 ≤ 16
-unfolding timingOf countsOf
+unfolding timing_of counts_of
 few-lines c = rw c.timing-of.ensures (lines-le _)
 
 dots-of-requires : tie.Need-dots-of-requires
@@ -26,7 +26,7 @@ mul-size c =
     rw (c.places2.ensures, c.before.places.ensures, c.before.before.dots-of.ensures) (omega (arith, mul-le-mul (few-lines k) (width-le k)))
 
 returns : tie.Need-returns
-unfolding plan_of timingOf countsOf
+unfolding plan_of timing_of counts_of
 returns c =
     let sized = c.before.before.before in
     rw (

@@ -1,7 +1,7 @@
 -- Rests on put_cell, for the word and the look of the cell.
 use native.Mathlib.Omega.{arith}
 use borrow.Author.Rules.{rules}
-use Rattle.picture.specs.Plan.{cellDotsOf}
+use Rattle.picture.specs.Plan.{cell_dots_of}
 use Rattle.picture.proofs.put.Statement.{statement}
 use Rattle.picture.proofs.put.Tie as tie
 
@@ -13,7 +13,7 @@ put-cell-requires c κs =
     (sheet.inks-are, sheet.looks-few _ _ start.requires.0.1 (omega (arith, start.requires.0.2)), sheet.least, sheet.most, start.requires.1)
 
 returns : tie.Need-returns
-unfolding cellDotsOf
+unfolding cell_dots_of
 returns c =
     let put = c.before.before in
     rw (put.before.places2.ensures, put.before.before.before.before.before.places.ensures) at put.put-cell.ensures

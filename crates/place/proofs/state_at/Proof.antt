@@ -1,10 +1,10 @@
 -- Rests on state-whole: what place_at asks follows from the check.
 use Rattle.std.proofs.Common.{◌≡◌, false, ap, ◌∙◌, rules}
 use Rattle.refusal.specs.declared.Refusal.{Refusal}
-use Rattle.refusal.specs.Number.{wrongSize}
+use Rattle.refusal.specs.Number.{wrong_size}
 use Rattle.refusal.specs.Laws.{done-is, checked}
-use Rattle.timing.specs.Check.{callCheck}
-use Rattle.place.specs.State.{stateCheck, state_of}
+use Rattle.timing.specs.Check.{call_check}
+use Rattle.place.specs.State.{state_check, state_of}
 use Rattle.place.specs.Laws.{state-whole}
 use Rattle.place.proofs.state_at.Statement.{statement}
 use Rattle.place.proofs.state_at.Tie as tie
@@ -13,8 +13,8 @@ use Rattle.place.proofs.state_at.Tie as tie
 abbrev begin : tie.After-call-check → tie.Start
 begin c = c.before.before.before.before.before
 
-check : (c : tie.After-call-check) → c.call-check.result ≡ stateCheck (begin c).args.b (begin c).args.chars.now (begin c).args.attrs.now
-check c = c.call-check.ensures ∙ ap (λ (lent : Refusal). callCheck (begin c).args.b lent false false) (c.before.wrong_size.ensures ∙ ap wrongSize c.before.before.memories-refused.ensures)
+check : (c : tie.After-call-check) → c.call-check.result ≡ state_check (begin c).args.b (begin c).args.chars.now (begin c).args.attrs.now
+check c = c.call-check.ensures ∙ ap (λ (lent : Refusal). call_check (begin c).args.b lent false false) (c.before.wrong_size.ensures ∙ ap wrong_size c.before.before.memories-refused.ensures)
 
 place-at-requires : tie.Need-place-at-requires
 place-at-requires c κs =

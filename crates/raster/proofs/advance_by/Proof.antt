@@ -6,7 +6,7 @@ use native.Mathlib.Omega.{arith}
 use borrow.Author.Rules.{rules}
 use mir.Syntax.{w32}
 use mir.Val.{Fits}
-use Rattle.raster.specs.Moves.{cell, toLast, around, by_near, by-far}
+use Rattle.raster.specs.Moves.{cell, to_last, around, by_near, by-far}
 use Rattle.raster.proofs.advance_by.Statement.{statement}
 use Rattle.raster.proofs.advance_by.Tie as tie
 
@@ -20,14 +20,14 @@ sum_fits first x y h =
     omega (arith, mod-lt x p)
 
 returns : tie.Need-returns
-unfolding toLast
+unfolding to_last
 returns c = ap cell (wrapped _ _ ∙ sym (by_near _ _ _ c.if1.true))
 
 add-t10 : tie.Need-overflow-add-t10
 add-t10 c = sum_fits _ _ _ (search rules)
 
 returns-2 : tie.Need-returns-2
-unfolding toLast around
+unfolding to_last around
 returns-2 c = ap cell (sym (by-far _ _ _ (search rules)))
 
 pub advance-by-spec : {M : Type 1} → statement M

@@ -3,7 +3,7 @@ use mathlib.Core.Path.{ap, ◌∙◌}
 use native.Mathlib.Omega.{arith}
 use borrow.Author.Rules.{rules}
 use lib.ListN.{length}
-use Rattle.refusal.specs.Number.{number_of, besideOf}
+use Rattle.refusal.specs.Number.{number_of, beside_of}
 use Rattle.refusal.specs.Laws.{done-is, checked}
 use Rattle.timing.specs.Laws.{buffer-bounded}
 use Rattle.fetch.specs.Laws.{Run, run-passed, row-start-lt, span-number}
@@ -41,7 +41,7 @@ returns-2 c =
     let else = c.before.before in
     let same = span-number _ _ _ _ else.before.before.Span-of.ensures.0 in
     asked-refused _ _ _ (checked same else.before.is-done.ensures else.if1.false)
-    (c.before.number.ensures ∙ ap number_of same) (c.beside.ensures ∙ ap besideOf same)
+    (c.before.number.ensures ∙ ap number_of same) (c.beside.ensures ∙ ap beside_of same)
 
 pub row-asked-spec : {M : Type 1} → statement M
 row-asked-spec =

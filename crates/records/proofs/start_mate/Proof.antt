@@ -1,10 +1,10 @@
 use borrow.Author.Rules.{rules}
-use Rattle.records.specs.Folds.{mateStart}
+use Rattle.records.specs.Folds.{mate_start}
 use Rattle.records.proofs.start_mate.Statement.{statement}
 use Rattle.records.proofs.start_mate.Tie as tie
 
 returns : tie.Need-returns
-unfolding mateStart
+unfolding mate_start
 returns c = rw c.is-bad.ensures
 
 pub start-mate-spec : {M : Type 1} → statement M

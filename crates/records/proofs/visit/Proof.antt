@@ -5,7 +5,7 @@ use borrow.Author.Rules.{rules}
 use borrow.Author.Tests.{not-true}
 use lib.Dec.{eqb}
 use Rattle.lists.specs.Choice.{stop, pass, neither}
-use Rattle.records.specs.Folds.{visitOf, visit-on}
+use Rattle.records.specs.Folds.{visit_of, visit-on}
 use Rattle.records.proofs.visit.Statement.{statement}
 use Rattle.records.proofs.visit.Tie as tie
 
@@ -19,13 +19,13 @@ returns c =
     visit-on _ _ _ _ (sym c.before.before.is-bad.ensures ∙ none.0) (sym c.before.holds.ensures ∙ none.1)
 
 returns-2 : tie.Need-returns-2
-unfolding visitOf
+unfolding visit_of
 returns-2 c =
     let called = c.before.before.before in
     stop _ (said (eqb called.before.before.args.s.refusal 0) called.before.is-bad.ensures c.if2.true) refl
 
 returns-3 : tie.Need-returns-3
-unfolding visitOf
+unfolding visit_of
 returns-3 c =
     let first = c.before.before.before in
     let called = first.before.before.before in
@@ -34,7 +34,7 @@ returns-3 c =
     (stop _ (said (eqb s.refusal 0 && eqb s.found 0) called.holds.ensures c.if3.true) refl)
 
 returns-4 : tie.Need-returns-4
-unfolding visitOf
+unfolding visit_of
 returns-4 c =
     let first = c.before.before.before in
     let called = first.before.before.before in

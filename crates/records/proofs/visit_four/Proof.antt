@@ -4,7 +4,7 @@ use mathlib.Core.Bool.{true}
 use borrow.Author.Rules.{rules}
 use borrow.Author.Tests.{not-true}
 use Rattle.lists.specs.Choice.{stop, pass}
-use Rattle.records.specs.Folds.{mateOn, both-parts, four-on, four_is}
+use Rattle.records.specs.Folds.{mate_on, both-parts, four-on, four_is}
 use Rattle.records.proofs.visit_four.Statement.{statement}
 use Rattle.records.proofs.visit_four.Tie as tie
 
@@ -19,7 +19,7 @@ returns-2 c =
     let before = last.before.before in
     let asked = before.before.before.before.before in
     let args = asked.before.before.before.before.args in
-    stop args.s c.before.if2.true (ap (mateOn args.s.bad true) c.first-four.ensures)
+    stop args.s c.before.if2.true (ap (mate_on args.s.bad true) c.first-four.ensures)
     ∙ four_is args.s args.a args.b args.c args.d args.i args.o
     (both-parts _ _ asked.before.before.before.same-label.ensures before.before.before.apart.ensures)
     (both-parts _ _ asked.before.before.same-label2.ensures before.before.apart2.ensures)

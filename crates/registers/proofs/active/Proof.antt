@@ -1,4 +1,4 @@
--- Rests on the match over addresses: each arm is one case of activeOf.
+-- Rests on the match over addresses: each arm is one case of active_of.
 use Prim.Native.Nat.{◌≤◌}
 use mathlib.Core.Path.{refl, ap, ◌∙◌}
 use native.Mathlib.Omega.{arith}
@@ -7,23 +7,23 @@ use borrow.Author.Rules.{rules}
 use Rattle.lists.specs.Choice.{stop, pass, inside, over}
 use Rattle.refusal.specs.declared.Refusal.TheVariants.{Done}
 use Rattle.registers.specs.Answers.{answer}
-use Rattle.registers.specs.Write.{activeOf}
+use Rattle.registers.specs.Write.{active_of}
 use Rattle.registers.proofs.active.Statement.{statement}
 use Rattle.registers.proofs.active.Tie as tie
 
 returns : tie.Need-returns
-unfolding activeOf
+unfolding active_of
 returns c = stop _ (eq-eqb _ _ c.before.before.match.keys1) (c.done.ensures ∙ ap (answer Done) c.before.loaded.ensures)
 
 returns-2 : tie.Need-returns-2
-unfolding activeOf
+unfolding active_of
 returns-2 c =
     let a = c.before.before.args.a in
     pass _ (ne_eqb a 0 (λ e. omega (arith, c.before.match.keys2)))
     (stop _ (eq-eqb _ _ c.before.match.keys2) c.command.ensures)
 
 returns-3 : tie.Need-returns-3
-unfolding activeOf
+unfolding active_of
 returns-3 c =
     let r = c.before.before.before.match.rest in
     let a = c.before.before.before.before.args.a in
@@ -33,7 +33,7 @@ returns-3 c =
     (stop _ (inside 2 7 a two (omega arith)) (c.done2.ensures ∙ ap (answer Done) c.before.started.ensures)))
 
 returns-4 : tie.Need-returns-4
-unfolding activeOf
+unfolding active_of
 returns-4 c =
     let r = c.before.match.rest in
     let a = c.before.before.args.a in

@@ -1,11 +1,11 @@
 use mathlib.Core.Path.{refl}
 use borrow.Author.Rules.{rules}
-use Rattle.registers.specs.Write.{registerCheck}
+use Rattle.registers.specs.Write.{register_check}
 use Rattle.registers.proofs.register_check.Statement.{statement}
 use Rattle.registers.proofs.register_check.Tie as tie
 
 returns : tie.Need-returns
-unfolding registerCheck
+unfolding register_check
 returns c =
     rw (c.first-of-two.ensures, c.before.pointer-refused.ensures, c.before.before.address-refused.ensures) refl
 

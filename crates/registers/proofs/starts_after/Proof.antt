@@ -1,32 +1,32 @@
--- Rests on the match: each arm is one case of startsAfter.
+-- Rests on the match: each arm is one case of starts_after.
 use borrow.Author.Tests.{ne_eqb}
 use borrow.Author.Rules.{rules}
-use Rattle.registers.specs.Write.{startsAfter}
+use Rattle.registers.specs.Write.{starts_after}
 use Rattle.registers.proofs.starts_after.Statement.{statement}
 use Rattle.registers.proofs.starts_after.Tie as tie
 
 returns : tie.Need-returns
-unfolding startsAfter
+unfolding starts_after
 returns c = simp (c.before.match.keys1, c.lower.ensures)
 
 returns-2 : tie.Need-returns-2
-unfolding startsAfter
+unfolding starts_after
 returns-2 c = simp (c.before.match.keys2, c.upper.ensures)
 
 returns-3 : tie.Need-returns-3
-unfolding startsAfter
+unfolding starts_after
 returns-3 c = simp (c.before.match.keys3, c.lower2.ensures)
 
 returns-4 : tie.Need-returns-4
-unfolding startsAfter
+unfolding starts_after
 returns-4 c = simp (c.before.match.keys4, c.upper2.ensures)
 
 returns-5 : tie.Need-returns-5
-unfolding startsAfter
+unfolding starts_after
 returns-5 c = simp (c.before.match.keys5, c.lower3.ensures)
 
 returns-6 : tie.Need-returns-6
-unfolding startsAfter
+unfolding starts_after
 returns-6 c =
     let r = c.before.match.rest in
     simp

@@ -6,7 +6,7 @@ use Rattle.lists.specs.Choice.{stop, pass}
 use Rattle.refusal.specs.declared.Refusal.{Refusal}
 use Rattle.refusal.specs.Laws.{checked, done-is}
 use Rattle.registers.specs.Answers.{answer}
-use Rattle.registers.specs.Write.{writeOf}
+use Rattle.registers.specs.Write.{write_of}
 use Rattle.registers.specs.Laws.{pointer_in}
 use Rattle.registers.proofs.write.Statement.{statement}
 use Rattle.registers.proofs.write.Tie as tie
@@ -17,21 +17,21 @@ active-requires c κs =
     pointer_in _ (done-is _ (checked then.before.before.register-check.ensures then.before.is-done.ensures then.if1.true))
 
 returns : tie.Need-returns
-unfolding writeOf
+unfolding write_of
 returns c =
     let then = c.before.before.before in
     stop _ (checked then.before.before.register-check.ensures then.before.is-done.ensures then.if1.true)
     (stop _ (le-leb _ _ c.before.if2.true) c.active.ensures)
 
 returns-2 : tie.Need-returns-2
-unfolding writeOf
+unfolding write_of
 returns-2 c =
     let then = c.before.before.before in
     stop _ (checked then.before.before.register-check.ensures then.before.is-done.ensures then.if1.true)
     (pass _ (lt-leb _ _ c.before.if2.false) c.inactive.ensures)
 
 returns-3 : tie.Need-returns-3
-unfolding writeOf
+unfolding write_of
 returns-3 c =
     let check = c.before.before.register-check.ensures in
     pass _ (checked check c.before.is-done.ensures c.if1.false) (ap (λ (r : Refusal). answer r c.before.before.before.args.b) check)

@@ -6,12 +6,12 @@ use native.Mathlib.Omega.{arith}
 use borrow.Author.Rules.{rules}
 use lib.ListN.{length, drop, replicate}
 use Rattle.lists.specs.Tab.{tab, tab-turn, tab-ends}
-use Rattle.shape.specs.Font.{groupIn}
+use Rattle.shape.specs.Font.{group_in}
 use Rattle.shape.proofs.groups_of.Statement.{statement}
 use Rattle.shape.proofs.groups_of.Tie as tie
 
 abbrev invariant-loop : tie.invariant-loop
-invariant-loop groups all₀ s₀ all s = (s ≤ 16) × (length all ≡ 16) × (all ≡ tab s (groupIn groups) ++ drop s (replicate 16 0))
+invariant-loop groups all₀ s₀ all s = (s ≤ 16) × (length all ≡ 16) × (all ≡ tab s (group_in groups) ++ drop s (replicate 16 0))
 
 abbrev decreases-loop : tie.decreases-loop
 decreases-loop groups all₀ s₀ all s = 16 - s

@@ -9,23 +9,23 @@ use borrow.Author.Rules.{rules}
 use lib.Dec.{ltb}
 use lib.ListN.{length, get_or, drop, drop_of_length-le}
 use lib.Seq.{drop-cons}
-use Rattle.shape.specs.Font.{groupsRefused}
+use Rattle.shape.specs.Font.{groups_refused}
 use Rattle.shape.proofs.groups_refused.Statement.{statement}
 use Rattle.shape.proofs.groups_refused.Tie as tie
 
 abbrev invariant-loop : tie.invariant-loop
-invariant-loop groups above₀ i₀ above i = (i ≤ length groups) × ((above || groupsRefused (drop i groups)) ≡ groupsRefused groups)
+invariant-loop groups above₀ i₀ above i = (i ≤ length groups) × ((above || groups_refused (drop i groups)) ≡ groups_refused groups)
 
 abbrev decreases-loop : tie.decreases-loop
 decreases-loop groups above₀ i₀ above i = length groups - i
 
-module _ (gs : List ℕ) (i : ℕ) (above : Bool) (inv : (above || groupsRefused (drop i gs)) ≡ groupsRefused gs) where
-  on : i < length gs → ((above || ltb 4 (get_or gs i 0)) || groupsRefused (drop (i + 1) gs)) ≡ groupsRefused gs
-  unfolding groupsRefused
-  on h = or_assoc above (ltb 4 (get_or gs i 0)) (groupsRefused (drop (i + 1) gs)) ∙ rw (add-one i) (rw (drop-cons gs i 0) at inv)
+module _ (gs : List ℕ) (i : ℕ) (above : Bool) (inv : (above || groups_refused (drop i gs)) ≡ groups_refused gs) where
+  on : i < length gs → ((above || ltb 4 (get_or gs i 0)) || groups_refused (drop (i + 1) gs)) ≡ groups_refused gs
+  unfolding groups_refused
+  on h = or_assoc above (ltb 4 (get_or gs i 0)) (groups_refused (drop (i + 1) gs)) ∙ rw (add-one i) (rw (drop-cons gs i 0) at inv)
 
-  end : length gs ≤ i → above ≡ groupsRefused gs
-  unfolding groupsRefused
+  end : length gs ≤ i → above ≡ groups_refused gs
+  unfolding groups_refused
   end h = sym (or-false above) ∙ (rw (drop_of_length-le gs h) at inv)
 
 loop-holds : tie.Need-loop-init invariant-loop decreases-loop

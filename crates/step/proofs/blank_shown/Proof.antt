@@ -1,10 +1,10 @@
-use Rattle.step.specs.Shown.{blankShown}
+use Rattle.step.specs.Shown.{blank_shown}
 use borrow.Author.Rules.{rules}
 use Rattle.step.proofs.blank_shown.Statement.{statement}
 use Rattle.step.proofs.blank_shown.Tie as tie
 
 returns : tie.Need-returns
-unfolding blankShown
+unfolding blank_shown
 returns c = rw c.scene-of.ensures
 
 pub blank-shown-spec : {M : Type 1} → statement M

@@ -1,11 +1,11 @@
 -- Rests on the callees: what is valid, the code that is shown, its mode, its word and its look.
-use Rattle.step.specs.Shown.{cellShown}
+use Rattle.step.specs.Shown.{cell_shown}
 use borrow.Author.Rules.{rules}
 use Rattle.step.proofs.cell_shown.Statement.{statement}
 use Rattle.step.proofs.cell_shown.Tie as tie
 
 returns : tie.Need-returns
-unfolding cellShown
+unfolding cell_shown
 returns c =
     let valid = c.before.before.before.before.before in
     let scene = valid.before.before.before.before.before.before.before in

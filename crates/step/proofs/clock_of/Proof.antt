@@ -4,10 +4,10 @@ use mathlib.Core.Bool.{Bool, true, false}
 use Rattle.refusal.specs.declared.Refusal.{Refusal}
 use Rattle.refusal.specs.Laws.{done-is}
 use Rattle.refusal.specs.Number.{done_of}
-use Rattle.timing.specs.Check.{callCheck}
-use Rattle.step.specs.Step.{stepCheck}
-use Rattle.shape.specs.Font.{Font, fontOf}
-use Rattle.video.specs.At.{lentBy}
+use Rattle.timing.specs.Check.{call_check}
+use Rattle.step.specs.Step.{step_check}
+use Rattle.shape.specs.Font.{Font, font_of}
+use Rattle.video.specs.At.{lent_by}
 use Rattle.video.specs.Lent.{Lent, lent}
 use Rattle.step.specs.Laws.{clock-done, clock-refused}
 use borrow.Author.Rules.{rules}
@@ -19,13 +19,13 @@ abbrev begin : tie.After-clear → tie.Start
 begin c = c.before.before.before.before.before.before.before.before.before
 
 abbrev font : tie.After-clear → Font
-font c = fontOf (begin c).args.words.now (begin c).args.flags.now (begin c).args.unshifted.now (begin c).args.shifted.now (begin c).args.groups.now
+font c = font_of (begin c).args.words.now (begin c).args.flags.now (begin c).args.unshifted.now (begin c).args.shifted.now (begin c).args.groups.now
 
 abbrev asked : tie.After-clear → Refusal
-asked c = stepCheck (begin c).args.b (begin c).args.chars.now (begin c).args.attrs.now (font c)
+asked c = step_check (begin c).args.b (begin c).args.chars.now (begin c).args.attrs.now (font c)
 
-check : (c : tie.After-clear) → callCheck (begin c).args.b (lentBy c.before.lent-refused.result (begin c).args.groups.now) false false ≡ asked c
-check c = ap (λ (size : Bool). callCheck (begin c).args.b (lentBy size (begin c).args.groups.now) false false) c.before.lent-refused.ensures
+check : (c : tie.After-clear) → call_check (begin c).args.b (lent_by c.before.lent-refused.result (begin c).args.groups.now) false false ≡ asked c
+check c = ap (λ (size : Bool). call_check (begin c).args.b (lent_by size (begin c).args.groups.now) false false) c.before.lent-refused.ensures
 
 done : (c : tie.After-clear) → done_of (asked c) ≡ c.clear.result
 done c = ap done_of (sym (check c)) ∙ sym c.clear.ensures

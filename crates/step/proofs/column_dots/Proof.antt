@@ -4,7 +4,7 @@ use mathlib.Core.Path.{◌≡◌, ◌∙◌}
 use mathlib.Core.Bool.{Bool, true, false}
 use native.Mathlib.Omega.{arith}
 use Rattle.lists.specs.Choice.{pick}
-use Rattle.step.specs.Signals.{oddIn}
+use Rattle.step.specs.Signals.{odd_in}
 use Rattle.step.specs.Laws.{column-wide, column-not-wide}
 use borrow.Author.Rules.{rules}
 use Rattle.step.proofs.column_dots.Statement.{statement}
@@ -20,7 +20,7 @@ halve-requires c κs =
     let d = start.requires.1 in
     let half = c.before.before in
     let from = rw (half.before.is_odd.ensures, half.before.before.places.ensures) at half.half-from.ensures in
-    rw half.before.before.places.ensures (d, omega (arith, d), half_le (oddIn start.args.b) _ _ from, d)
+    rw half.before.before.places.ensures (d, omega (arith, d), half_le (odd_in start.args.b) _ _ from, d)
 
 returns : tie.Need-returns
 returns c =
@@ -29,7 +29,7 @@ returns c =
     let d = start.requires.1 in
     let half = c.before.before.before.before in
     rw c.before.before.before.before.before.before.before.if1.true
-    (column-wide (oddIn start.args.b) start.args.s.look start.args.s.word _ start.requires.2 d _ drawn.draw-cell.ensures _
+    (column-wide (odd_in start.args.b) start.args.s.look start.args.s.word _ start.requires.2 d _ drawn.draw-cell.ensures _
     (c.before.halve.ensures ∙ rw (half.half-from.ensures, half.before.is_odd.ensures, half.before.before.places.ensures)))
 
 returns-2 : tie.Need-returns-2

@@ -1,4 +1,4 @@
-use Rattle.timing.specs.Fields.{timingOf, countsOf}
+use Rattle.timing.specs.Fields.{timing_of, counts_of}
 use native.Mathlib.Omega.{arith}
 use mathlib.Core.Path.{◌∙◌}
 use borrow.Author.Rules.{rules}
@@ -6,15 +6,15 @@ use Rattle.step.proofs.hsync_in.Statement.{statement}
 use Rattle.step.proofs.hsync_in.Tie as tie
 
 plus-requires : tie.Need-plus-requires
-unfolding timingOf countsOf
+unfolding timing_of counts_of
 plus-requires c κs = rw c.timing-of.ensures (omega arith)
 
 during-requires : tie.Need-during-requires
-unfolding timingOf countsOf
+unfolding timing_of counts_of
 during-requires c κs = rw (c.plus.ensures, c.before.timing-of.ensures) (omega arith)
 
 returns : tie.Need-returns
-unfolding timingOf countsOf
+unfolding timing_of counts_of
 returns c = c.during.ensures ∙ rw (c.before.plus.ensures, c.before.before.timing-of.ensures)
 
 pub hsync-in-spec : {M : Type 1} → statement M

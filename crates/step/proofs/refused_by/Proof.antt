@@ -6,19 +6,19 @@ use Rattle.lists.specs.Choice.{stop, pass}
 use Rattle.refusal.specs.declared.Refusal.{Refusal}
 use Rattle.refusal.specs.Number.{done_of}
 use Rattle.refusal.specs.Laws.{checked}
-use Rattle.timing.specs.Check.{callCheck}
-use Rattle.video.specs.At.{lentBy}
+use Rattle.timing.specs.Check.{call_check}
+use Rattle.video.specs.At.{lent_by}
 use Rattle.step.specs.Laws.{range-left}
 use borrow.Author.Rules.{rules}
 use Rattle.step.proofs.refused_by.Statement.{statement}
 use Rattle.step.proofs.refused_by.Tie as tie
 
 -- whether it was what was lent
-lent_is : (c : tie.After-is-done) → done_of (lentBy c.before.before.before.args.size c.before.before.before.args.groups.now) ≡ c.is-done.result
+lent_is : (c : tie.After-is-done) → done_of (lent_by c.before.before.before.args.size c.before.before.before.args.groups.now) ≡ c.is-done.result
 lent_is c = ap done_of (sym c.before.lent_by.ensures) ∙ sym c.is-done.ensures
 
 returns : tie.Need-returns
-unfolding callCheck
+unfolding call_check
 returns c = stop _ (ap not (lent_is c.before) ∙ c.if1.true) c.before.before.lent_by.ensures
 
 returns-2 : tie.Need-returns-2
@@ -27,7 +27,7 @@ returns-2 c =
     range-left _ _ c.before.before.before.before.before.before.before.before.requires (lent_is c.before.before.before.before.before ∙ not-false _ else.if1.false) (checked c.before.before.page-check.ensures c.before.is-done2.ensures c.if2.true)
 
 returns-3 : tie.Need-returns-3
-unfolding callCheck
+unfolding call_check
 returns-3 c =
     let page = c.before.before.page-check.ensures in
     let else = c.before.before.before.before in

@@ -3,7 +3,7 @@ use mathlib.Core.Path.{sym, ◌∙◌}
 use native.Mathlib.Omega.{arith}
 use borrow.Author.Rules.{rules}
 use Rattle.lists.specs.Choice.{stop, pass}
-use Rattle.step.specs.Shown.{shownIn}
+use Rattle.step.specs.Shown.{shown_in}
 use Rattle.step.proofs.shown_in.Statement.{statement}
 use Rattle.step.proofs.shown_in.Tie as tie
 
@@ -13,11 +13,11 @@ cell-shown-requires c κs =
     (omega (arith, whole.chars-all), omega (arith, whole.attrs-all), whole.words-all, whole.flags-all)
 
 returns : tie.Need-returns
-unfolding shownIn
+unfolding shown_in
 returns c = stop _ (sym c.before.before.before.before.before.before.requires.2 ∙ c.before.if1.true) c.cell-shown.ensures
 
 returns-2 : tie.Need-returns-2
-unfolding shownIn
+unfolding shown_in
 returns-2 c = pass _ (sym c.before.before.before.before.before.before.requires.2 ∙ c.before.if1.false) c.blank-shown.ensures
 
 pub shown-in-spec : {M : Type 1} → statement M

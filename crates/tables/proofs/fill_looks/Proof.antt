@@ -6,7 +6,7 @@ use borrow.Author.Rules.{rules}
 use lib.ListN.{length, drop, length-take, length-drop}
 use Rattle.lists.specs.Fill.{Filling}
 use Rattle.lists.specs.Join.{joined, join-begins, join-turn, join-ends}
-use Rattle.tables.specs.Tables.{levelsAt}
+use Rattle.tables.specs.Tables.{levels_at}
 use Rattle.tables.specs.Marks.{blank-lt}
 use Rattle.tables.specs.Laws.{length-levels}
 use Rattle.tables.proofs.fill_looks.Statement.{statement}
@@ -15,7 +15,7 @@ use Rattle.tables.proofs.fill_looks.Tie as tie
 abbrev invariant-loop : tie.invariant-loop
 invariant-loop table₀ b field count s₀ table s =
     (s ≤ count)
-    × Filling (joined 0 count (levelsAt b field) ++ drop (count * 128) table₀) table₀ (count * 128) table (s * 128) (joined s (count - s) (levelsAt b field))
+    × Filling (joined 0 count (levels_at b field) ++ drop (count * 128) table₀) table₀ (count * 128) table (s * 128) (joined s (count - s) (levels_at b field))
 
 abbrev decreases-loop : tie.decreases-loop
 decreases-loop table₀ b field count s₀ table s = count - s
@@ -50,7 +50,7 @@ looks-requires c κs =
     (simp (length-take, length-drop) (omega (arith, i.before.loop.invariant.1.same, few i, i.loop-test.true)), rw c.before.scene-of.ensures (blank-lt _ _ _))
 
 loop-again : tie.Need-loop-preserved invariant-loop decreases-loop
-unfolding levelsAt
+unfolding levels_at
 loop-again c =
     let call = c.before.before in
     let scene = call.before.before in

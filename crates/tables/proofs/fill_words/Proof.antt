@@ -6,7 +6,7 @@ use borrow.Author.Rules.{rules}
 use lib.ListN.{length, drop, length-take, length-drop}
 use Rattle.lists.specs.Fill.{Filling}
 use Rattle.lists.specs.Join.{joined, join-begins, join-turn, join-ends}
-use Rattle.tables.specs.Tables.{wordsAt}
+use Rattle.tables.specs.Tables.{words_at}
 use Rattle.tables.specs.Laws.{length-words}
 use Rattle.tables.proofs.fill_words.Statement.{statement}
 use Rattle.tables.proofs.fill_words.Tie as tie
@@ -14,8 +14,8 @@ use Rattle.tables.proofs.fill_words.Tie as tie
 abbrev invariant-loop : tie.invariant-loop
 invariant-loop table₀ words flags lines d count s₀ table s =
     (s ≤ count)
-    × Filling (joined 0 count (wordsAt words flags lines d) ++ drop (count * 512) table₀) table₀ (count * 512) table (s * 512)
-    (joined s (count - s) (wordsAt words flags lines d))
+    × Filling (joined 0 count (words_at words flags lines d) ++ drop (count * 512) table₀) table₀ (count * 512) table (s * 512)
+    (joined s (count - s) (words_at words flags lines d))
 
 abbrev decreases-loop : tie.decreases-loop
 decreases-loop table₀ words flags lines d count s₀ table s = count - s
@@ -57,7 +57,7 @@ shown-words-requires c κs =
     (pre.0, pre.1, simp (length-take, length-drop) (omega (arith, i.before.loop.invariant.1.same, few i, i.loop-test.true)))
 
 loop-again : tie.Need-loop-preserved invariant-loop decreases-loop
-unfolding wordsAt
+unfolding words_at
 loop-again c =
     let call = c.before.before in
     let line = call.before.before in

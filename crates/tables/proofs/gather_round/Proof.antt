@@ -7,18 +7,18 @@ use borrow.Author.Rules.{rules}
 use lib.ListN.{length, get_or, drop}
 use Rattle.lists.specs.Choice.{pick-le}
 use Rattle.lists.specs.Tab.{tab, tab-turn, tab-upto}
-use Rattle.raster.specs.Moves.{advanceBy, cell as cell_of}
+use Rattle.raster.specs.Moves.{advance_by, cell as cell_of}
 use Rattle.raster.specs.Walk.{at_lt, moved_on, not-moved}
-use Rattle.tables.specs.Tables.{heldBy, cellBy}
+use Rattle.tables.specs.Tables.{held_by, cell_by}
 use Rattle.tables.specs.Laws.{sign-by, as-cell, runs_on, not-run}
 use Rattle.tables.proofs.gather_round.Statement.{statement}
 use Rattle.tables.proofs.gather_round.Tie as tie
 
 abbrev invariant-loop : tie.invariant-loop
 invariant-loop cells₀ chars attrs k buffer held n step cell₀ valid₀ c₀ cells cell valid c =
-    (c ≤ n) × (cell ≡ cell_of (advanceBy buffer c cell₀.address)) × (length cells ≡ length cells₀)
-    × (cells ≡ tab c (cellBy k chars attrs buffer held cell₀.address) ++ drop c cells₀)
-    × (valid ≡ heldBy k.runs attrs buffer held cell₀.address c)
+    (c ≤ n) × (cell ≡ cell_of (advance_by buffer c cell₀.address)) × (length cells ≡ length cells₀)
+    × (cells ≡ tab c (cell_by k chars attrs buffer held cell₀.address) ++ drop c cells₀)
+    × (valid ≡ held_by k.runs attrs buffer held cell₀.address c)
 
 abbrev decreases-loop : tie.decreases-loop
 decreases-loop cells₀ chars attrs k buffer held n step cell₀ valid₀ c₀ cells cell valid c = n - c
@@ -55,7 +55,7 @@ loop-again c =
       omega (arith, i.loop-test.true),
       moved_on _ _ _ _ inv.1 pre.3 pre.4 _ c.advance-one.ensures,
       search rules,
-      tab-turn (cellBy a.k a.chars.now a.attrs.now a.buffer a.held a.start.address) a.cells.now _ i.before.loop.c inv.3 _ (omega (arith, pre.2, i.loop-test.true))
+      tab-turn (cell_by a.k a.chars.now a.attrs.now a.buffer a.held a.start.address) a.cells.now _ i.before.loop.c inv.3 _ (omega (arith, pre.2, i.loop-test.true))
           (as-cell a.k a.chars.now _ _ _ _ _ _ inv.1 _ inv.4 _
           (rw (c.before.before.before.before.sign-of.ensures.0, c.before.before.before.before.before.before.before.before.before.before.before.graphics-step.ensures, sign-by a.k c.before.before.before.before.before.latched.result c.before.before.before.before.before.before.shown-code.result, c.before.before.before.before.before.before.shown-code.ensures, c.before.before.before.before.before.latched.ensures) at c.before.before.cell-number.ensures)),
       runs_on a.k a.chars.now _ _ _ _ _ _ inv.1 _ inv.4 _
@@ -68,7 +68,7 @@ returns c =
     let inv = l.invariant in
     let a = c.before.before.before.before.before.before.args in
     let e : l.c ≡ a.n = omega (arith, inv.0, c.loop-test.false) in
-    (inv.4 ∙ ap (heldBy a.k.runs a.attrs.now a.buffer a.held a.start.address) e, tab-upto _ _ _ l.c inv.3 _ inv.0 c.loop-test.false)
+    (inv.4 ∙ ap (held_by a.k.runs a.attrs.now a.buffer a.held a.start.address) e, tab-upto _ _ _ l.c inv.3 _ inv.0 c.loop-test.false)
 
 pub gather-round-spec : {M : Type 1} → statement M
 gather-round-spec =

@@ -8,7 +8,7 @@ use lib.ListN.{length, drop}
 use Rattle.lists.specs.Choice.{pick-le}
 use Rattle.lists.specs.Tab.{tab, tab-turn, tab-upto}
 use Rattle.raster.specs.Moves.{cell as cell_of}
-use Rattle.tables.specs.Tables.{heldBy, cellBy}
+use Rattle.tables.specs.Tables.{held_by, cell_by}
 use Rattle.tables.specs.Laws.{sign-by, as-cell, runs_on, not-run}
 use Rattle.tables.specs.Run.{whole, whole-at}
 use Rattle.tables.proofs.gather_run.Statement.{statement}
@@ -17,8 +17,8 @@ use Rattle.tables.proofs.gather_run.Tie as tie
 abbrev invariant-loop : tie.invariant-loop
 invariant-loop cells₀ chars attrs k from held n first step valid₀ c₀ cells valid c =
     (c ≤ n) × (length cells ≡ length cells₀)
-    × (cells ≡ tab c (cellBy k chars attrs whole held from) ++ drop c cells₀)
-    × (valid ≡ heldBy k.runs attrs whole held from c)
+    × (cells ≡ tab c (cell_by k chars attrs whole held from) ++ drop c cells₀)
+    × (valid ≡ held_by k.runs attrs whole held from c)
 
 abbrev decreases-loop : tie.decreases-loop
 decreases-loop cells₀ chars attrs k from held n first step valid₀ c₀ cells valid c = n - c
@@ -62,7 +62,7 @@ loop-again c =
     let at = ap cell_of (sym (whole-at a.from i.before.loop.c (inside i))) in (
       omega (arith, i.loop-test.true),
       search rules,
-      tab-turn (cellBy a.k a.chars.now a.attrs.now whole a.held a.from) a.cells.now _ i.before.loop.c inv.2 _ (omega (arith, (start i).requires.2, i.loop-test.true))
+      tab-turn (cell_by a.k a.chars.now a.attrs.now whole a.held a.from) a.cells.now _ i.before.loop.c inv.2 _ (omega (arith, (start i).requires.2, i.loop-test.true))
           (as-cell a.k a.chars.now _ _ _ _ _ _ at _ inv.3 _
           (rw (c.before.before.before.sign-of.ensures.0, c.before.before.before.before.before.before.before.before.before.before.graphics-step.ensures, sign-by a.k c.before.before.before.before.latched.result c.before.before.before.before.before.shown-code.result, c.before.before.before.before.before.shown-code.ensures, c.before.before.before.before.latched.ensures) at c.before.cell-number.ensures)),
       runs_on a.k a.chars.now _ _ _ _ _ _ at _ inv.3 _ (rw c.before.before.before.before.latched.ensures at c.run_on.ensures),
@@ -74,7 +74,7 @@ returns c =
     let inv = l.invariant in
     let a = c.before.before.before.before.before.before.args in
     let e : l.c ≡ a.n = omega (arith, inv.0, c.loop-test.false) in
-    (inv.3 ∙ ap (heldBy a.k.runs a.attrs.now whole a.held a.from) e, tab-upto _ _ _ l.c inv.2 _ inv.0 c.loop-test.false)
+    (inv.3 ∙ ap (held_by a.k.runs a.attrs.now whole a.held a.from) e, tab-upto _ _ _ l.c inv.2 _ inv.0 c.loop-test.false)
 
 pub gather-run-spec : {M : Type 1} → statement M
 gather-run-spec =

@@ -6,12 +6,12 @@ use native.Mathlib.Omega.{arith}
 use borrow.Author.Rules.{rules}
 use lib.ListN.{length, drop}
 use Rattle.lists.specs.Tab.{tab, tab-turn, tab-upto}
-use Rattle.tables.specs.Tables.{levelsFor}
+use Rattle.tables.specs.Tables.{levels_for}
 use Rattle.tables.proofs.half.Statement.{statement}
 use Rattle.tables.proofs.half.Tie as tie
 
 abbrev invariant-loop : tie.invariant-loop
-invariant-loop table₀ s here i₀ table i = (i ≤ 64) × (length table ≡ length table₀) × (table ≡ tab i (levelsFor s here) ++ drop i table₀)
+invariant-loop table₀ s here i₀ table i = (i ≤ 64) × (length table ≡ length table₀) × (table ≡ tab i (levels_for s here) ++ drop i table₀)
 
 abbrev decreases-loop : tie.decreases-loop
 decreases-loop table₀ s here i₀ table i = 64 - i
@@ -24,7 +24,7 @@ loop-again : tie.Need-loop-preserved invariant-loop decreases-loop
 loop-again c =
     let at = c.before.before in
     let start = at.before.before in
-    (omega (arith, c.before.loop-test.true), search rules, tab-turn (levelsFor start.args.s start.args.here) start.args.table.now _ at.loop.i at.loop.invariant.2 _ (omega (arith, start.requires, c.before.loop-test.true)) c.levels.ensures)
+    (omega (arith, c.before.loop-test.true), search rules, tab-turn (levels_for start.args.s start.args.here) start.args.table.now _ at.loop.i at.loop.invariant.2 _ (omega (arith, start.requires, c.before.loop-test.true)) c.levels.ensures)
 
 returns : tie.Need-returns invariant-loop decreases-loop
 returns c =

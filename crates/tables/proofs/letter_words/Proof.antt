@@ -8,14 +8,14 @@ use borrow.Author.Rules.{rules}
 use lib.ListN.{length, drop}
 use Rattle.lists.specs.Tab.{tab, tab-turn, tab-upto}
 use Rattle.shape.specs.Laws.{by-small}
-use Rattle.tables.specs.Tables.{shownWord}
+use Rattle.tables.specs.Tables.{shown_word}
 use Rattle.tables.specs.Laws.{begun-room, begun, ended}
 use Rattle.tables.proofs.letter_words.Statement.{statement}
 use Rattle.tables.proofs.letter_words.Tie as tie
 
 abbrev invariant-loop : tie.invariant-loop
 invariant-loop table₀ words flags line d i₀ table i =
-    (i ≤ 256) × (length table ≡ length table₀) × (table ≡ tab i (shownWord words flags line d) ++ drop i table₀)
+    (i ≤ 256) × (length table ≡ length table₀) × (table ≡ tab i (shown_word words flags line d) ++ drop i table₀)
 
 abbrev decreases-loop : tie.decreases-loop
 decreases-loop table₀ words flags line d i₀ table i = 256 - i
@@ -30,7 +30,7 @@ wide-requires : tie.Need-wide-requires invariant-loop decreases-loop
 wide-requires c κs = rw c.word-by.ensures (by-small _ _ _ _ _)
 
 loop-again : tie.Need-loop-preserved invariant-loop decreases-loop
-unfolding shownWord
+unfolding shown_word
 loop-again c =
     let at = c.before.before.before in
     let begin = at.before.before.before in
@@ -40,7 +40,7 @@ loop-again c =
     let room = begun-room a.words.now a.flags.now a.line a.d a.table.now _ start.requires.2 begin.no_words.ensures in (
       omega (arith, c.before.before.loop-test.true),
       search rules,
-      tab-turn (shownWord a.words.now a.flags.now a.line a.d) begin.no_words.new.0 _ at.loop.i at.loop.invariant.2 _ (omega (arith, room, c.before.before.loop-test.true))
+      tab-turn (shown_word a.words.now a.flags.now a.line a.d) begin.no_words.new.0 _ at.loop.i at.loop.invariant.2 _ (omega (arith, room, c.before.before.loop-test.true))
           (rw (c.wide.ensures, c.before.word-by.ensures, lt-leb 256 at.loop.i (omega (arith, c.before.before.loop-test.true)), low)),
     )
 

@@ -1,7 +1,7 @@
 use Prim.Native.Nat.{◌<◌}
 use native.Mathlib.Omega.{arith}
 use borrow.Author.Rules.{rules}
-use Rattle.tables.specs.Tables.{levelsFor}
+use Rattle.tables.specs.Tables.{levels_for}
 use Rattle.tables.specs.Marks.{look-few}
 use Rattle.tables.proofs.levels.Statement.{statement}
 use Rattle.tables.proofs.levels.Tie as tie
@@ -16,7 +16,7 @@ add-result : tie.Need-overflow-add-result
 add-result c = omega (arith, few c.before)
 
 returns : tie.Need-returns
-unfolding levelsFor
+unfolding levels_for
 returns c = rw (c.before.under.ensures, c.before.before.look-of.ensures)
 
 pub levels-spec : {M : Type 1} → statement M

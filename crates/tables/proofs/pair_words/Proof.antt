@@ -7,12 +7,12 @@ use borrow.Author.Rules.{rules}
 use lib.ListN.{length, drop}
 use Rattle.lists.specs.Tab.{tab, tab-turn, tab-upto}
 use Rattle.shape.specs.Laws.{graphics-small}
-use Rattle.tables.specs.Tables.{pairWord}
+use Rattle.tables.specs.Tables.{pair_word}
 use Rattle.tables.proofs.pair_words.Statement.{statement}
 use Rattle.tables.proofs.pair_words.Tie as tie
 
 abbrev invariant-loop : tie.invariant-loop
-invariant-loop table₀ group d i₀ table i = (i ≤ 256) × (length table ≡ length table₀) × (table ≡ tab i (pairWord group d) ++ drop i table₀)
+invariant-loop table₀ group d i₀ table i = (i ≤ 256) × (length table ≡ length table₀) × (table ≡ tab i (pair_word group d) ++ drop i table₀)
 
 abbrev decreases-loop : tie.decreases-loop
 decreases-loop table₀ group d i₀ table i = 256 - i
@@ -25,11 +25,11 @@ wide-requires : tie.Need-wide-requires invariant-loop decreases-loop
 wide-requires c κs = rw c.graphics-word.ensures (graphics-small _ _)
 
 loop-again : tie.Need-loop-preserved invariant-loop decreases-loop
-unfolding pairWord
+unfolding pair_word
 loop-again c =
     let at = c.before.before.before in
     let start = at.before.before in
-    (omega (arith, c.before.before.loop-test.true), search rules, tab-turn (pairWord start.args.group start.args.d) start.args.table.now _ at.loop.i at.loop.invariant.2 _ (omega (arith, start.requires, c.before.before.loop-test.true)) (rw (c.wide.ensures, c.before.graphics-word.ensures)))
+    (omega (arith, c.before.before.loop-test.true), search rules, tab-turn (pair_word start.args.group start.args.d) start.args.table.now _ at.loop.i at.loop.invariant.2 _ (omega (arith, start.requires, c.before.before.loop-test.true)) (rw (c.wide.ensures, c.before.graphics-word.ensures)))
 
 returns : tie.Need-returns invariant-loop decreases-loop
 returns c =

@@ -1,11 +1,11 @@
 use mathlib.Core.Path.{refl}
 use borrow.Author.Rules.{rules}
-use Rattle.timing.specs.Fields.{blinkOf}
+use Rattle.timing.specs.Fields.{blink_of}
 use Rattle.timing.proofs.blink_of.Statement.{statement}
 use Rattle.timing.proofs.blink_of.Tie as tie
 
 returns : tie.Need-returns
-unfolding blinkOf
+unfolding blink_of
 returns c = refl
 
 pub blink-of-spec : {M : Type 1} → statement M

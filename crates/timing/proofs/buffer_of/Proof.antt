@@ -1,12 +1,12 @@
 -- Rests on the definition alone: the code spells it out.
 use mathlib.Core.Path.{refl}
 use borrow.Author.Rules.{rules}
-use Rattle.timing.specs.Fields.{bufferOf}
+use Rattle.timing.specs.Fields.{buffer_of}
 use Rattle.timing.proofs.buffer_of.Statement.{statement}
 use Rattle.timing.proofs.buffer_of.Tie as tie
 
 returns : tie.Need-returns
-unfolding bufferOf
+unfolding buffer_of
 returns c = refl
 
 pub buffer-of-spec : {M : Type 1} → statement M

@@ -1,12 +1,12 @@
 -- Rests on call-order: what is lent comes first, then the page, the state and what is asked, the room.
 use mathlib.Core.Path.{refl}
 use borrow.Author.Rules.{rules}
-use Rattle.timing.specs.Check.{callCheck}
+use Rattle.timing.specs.Check.{call_check}
 use Rattle.timing.proofs.call_check.Statement.{statement}
 use Rattle.timing.proofs.call_check.Tie as tie
 
 returns : tie.Need-returns
-unfolding callCheck
+unfolding call_check
 returns c =
     rw (
       c.call-order.ensures,

@@ -1,10 +1,10 @@
-use Rattle.timing.specs.Fields.{countsOf}
+use Rattle.timing.specs.Fields.{counts_of}
 use borrow.Author.Rules.{rules}
 use Rattle.timing.proofs.counts_of.Statement.{statement}
 use Rattle.timing.proofs.counts_of.Tie as tie
 
 returns : tie.Need-returns
-unfolding countsOf
+unfolding counts_of
 returns c = λ i. record {
   ht = c.before.before.before.before.ht-of.ensures i;
   hact = c.before.before.before.hact-of.ensures i;

@@ -1,10 +1,10 @@
 use borrow.Author.Rules.{rules}
-use Rattle.timing.specs.Fields.{hbpOf}
+use Rattle.timing.specs.Fields.{hbp_of}
 use Rattle.timing.proofs.hbp_of.Statement.{statement}
 use Rattle.timing.proofs.hbp_of.Tie as tie
 
 returns : tie.Need-returns
-unfolding hbpOf
+unfolding hbp_of
 returns c = c.minus.ensures
 
 pub hbp-of-spec : {M : Type 1} → statement M

@@ -1,12 +1,12 @@
 -- Rests on the callees: each test of the list is one of their answers.
 use mathlib.Core.Path.{refl}
 use borrow.Author.Rules.{rules}
-use Rattle.timing.specs.Check.{pageCheck}
+use Rattle.timing.specs.Check.{page_check}
 use Rattle.timing.proofs.page_check.Statement.{statement}
 use Rattle.timing.proofs.page_check.Tie as tie
 
 returns : tie.Need-returns
-unfolding pageCheck
+unfolding page_check
 returns c =
     rw (
       c.first_of.ensures,

@@ -5,7 +5,7 @@ use borrow.Author.Rules.{rules}
 use Rattle.lists.specs.Choice.{stop, pass}
 use Rattle.refusal.specs.declared.Refusal.TheVariants.{Done}
 use Rattle.refusal.specs.Laws.{done-is, checked}
-use Rattle.timing.specs.Check.{pageCheck, size_of}
+use Rattle.timing.specs.Check.{page_check, size_of}
 use Rattle.timing.specs.Laws.{accepted, dots-bound}
 use Rattle.timing.proofs.page_size.Statement.{statement}
 use Rattle.timing.proofs.page_size.Tie as tie
@@ -14,7 +14,7 @@ dots-of-requires : tie.Need-dots-of-requires
 dots-of-requires c κs =
     let then = c.before.before.before in
     let p = then.before.before.before.args.p in
-    let ok : pageCheck p ≡ Done
+    let ok : page_check p ≡ Done
     = done-is _ (checked then.before.before.page-check.ensures then.before.is-done.ensures then.if1.true) in
     rw c.hact-of.ensures (omega (arith, dots-bound p (accepted p ok)))
 

@@ -1,11 +1,11 @@
 -- Rests on the callees: each test of the definition is one of their answers.
-use Rattle.timing.specs.Check.{stateRefused}
+use Rattle.timing.specs.Check.{state_refused}
 use borrow.Author.Rules.{rules}
 use Rattle.timing.proofs.state_refused.Statement.{statement}
 use Rattle.timing.proofs.state_refused.Tie as tie
 
 returns : tie.Need-returns
-unfolding stateRefused
+unfolding state_refused
 returns c =
     rw (
       c.pointer-refused.ensures,

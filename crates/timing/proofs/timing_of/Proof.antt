@@ -1,10 +1,10 @@
-use Rattle.timing.specs.Fields.{timingOf}
+use Rattle.timing.specs.Fields.{timing_of}
 use borrow.Author.Rules.{rules}
 use Rattle.timing.proofs.timing_of.Statement.{statement}
 use Rattle.timing.proofs.timing_of.Tie as tie
 
 returns : tie.Need-returns
-unfolding timingOf
+unfolding timing_of
 returns c = λ i. record {
   hsync = c.before.before.before.before.hsync-of.ensures i;
   hfp = c.before.before.before.hfp-of.ensures i;

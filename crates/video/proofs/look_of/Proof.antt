@@ -4,25 +4,25 @@ use mathlib.Core.Path.{◌≡◌, ap, ◌∙◌}
 use mathlib.Core.Bool.{Bool, true, false, xor}
 use borrow.Author.Tests.{not-true, not-false}
 use borrow.Author.Rules.{rules}
-use Rattle.lists.specs.Choice.{hasBit}
+use Rattle.lists.specs.Choice.{has_bit}
 use Rattle.video.specs.declared.Scene.{Scene}
 use Rattle.video.specs.declared.TableLine.{TableLine}
 use Rattle.video.specs.Table.{case_of, decided, by-rule}
-use Rattle.video.specs.Look.{nonDisplay, lit_of, lookWith, blankLook, look_of}
+use Rattle.video.specs.Look.{non_display, lit_of, look_with, blank_look, look_of}
 use Rattle.video.proofs.look_of.Statement.{statement}
 use Rattle.video.proofs.look_of.Tie as tie
 
-blank : (s : Scene) (a : ℕ) (cursor : Bool) → s.shown ≡ false → blankLook s.blank ≡ look_of s a cursor
+blank : (s : Scene) (a : ℕ) (cursor : Bool) → s.shown ≡ false → blank_look s.blank ≡ look_of s a cursor
 unfolding look_of
 blank s a cursor e = rw e
 
 shown : (s : Scene) (a : ℕ) (cursor : Bool) → s.shown ≡ true → (lit : Bool) → lit ≡ lit_of s a
-    → (x : TableLine) → x ≡ decided (case_of false false s.bkgnd (xor (hasBit a 1) cursor) (hasBit a 16) (nonDisplay s a))
-    → lookWith lit x.symbol x.surround ≡ look_of s a cursor
+    → (x : TableLine) → x ≡ decided (case_of false false s.bkgnd (xor (has_bit a 1) cursor) (has_bit a 16) (non_display s a))
+    → look_with lit x.symbol x.surround ≡ look_of s a cursor
 unfolding look_of
 shown s a cursor e lit l x q =
-    let r = by-rule (case_of false false s.bkgnd (xor (hasBit a 1) cursor) (hasBit a 16) (nonDisplay s a)) in
-    rw e (λ i. lookWith (l i) ((ap (λ (y : TableLine). y.symbol) q ∙ r.0) i) ((ap (λ (y : TableLine). y.surround) q ∙ r.1) i))
+    let r = by-rule (case_of false false s.bkgnd (xor (has_bit a 1) cursor) (has_bit a 16) (non_display s a)) in
+    rw e (λ i. look_with (l i) ((ap (λ (y : TableLine). y.symbol) q ∙ r.0) i) ((ap (λ (y : TableLine). y.surround) q ∙ r.1) i))
 
 returns : tie.Need-returns
 returns c = blank _ _ _ (not-true _ c.if1.true)

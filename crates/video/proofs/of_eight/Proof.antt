@@ -1,11 +1,11 @@
 -- Rests on the callee, seven times: a pair, then pairs of pairs.
 use borrow.Author.Rules.{rules}
-use Rattle.video.specs.Table.{ofEight}
+use Rattle.video.specs.Table.{of_eight}
 use Rattle.video.proofs.of_eight.Statement.{statement}
 use Rattle.video.proofs.of_eight.Tie as tie
 
 returns : tie.Need-returns
-unfolding ofEight
+unfolding of_eight
 returns c =
     rw (
       c.of-two7.ensures,

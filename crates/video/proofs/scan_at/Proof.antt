@@ -2,13 +2,13 @@ use mathlib.Core.Path.{◌∙◌}
 use native.Mathlib.Nat.{mod-lt}
 use native.Mathlib.Omega.{arith}
 use borrow.Author.Rules.{rules}
-use Rattle.timing.specs.Fields.{timingOf, countsOf}
+use Rattle.timing.specs.Fields.{timing_of, counts_of}
 use Rattle.timing.specs.Laws.{lines-some, lines-le}
 use Rattle.video.proofs.scan_at.Statement.{statement}
 use Rattle.video.proofs.scan_at.Tie as tie
 
 scan-of-requires : tie.Need-scan-of-requires
-unfolding timingOf countsOf
+unfolding timing_of counts_of
 scan-of-requires c κs =
     let start = c.before.before in
     let few = lines-le start.args.p in
@@ -16,7 +16,7 @@ scan-of-requires c κs =
     rw (c.before.timing-of.ensures, c.line-of-row.ensures) (omega (arith, few), omega (arith, few, l))
 
 returns : tie.Need-returns
-unfolding timingOf countsOf
+unfolding timing_of counts_of
 returns c = c.scan-of.ensures ∙ rw (c.before.line-of-row.ensures, c.before.before.timing-of.ensures)
 
 pub scan-at-spec : {M : Type 1} → statement M

@@ -3,7 +3,7 @@ use mathlib.Core.Path.{refl, sym}
 use native.Mathlib.Omega.{arith}
 use borrow.Author.Rules.{rules}
 use lib.Seq.{length-take-le}
-use Rattle.files.specs.Page.{versionIn}
+use Rattle.files.specs.Page.{version_in}
 use Rattle.files.specs.FontLaws.{groups-most}
 use Rattle.callers.specs.Again.{font-refused, groups-are, font-wrote}
 use Rattle.callers.proofs.again.font_again.Statement.{statement}
@@ -15,7 +15,7 @@ returns c = font-refused _ (λ i. (c.before.before.before.before.before.before.b
 array-share-prefix-groups : tie.Need-array-share-prefix-groups
 array-share-prefix-groups c =
     let many = groups-are _ (λ i. (c.before.before.before.before.before.before.before.before.before.before.before.before.before.before.before.before.before.before.before.shared-slice-known.given i).fits) c.before.before.before.before.before.before.before.before.before.before.before.before.before.before.before.before.before.before.before.before.args.out.now c.before.before.before.before.before.before.before.before.before.before.before.before.feldrime-font-read.ensures c.before.before.before.before.before.if1.false in
-    omega (arith, many, groups-most (versionIn c.before.before.before.before.before.before.before.before.before.before.before.before.before.before.before.before.before.before.before.before.args.file.now))
+    omega (arith, many, groups-most (version_in c.before.before.before.before.before.before.before.before.before.before.before.before.before.before.before.before.before.before.before.before.args.file.now))
 
 slice-aggregate-write-font-5 : tie.Need-slice-aggregate-write-font-5
 slice-aggregate-write-font-5 c = sym (length-take-le _ _ (array-share-prefix-groups c.before))

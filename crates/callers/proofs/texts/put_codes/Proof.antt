@@ -6,12 +6,12 @@ use native.Mathlib.Omega.{arith}
 use borrow.Author.Rules.{rules}
 use lib.ListN.{length, get_or, drop}
 use Rattle.lists.specs.Tab.{tab, tab-turn}
-use Rattle.callers.specs.Texts.{codeBy}
+use Rattle.callers.specs.Texts.{code_by}
 use Rattle.callers.proofs.texts.put_codes.Statement.{statement}
 use Rattle.callers.proofs.texts.put_codes.Tie as tie
 
 abbrev invariant-loop : tie.invariant-loop
-invariant-loop chars cells n text₀ c₀ text c = (c ≤ n) × (length text ≡ length text₀) × (text ≡ tab c (codeBy chars cells) ++ drop c text₀)
+invariant-loop chars cells n text₀ c₀ text c = (c ≤ n) × (length text ≡ length text₀) × (text ≡ tab c (code_by chars cells) ++ drop c text₀)
 
 abbrev decreases-loop : tie.decreases-loop
 decreases-loop chars cells n text₀ c₀ text c = n - c
@@ -42,13 +42,13 @@ slice-write-text c =
     omega (arith, (start i).requires.roomy, i.before.loop.invariant.1, i.loop-test.true)
 
 loop-again : tie.Need-loop-preserved invariant-loop decreases-loop
-unfolding codeBy
+unfolding code_by
 loop-again c =
     let i = c.before.before in
     let begin = start i in (
       omega (arith, i.loop-test.true),
       search rules,
-      tab-turn (codeBy begin.args.chars.now begin.args.cells.now) begin.args.text.now _ i.before.loop.c i.before.loop.invariant.2 _
+      tab-turn (code_by begin.args.chars.now begin.args.cells.now) begin.args.text.now _ i.before.loop.c i.before.loop.invariant.2 _
           (omega (arith, begin.pre.roomy, i.loop-test.true)) refl,
     )
 
@@ -56,7 +56,7 @@ returns : tie.Need-returns invariant-loop decreases-loop
 returns c =
     let begin = c.before.before in
     let all : c.before.loop.c ≡ begin.args.n = omega (arith, c.before.loop.invariant.0, c.loop-test.false) in
-    c.before.loop.invariant.2 ∙ ap (λ (k : ℕ). tab k (codeBy begin.args.chars.now begin.args.cells.now) ++ drop k begin.args.text.now) all
+    c.before.loop.invariant.2 ∙ ap (λ (k : ℕ). tab k (code_by begin.args.chars.now begin.args.cells.now) ++ drop k begin.args.text.now) all
 
 pub put-codes-spec : {M : Type 1} → statement M
 put-codes-spec =

@@ -7,11 +7,11 @@ use borrow.Author.Rules.{rules}
 use lib.ListN.{drop, length, length-take, length-drop}
 use Rattle.lists.specs.Fill.{Filling}
 use Rattle.lists.specs.Join.{joined, stretch-inside, join-begins, join-turn, join-ends}
-use Rattle.shape.specs.Font.{fontOf}
-use Rattle.line.specs.Line.{columnDots, lineDots}
+use Rattle.shape.specs.Font.{font_of}
+use Rattle.line.specs.Line.{column_dots, line_dots}
 use Rattle.step.specs.After.{after}
-use Rattle.timing.specs.Fields.{hactOf}
-use Rattle.agreement.specs.Lines.{clockOf}
+use Rattle.timing.specs.Fields.{hact_of}
+use Rattle.agreement.specs.Lines.{clock_of}
 use Rattle.timing.specs.Decoded.{hact-is}
 use Rattle.callers_stepped.specs.Lines.{width, turns_fit, each, line-begins, goes_on, wide, enough, copied}
 use Rattle.callers_stepped.proofs.lines.step_line.Statement.{statement}
@@ -19,9 +19,9 @@ use Rattle.callers_stepped.proofs.lines.step_line.Tie as tie
 
 abbrev invariant-loop : tie.invariant-loop
 invariant-loop out₀ b chars attrs words flags unshifted shifted groups line field n at₀ c₀ out at c =
-    (c ≤ n) × (at ≡ after b chars attrs (fontOf words flags unshifted shifted groups) (clockOf b field line c))
-    × Filling (joined 0 n (columnDots b chars attrs (fontOf words flags unshifted shifted groups) line field) ++ drop (n * b.page.video.dots.0) out₀) out₀
-    (n * b.page.video.dots.0) out (c * b.page.video.dots.0) (joined c (n - c) (columnDots b chars attrs (fontOf words flags unshifted shifted groups) line field))
+    (c ≤ n) × (at ≡ after b chars attrs (font_of words flags unshifted shifted groups) (clock_of b field line c))
+    × Filling (joined 0 n (column_dots b chars attrs (font_of words flags unshifted shifted groups) line field) ++ drop (n * b.page.video.dots.0) out₀) out₀
+    (n * b.page.video.dots.0) out (c * b.page.video.dots.0) (joined c (n - c) (column_dots b chars attrs (font_of words flags unshifted shifted groups) line field))
 
 abbrev decreases-loop : tie.decreases-loop
 decreases-loop out₀ b chars attrs words flags unshifted shifted groups line field n at₀ c₀ out at c = n - c
@@ -33,7 +33,7 @@ start c = c.before.before.before.before.before.before.before.before.before.befor
 abbrev turns : tie.At-loop invariant-loop decreases-loop → ℕ
 turns c = c.before.before.before.before.before.timing-of.result.counts.hact.0
 
-hact : (c : tie.At-loop invariant-loop decreases-loop) → turns c ≡ hactOf (start c).args.b.page
+hact : (c : tie.At-loop invariant-loop decreases-loop) → turns c ≡ hact_of (start c).args.b.page
 hact c = hact-is _ _ c.before.before.before.before.before.timing-of.ensures
 
 roomy : (c : tie.At-loop invariant-loop decreases-loop) → turns c * (start c).args.b.page.video.dots.0 ≤ length (start c).args.out.now
@@ -45,7 +45,7 @@ most c = width (start c).requires
 room : (c : tie.In-loop invariant-loop decreases-loop) → c.before.loop.c * (start c.before).args.b.page.video.dots.0 + (start c.before).args.b.page.video.dots.0 ≤ length c.before.loop.out
 room c = omega (arith, c.before.loop.invariant.2.same, stretch-inside c.before.loop.c (turns c.before) (start c.before).args.b.page.video.dots.0 _ c.loop-test.true (roomy c.before))
 
-shown : (c : tie.In-loop invariant-loop decreases-loop) → c.before.loop.c < hactOf (start c.before).args.b.page
+shown : (c : tie.In-loop invariant-loop decreases-loop) → c.before.loop.c < hact_of (start c.before).args.b.page
 shown c = omega (arith, hact c.before, c.loop-test.true)
 
 timing-of-requires : tie.Need-timing-of-requires invariant-loop decreases-loop
@@ -124,7 +124,7 @@ same_length : tie.Need-same-length invariant-loop decreases-loop
 same_length c = c.before.loop.invariant.2.same
 
 returns : tie.Need-returns invariant-loop decreases-loop
-unfolding lineDots
+unfolding line_dots
 returns c =
     let s = start c.before in
     rw (hact c.before) at

@@ -4,12 +4,12 @@ use mathlib.Core.Path.{◌≡◌, sym, ap, ◌∙◌}
 use native.Mathlib.Omega.{arith}
 use borrow.Author.Rules.{rules}
 use lib.ListN.{length}
-use Rattle.shape.specs.Font.{Font, fontOf}
-use Rattle.line.specs.Line.{lineLength}
-use Rattle.numbers.specs.Numbers.{numbersBoard}
+use Rattle.shape.specs.Font.{Font, font_of}
+use Rattle.line.specs.Line.{line_length}
+use Rattle.numbers.specs.Numbers.{numbers_board}
 use Rattle.feldrime.specs.declared.Answer.{Answer}
 use Rattle.feldrime.specs.Answers.{answer_of}
-use Rattle.feldrime.specs.PictureDraw.{pictureDrawCheck}
+use Rattle.feldrime.specs.PictureDraw.{picture_draw_check}
 use Rattle.callers_stepped.specs.Pictures.{place-small, place_in, stays}
 use Rattle.callers_stepped.proofs.pictures.line_over_picture.Statement.{statement}
 use Rattle.callers_stepped.proofs.pictures.line_over_picture.Tie as tie
@@ -19,13 +19,13 @@ abbrev begin : tie.Then2 → tie.Start
 begin c = c.before.before.before.before.before.before.before.before.before.before.before.before.before.before.before.before.before.before
 
 abbrev font : tie.Then2 → Font
-font c = fontOf (begin c).args.words.now (begin c).args.flags.now (begin c).args.unshifted.now (begin c).args.shifted.now (begin c).args.groups.now
+font c = font_of (begin c).args.words.now (begin c).args.flags.now (begin c).args.unshifted.now (begin c).args.shifted.now (begin c).args.groups.now
 
-drawn : (c : tie.Then2) → (answer_of (pictureDrawCheck (begin c).args.numbers.now (begin c).args.chars.now (begin c).args.attrs.now (font c) (length (begin c).args.out.now))).refusal ≡ 0
+drawn : (c : tie.Then2) → (answer_of (picture_draw_check (begin c).args.numbers.now (begin c).args.chars.now (begin c).args.attrs.now (font c) (length (begin c).args.out.now))).refusal ≡ 0
 drawn c = sym (ap (λ (a : Answer). a.refusal) c.before.before.before.before.before.before.before.feldrime-picture-draw.ensures.0) ∙ c.before.before.before.if1.false
 
 inside : (c : tie.Then2)
-    → (begin c).args.line * c.before.before.feldrime-page-size.result.dots + lineLength (numbersBoard (begin c).args.numbers.now) ≤ length (begin c).args.out.now
+    → (begin c).args.line * c.before.before.feldrime-page-size.result.dots + line_length (numbers_board (begin c).args.numbers.now) ≤ length (begin c).args.out.now
 inside c = place_in _ _ _ _ _ _ _ _ (begin c).args.field (begin c).args.out.now (drawn c) _ c.before.before.feldrime-page-size.ensures _ c.if2.true
 
 mul-a : tie.Need-overflow-mul-a

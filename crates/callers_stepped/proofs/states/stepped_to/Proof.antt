@@ -3,13 +3,13 @@ use Prim.Native.Nat.{◌≤◌, ◌-◌}
 use mathlib.Core.Path.{◌≡◌, refl}
 use native.Mathlib.Omega.{arith}
 use borrow.Author.Rules.{rules}
-use Rattle.shape.specs.Font.{fontOf}
+use Rattle.shape.specs.Font.{font_of}
 use Rattle.callers_stepped.specs.States.{on, not-stepped, stepped, goes}
 use Rattle.callers_stepped.proofs.states.stepped_to.Statement.{statement}
 use Rattle.callers_stepped.proofs.states.stepped_to.Tie as tie
 
 abbrev invariant-loop : tie.invariant-loop
-invariant-loop chars attrs words flags unshifted shifted groups from steps refused at₀ i₀ at i = (i ≤ steps) × (at ≡ on at₀ chars attrs (fontOf words flags unshifted shifted groups) i)
+invariant-loop chars attrs words flags unshifted shifted groups from steps refused at₀ i₀ at i = (i ≤ steps) × (at ≡ on at₀ chars attrs (font_of words flags unshifted shifted groups) i)
 
 abbrev decreases-loop : tie.decreases-loop
 decreases-loop chars attrs words flags unshifted shifted groups from steps refused at₀ i₀ at i = steps - i
