@@ -1,3 +1,4 @@
+#![tactic(auto)]
 // The board's whole state, by value. It holds numbers only and is laid out as C lays it out, so that every bit pattern is a value.
 ghost use Rattle.std.specs.Prelude.{◌≡◌};
 ghost use Rattle.board.specs.State.{clock_zero, power_of};
@@ -6,7 +7,7 @@ ghost use Rattle.board.specs.Modes.{has_modes, version_of, field_mode, setters_h
 ghost use Rattle.board.specs.Range.{memories_refused, starts_refused, switches_refused, video_refused, address_refused, cells_refused, pointer_refused};
 
 #[repr(C)]
-#[derive(Drop)]
+#[derive(Clone, Copy)]
 pub struct Starts {
     pub start1: u16,
     pub cursor: u16,
@@ -14,7 +15,7 @@ pub struct Starts {
 }
 
 #[repr(C)]
-#[derive(Drop)]
+#[derive(Clone, Copy)]
 pub struct Video {
     pub dots: units::Dots,
     pub strike: u8,
@@ -22,7 +23,7 @@ pub struct Video {
 }
 
 // How many IRs a page has, and how many bytes stand behind them in its file.
-#[derive(Drop)]
+#[derive(Clone, Copy)]
 pub struct Layout {
     pub irs: usize,
     pub rest: usize,
@@ -31,7 +32,7 @@ pub struct Layout {
 // What a page file holds beside the memories. The switches are the file's byte: bit 0 display, 1 cursor, 2 BKGND, 3 RBLANK, and from version 2 on bit
 // 4 field mode, 5 ACD. The chip counts in version 3.
 #[repr(C)]
-#[derive(Drop)]
+#[derive(Clone, Copy)]
 pub struct Page {
     pub version: u8,
     pub irs: [u8; 15],
@@ -42,7 +43,7 @@ pub struct Page {
 
 // Where the beam is, what it carries, and what its row began with.
 #[repr(C)]
-#[derive(Drop)]
+#[derive(Clone, Copy)]
 pub struct Place {
     pub field: u8,
     pub line: units::Lines,
@@ -53,7 +54,7 @@ pub struct Place {
 
 // The pointer names an IR. The count of master resets in a row is the power state: 0 or 1 is inactive, 2 and above active.
 #[repr(C)]
-#[derive(Drop)]
+#[derive(Clone, Copy)]
 pub struct Board {
     pub page: Page,
     pub place: Place,

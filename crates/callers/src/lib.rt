@@ -1,3 +1,4 @@
+#![tactic(auto)]
 // Functions that call the calls for C, about files, numbers and phrases. Each is proved from their contracts alone.
 // `callers_registers` has those about registers, `callers_stepped` those about stepping.
 pub mod again;

@@ -1,3 +1,4 @@
+#![tactic(auto)]
 // A typed sheet becomes a page with a row table, and back (02, R-5).
 ghost use Rattle.std.specs.Prelude.{◌≡◌, ◌++◌, ◌+◌, ◌-◌, ◌*◌, ◌≤◌, ◌<◌, eqb, length, take, drop};
 ghost use Rattle.lists.specs.Choice.{pick};
@@ -12,7 +13,7 @@ ghost use Rattle.catalogue.specs.ToSheet.{rows_apart, as_sheet_page, as_sheet_or
 ghost use Rattle.catalogue.specs.Marks.{marked_by, free_in, sheet_place, entry_byte, sheet_check};
 
 // A board with its page moved, or the old one.
-#[derive(Drop)]
+#[derive(Clone, Copy)]
 pub struct Moved {
     pub refusal: refusal::Refusal,
     pub board: board::Board,

@@ -1,3 +1,4 @@
+#![tactic(auto)]
 // An index of phrases as four columns of numbers (02, R-6), one for each field of a record.
 // A record stands at each position that all four columns have, so the shortest column ends the list. What is decided of
 // a record is the crate `records`'.

@@ -1,3 +1,4 @@
+#![tactic(auto)]
 // Bytes copied from one buffer into another. Each caller sees to it that there is room.
 ghost use Rattle.std.specs.Prelude.{◌≡◌, ◌+◌, ◌≤◌, length};
 ghost use Rattle.copies.specs.Put.{put_at, taken_from};
@@ -7,7 +8,7 @@ fn copy_all(src: &[u8], dst: &mut [u8])
     requires { length src.now ≡ length dst.old }
     ensures { dst.new ≡ src.now }
 {
-    bytes::copy(src, dst);
+    dst.copy_from_slice(src);
 }
 
 // As many bytes of src as dst has room for, from a place on.

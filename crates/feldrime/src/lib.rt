@@ -1,8 +1,9 @@
+#![tactic(auto)]
 // What C calls. Only numbers and slices cross; every call checks what it is given, so none has a condition to meet.
 ghost use Rattle.std.specs.Prelude.{◌≡◌};
 ghost use Rattle.lists.specs.Choice.{pick};
 ghost use Rattle.board.specs.State.{power_of};
-ghost use Rattle.shape.specs.Font.{lent_font, left_font};
+ghost use Rattle.shape.specs.Font.{lent_font, font_to_fill, left_font};
 ghost use Rattle.records.specs.Records.{phrases_differ};
 ghost use Rattle.numbers.specs.Numbers.{numbers_check};
 ghost use Rattle.feldrime.specs.Answers.{archive_version, answer_of, board_answer};
@@ -24,7 +25,7 @@ pub extern "C" fn feldrime_version() -> u32
 
 // The refusal's number, and the number beside it.
 #[repr(C)]
-#[derive(Drop)]
+#[derive(Clone, Copy)]
 pub struct Answer {
     pub refusal: u32,
     pub beside: u32,
@@ -48,7 +49,7 @@ pub extern "C" fn feldrime_page_check(numbers: &[u8]) -> Answer
 
 // Visible lines, and dots in a line.
 #[repr(C)]
-#[derive(Drop)]
+#[derive(Clone, Copy)]
 pub struct SizeAnswer {
     pub refusal: u32,
     pub beside: u32,
@@ -109,7 +110,7 @@ pub extern "C" fn feldrime_page_write(
 
 // How many groups a font has, 0 or 16.
 #[repr(C)]
-#[derive(Drop)]
+#[derive(Clone, Copy)]
 pub struct FontAnswer {
     pub refusal: u32,
     pub beside: u32,
@@ -135,7 +136,7 @@ pub extern "C" fn feldrime_font_read(
     shifted: &mut [u8],
     groups: &mut [u8],
 ) -> FontAnswer
-    ensures { ReadsFontFor file.now (lent_font words flags unshifted shifted groups) result (left_font words flags unshifted shifted groups) }
+    ensures { ReadsFontFor file.now (font_to_fill words flags unshifted shifted groups) result (left_font words flags unshifted shifted groups) }
 {
     let refused = files::read_font(file, words, flags, unshifted, shifted, groups);
     FontAnswer {
@@ -212,7 +213,7 @@ pub extern "C" fn feldrime_picture_draw(
 
 // A row's first run of cells: from an address on, so many.
 #[repr(C)]
-#[derive(Drop)]
+#[derive(Clone, Copy)]
 pub struct RunAnswer {
     pub refusal: u32,
     pub beside: u32,
@@ -244,7 +245,7 @@ pub extern "C" fn feldrime_row_run(numbers: &[u8], chars: &[u8], row: u32) -> Ru
 
 // How many cells a row has; their addresses are put into a lent buffer.
 #[repr(C)]
-#[derive(Drop)]
+#[derive(Clone, Copy)]
 pub struct CellsAnswer {
     pub refusal: u32,
     pub beside: u32,
@@ -346,7 +347,7 @@ pub extern "C" fn feldrime_phrases_differ(phrases: &[records::Phrase]) -> record
 
 // An answer that carries a board.
 #[repr(C)]
-#[derive(Drop)]
+#[derive(Clone, Copy)]
 pub struct BoardAnswer {
     pub refusal: u32,
     pub beside: u32,
@@ -424,7 +425,7 @@ pub extern "C" fn feldrime_register_write(b: board::Board, address: u8, byte: u8
 }
 
 #[repr(C)]
-#[derive(Drop)]
+#[derive(Clone, Copy)]
 pub struct ByteAnswer {
     pub refusal: u32,
     pub beside: u32,
@@ -462,7 +463,7 @@ pub extern "C" fn feldrime_state_at(
 
 // What a step answers: a signal is 0 or 1, the dots are bytes as in a drawn line.
 #[repr(C)]
-#[derive(Drop)]
+#[derive(Clone, Copy)]
 pub struct StepAnswer {
     pub refusal: u32,
     pub beside: u32,
@@ -476,7 +477,7 @@ pub struct StepAnswer {
 }
 
 #[repr(C)]
-#[derive(Drop)]
+#[derive(Clone, Copy)]
 pub struct StepBy {
     pub answer: StepAnswer,
     pub board: board::Board,

@@ -1,3 +1,4 @@
+#![tactic(auto)]
 // Which cell is fetched: row table, row start, the cell at a column, a row's run and its cells.
 ghost use Rattle.std.specs.Prelude.{◌≡◌, ◌++◌, min, ◌<◌, ◌≤◌, ◌+◌, length, drop};
 ghost use Rattle.lists.specs.Tab.{tab};
@@ -8,7 +9,7 @@ ghost use Rattle.fetch.specs.RowCells.{cells_check, GivesCells};
 ghost use Rattle.fetch.specs.RowLaws.{column_by};
 
 // A row's first run: from a cell on, so many.
-#[derive(Drop)]
+#[derive(Clone, Copy)]
 pub struct Span {
     pub refusal: refusal::Refusal,
     pub start: usize,
@@ -16,7 +17,7 @@ pub struct Span {
 }
 
 // How many cells a row has; their addresses are put into a lent buffer.
-#[derive(Drop)]
+#[derive(Clone, Copy)]
 pub struct RowCells {
     pub refusal: refusal::Refusal,
     pub count: usize,

@@ -1,3 +1,4 @@
+#![tactic(auto)]
 // Page and font files, read and written.
 ghost use Rattle.std.specs.Prelude.{◌≡◌, ◌+◌, ◌*◌, ◌/◌, ◌%◌, ◌≤◌, ◌<◌, ◌++◌, length, take, drop, eqb};
 ghost use Rattle.board.specs.Layout.{layout_of, page_length, length_field, chars_place, attrs_place, file_size};
@@ -8,9 +9,9 @@ ghost use Rattle.copies.specs.Put.{put_at};
 ghost use Rattle.lists.specs.Choice.{pick};
 ghost use Rattle.lists.specs.Tab.{tab};
 ghost use Rattle.refusal.specs.declared.Refusal.{Refusal};
-ghost use Rattle.shape.specs.Font.{font_now, lent_font, left_font, Whole};
+ghost use Rattle.shape.specs.Font.{font_now, lent_font, font_to_fill, left_font, Whole};
 
-#[derive(Drop)]
+#[derive(Clone, Copy)]
 pub struct PageRead {
     pub refusal: refusal::Refusal,
     pub board: board::Board,
@@ -398,7 +399,7 @@ pub fn read_font(
     shifted: &mut [u8],
     groups: &mut [u8],
 ) -> refusal::Refusal
-    ensures { ReadsFont file.now (lent_font words flags unshifted shifted groups) result (left_font words flags unshifted shifted groups) }
+    ensures { ReadsFont file.now (font_to_fill words flags unshifted shifted groups) result (left_font words flags unshifted shifted groups) }
 {
     let size = shape::font_refused(words, flags, unshifted, shifted, groups)
         | ((version_in(file) == 2) & (groups.len() == 0));

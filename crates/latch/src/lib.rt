@@ -1,3 +1,4 @@
+#![tactic(auto)]
 // Which attributes are valid when a cell is reached (000, field mode), searched back from it.
 ghost use Rattle.std.specs.Prelude.{◌≡◌, true, ℕ, max, ◌<◌, ◌≤◌, length, get_or};
 ghost use Rattle.raster.specs.Latch.{last_set};

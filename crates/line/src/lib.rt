@@ -1,3 +1,4 @@
+#![tactic(auto)]
 // A whole line into a lent buffer.
 ghost use Rattle.std.specs.Prelude.{◌≡◌, ◌++◌, ◌*◌, ◌≤◌, ◌<◌, length, drop, ltb, leb};
 ghost use Rattle.lists.specs.Join.{joined};
@@ -11,7 +12,7 @@ ghost use Rattle.line.specs.Line.{row_for, scan_for, line_length, draw_check, Dr
 ghost use Rattle.line.specs.Walk.{last_of, walk_of, held_for, dots_for, column_for, shaped_over, Ready};
 
 // What is the same for all cells of a line: what its scan line takes from the font, and the width of a cell.
-#[derive(Drop)]
+#[derive(Clone, Copy)]
 pub struct Walk {
     pub line: shape::FontLine,
     pub width: units::Dots,

@@ -1,3 +1,4 @@
+#![tactic(auto)]
 // 01's listing as bytes, line by line.
 ghost use Rattle.std.specs.Prelude.{◌≡◌, [], ◌∷◌, ◌++◌, map, ◌+◌, ◌-◌, ◌≤◌, ◌<◌, length, take, drop};
 ghost use Rattle.shape.specs.Font.{lent_font};
@@ -6,7 +7,7 @@ ghost use Rattle.listing.specs.Answers.{listed};
 ghost use Rattle.listing.specs.Listing.{line_feed, letter_of, ListsHead, ListsLine};
 
 // How many bytes were written.
-#[derive(Drop)]
+#[derive(Clone, Copy)]
 pub struct Listed {
     pub refusal: refusal::Refusal,
     pub count: usize,
@@ -23,7 +24,7 @@ fn nothing(r: refusal::Refusal) -> Listed
 }
 
 // A number's decimal digits, at the front of the bytes.
-#[derive(Drop)]
+#[derive(Clone, Copy)]
 struct Digits {
     bytes: [u8; 20],
     count: usize,

@@ -1,3 +1,4 @@
+#![tactic(auto)]
 // The listing program but for C's `main` (programs/listing). It reads a page file, then a font file, from standard input
 // and writes the listing or the refusal to standard output.
 ghost use Rattle.std.specs.Prelude.{◌≤◌, length};
@@ -7,7 +8,7 @@ use libc::{STDIN_FILENO, STDOUT_FILENO};
 use listing::{Listed, listing_head, listing_line};
 
 // What was read stands at the front of the buffer; or reading failed.
-#[derive(Drop)]
+#[derive(Clone, Copy)]
 struct Input {
     failed: bool,
     count: usize,

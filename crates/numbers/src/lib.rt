@@ -1,3 +1,4 @@
+#![tactic(auto)]
 // A page's numbers as C has them: 32 bytes, the version first.
 ghost use Rattle.std.specs.Prelude.{◌≡◌, true, ◌+◌, ◌≤◌, length, drop, replicate};
 ghost use Rattle.refusal.specs.Number.{done_of};

@@ -1,3 +1,4 @@
+#![tactic(auto)]
 // An index of phrases (02, R-6): which record holds a row, and which two records disagree. The decisions are the crate `records`'; these go over the list.
 ghost use Rattle.std.specs.Prelude.{◌≡◌, ◌≤◌, ◌<◌, length, get_or};
 ghost use Rattle.records.specs.Records.{none, phrase_of_row, phrases_differ};

@@ -1,3 +1,4 @@
+#![tactic(auto)]
 // A whole picture into a lent buffer: tables once a picture, cells once a row, then dots only.
 ghost use Rattle.std.specs.Prelude.{◌≡◌, ◌++◌, false, ℕ, ◌*◌, ◌≤◌, ◌<◌, ltb, length, get_or, drop};
 ghost use Rattle.lists.specs.Join.{joined};
@@ -14,7 +15,7 @@ ghost use Rattle.picture.specs.Plan.{plan_of, cell_dots_of, cell_from, line_from
 ghost use Rattle.picture.specs.Agree.{shaped_over};
 
 // What is the same for all rows: columns, dots a cell, lines a row, its scan lines, rows, the bytes of a line and of a row, the buffer, how cells are read.
-#[derive(Drop)]
+#[derive(Clone, Copy)]
 pub struct Plan {
     pub columns: units::Clocks,
     pub dots: units::Dots,

@@ -1,3 +1,4 @@
+#![tactic(auto)]
 // The board's place: one clock on, and the place for clock n at once.
 ghost use Rattle.std.specs.Prelude.{◌≡◌, ◌<◌, length, ◌==◌};
 ghost use Rattle.lists.specs.Choice.{pick};
@@ -12,13 +13,13 @@ ghost use Rattle.board.specs.Parts.{with_place};
 ghost use Rattle.place.specs.State.{state_of};
 
 // What the beam carries along, with its row's code, and what its row began with.
-#[derive(Drop)]
+#[derive(Clone, Copy)]
 pub struct Carried {
     pub beam: raster::Row,
     pub row: raster::Row,
 }
 
-#[derive(Drop)]
+#[derive(Clone, Copy)]
 pub struct StateAt {
     pub refusal: refusal::Refusal,
     pub board: board::Board,
@@ -274,7 +275,7 @@ fn row_at(p: board::Page, chars: &[u8], attrs: &[u8], row: u32, c: units::Clocks
 }
 
 // A row, and how many clocks of it are over.
-#[derive(Drop)]
+#[derive(Clone, Copy)]
 pub struct Spot {
     pub row: u32,
     pub clocks: units::Clocks,

@@ -1,3 +1,4 @@
+#![tactic(auto)]
 // The beam: where it is, and which cell it is at. Almost all of this crate is theory (specs/); the code is the move from cell to cell.
 ghost use Rattle.std.specs.Prelude.{◌≡◌};
 ghost use Rattle.raster.specs.Moves.{cell, advance, advance_by};
@@ -5,14 +6,14 @@ ghost use Rattle.raster.specs.Latch.{latched};
 ghost use Rattle.raster.specs.Wide.{code_of, is_wide, is_top, is_bottom, again_at};
 
 // A cell, by its address.
-#[derive(Drop)]
+#[derive(Clone, Copy)]
 pub struct Cell {
     pub address: u16,
 }
 
 // What the beam carries along, and what a row keeps: a cell's address, and the attribute byte that was latched before it, 0 for none.
 #[repr(C)]
-#[derive(Drop)]
+#[derive(Clone, Copy)]
 pub struct Beam {
     pub address: u16,
     pub latch: u8,
@@ -20,7 +21,7 @@ pub struct Beam {
 
 // What a row keeps beside them: its code, of which two bits count.
 #[repr(C)]
-#[derive(Drop)]
+#[derive(Clone, Copy)]
 pub struct Row {
     pub address: u16,
     pub latch: u8,
@@ -28,7 +29,7 @@ pub struct Row {
 }
 
 // 02, R-4: a row of double width, or the top or bottom half of one.
-#[derive(Drop)]
+#[derive(Clone, Copy)]
 pub enum Code {
     Plain,
     Wide,
@@ -37,7 +38,7 @@ pub enum Code {
 }
 
 // The counts that the beam goes by: clocks per line, of which so many are active; lines per frame; lines per row; rows.
-#[derive(Drop)]
+#[derive(Clone, Copy)]
 pub struct Counts {
     pub ht: units::Clocks,
     pub hact: units::Clocks,
@@ -47,7 +48,7 @@ pub struct Counts {
 }
 
 // The first and the last buffer address. The first may be above the last.
-#[derive(Drop)]
+#[derive(Clone, Copy)]
 pub struct Buffer {
     pub first: u16,
     pub last: u16,

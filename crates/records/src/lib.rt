@@ -1,3 +1,4 @@
+#![tactic(auto)]
 // One record of an index of phrases (02, R-6): what is asked of it, and what it answers.
 ghost use Rattle.std.specs.Prelude.{◌≡◌, ◌+◌, min, max, ◌<◌};
 ghost use Rattle.raster.specs.Moves.{Bounded};
@@ -7,7 +8,7 @@ ghost use Rattle.records.specs.Folds.{start_of, visit_of, label_of, same_label, 
 
 // A phrase in a language, by its number: its cells are first to first + length - 1. Any four numbers may be handed over.
 #[repr(C)]
-#[derive(Drop)]
+#[derive(Clone, Copy)]
 pub struct Phrase {
     pub language: u32,
     pub number: u32,
@@ -17,7 +18,7 @@ pub struct Phrase {
 
 // The lowest record that holds a row, where one does. With 20 the position is the first bad record's.
 #[repr(C)]
-#[derive(Drop)]
+#[derive(Clone, Copy)]
 pub struct PhraseAnswer {
     pub refusal: u32,
     pub beside: u32,
@@ -27,7 +28,7 @@ pub struct PhraseAnswer {
 
 // Two records that disagree, where there are two. With 20 the first bad record stands in earlier.
 #[repr(C)]
-#[derive(Drop)]
+#[derive(Clone, Copy)]
 pub struct PairAnswer {
     pub refusal: u32,
     pub beside: u32,
@@ -37,14 +38,14 @@ pub struct PairAnswer {
 }
 
 // The lowest and the highest of a row's cells.
-#[derive(Drop)]
+#[derive(Clone, Copy)]
 pub struct Ends {
     pub low: u16,
     pub high: u16,
 }
 
 // What is asked of each record: a refusal that came before, or the ends of a row's cells.
-#[derive(Drop)]
+#[derive(Clone, Copy)]
 pub struct Asked {
     pub refusal: u32,
     pub beside: u32,
@@ -53,7 +54,7 @@ pub struct Asked {
 }
 
 // The first later record that disagrees with one, where there is one, and whether that one is bad.
-#[derive(Drop)]
+#[derive(Clone, Copy)]
 pub struct Mate {
     pub bad: bool,
     pub found: bool,

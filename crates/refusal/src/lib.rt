@@ -1,9 +1,10 @@
+#![tactic(auto)]
 // The answer numbers of documents 01 and 02, by name.
 ghost use Rattle.std.specs.Prelude.{◌≡◌};
 ghost use Rattle.refusal.specs.Number.{number_of, beside_of, done_of, wrong_size};
 
 // A line that is too short, and a front porch that is, tell by how many clocks the front porch misses 2.
-#[derive(Drop)]
+#[derive(Clone, Copy)]
 pub enum Refusal {
     Done,
     Version,

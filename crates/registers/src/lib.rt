@@ -1,3 +1,4 @@
+#![tactic(auto)]
 // What the processor writes and reads (003 Tables 1, 4 and 6), and the video setting.
 ghost use Rattle.std.specs.Prelude.{◌≡◌, [], ◌∷◌, max, ◌≤◌, ◌-◌, ◌+◌};
 ghost use Rattle.lists.specs.Choice.{pick, first_of};
@@ -8,13 +9,13 @@ ghost use Rattle.registers.specs.Read.{shown_at, read_at, read_of};
 ghost use Rattle.registers.specs.Answers.{answer, byte_read};
 ghost use Rattle.registers.specs.Video.{video_check, with_dots, video_set, set_video_of};
 
-#[derive(Drop)]
+#[derive(Clone, Copy)]
 pub struct Written {
     pub refusal: refusal::Refusal,
     pub board: board::Board,
 }
 
-#[derive(Drop)]
+#[derive(Clone, Copy)]
 pub struct ByteRead {
     pub refusal: refusal::Refusal,
     pub byte: u8,

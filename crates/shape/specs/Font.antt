@@ -1,6 +1,6 @@
 -- 01, "From cell to dots", the character (002): which font word a code shows on a scan line.
 use Rattle.std.specs.Prelude.{ℕ, suc, ◌+◌, ◌*◌, ◌/◌, ◌%◌, ◌≡◌, Bool, true, false, ◌&&◌, ◌||◌, not, List, [], ◌∷◌, length, get_or, eqb, ltb}
-use Rattle.std.specs.Borrow.{Bor}
+use Rattle.std.specs.Borrow.{Bor, MutBor}
 use denote.Triple.Both.{Both}
 use Rattle.lists.specs.Choice.{pick}
 use Rattle.lists.specs.Tab.{tab}
@@ -27,8 +27,12 @@ font_now w f u s g = font_of w.now f.now u.now s.now g.now
 abbrev pub lent_font : {A B C D E : Type 0} → Both (Bor (List ℕ)) A → Both (Bor (List ℕ)) B → Both (Bor (List ℕ)) C → Both (Bor (List ℕ)) D → Both (Bor (List ℕ)) E → Font
 lent_font w f u s g = font_now w.entry f.entry u.entry s.entry g.entry
 
-abbrev pub left_font : {A B C D E : Type 0} → Both A (Bor (List ℕ)) → Both B (Bor (List ℕ)) → Both C (Bor (List ℕ)) → Both D (Bor (List ℕ)) → Both E (Bor (List ℕ)) → Font
-left_font w f u s g = font_now w.exit f.exit u.exit s.exit g.exit
+-- the same for five parts that are lent to be written: the font as it was lent, and as it is left
+abbrev pub font_to_fill : {A B C D E : Type 0} → Both (MutBor (List ℕ)) A → Both (MutBor (List ℕ)) B → Both (MutBor (List ℕ)) C → Both (MutBor (List ℕ)) D → Both (MutBor (List ℕ)) E → Font
+font_to_fill w f u s g = font_of w.entry.now f.entry.now u.entry.now s.entry.now g.entry.now
+
+abbrev pub left_font : {A B C D E : Type 0} → Both A (MutBor (List ℕ)) → Both B (MutBor (List ℕ)) → Both C (MutBor (List ℕ)) → Both D (MutBor (List ℕ)) → Both E (MutBor (List ℕ)) → Font
+left_font w f u s g = font_of w.exit.now f.exit.now u.exit.now s.exit.now g.exit.now
 
 pub record Whole (f : Font) : Type 0 where
   pub words-all : length f.words ≡ 1152

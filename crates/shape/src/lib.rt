@@ -1,3 +1,4 @@
+#![tactic(auto)]
 // The character generator (002): from a code, a scan line and the font to ten dots.
 ghost use Rattle.std.specs.Prelude.{◌≡◌, ◌<◌, length, get_or};
 ghost use Rattle.lists.specs.Tab.{tab};
@@ -5,7 +6,7 @@ ghost use Rattle.shape.specs.Font.{font_refused, groups_refused, groups_check, p
 ghost use Rattle.shape.specs.Laws.{weight_of};
 
 // What a scan line takes from a font: the first position in each of its two lists that equals the scan line, or the list's length; and its group.
-#[derive(Drop)]
+#[derive(Clone, Copy)]
 pub struct FontLine {
     pub unshifted: usize,
     pub shifted: usize,
@@ -13,7 +14,7 @@ pub struct FontLine {
 }
 
 // The same for each of the sixteen scan lines.
-#[derive(Drop)]
+#[derive(Clone, Copy)]
 pub struct FontLines {
     pub unshifted: [usize; 16],
     pub shifted: [usize; 16],

@@ -1,3 +1,4 @@
+#![tactic(auto)]
 // One clock of the board: its signals, address and dots, and the board for the next clock.
 ghost use Rattle.std.specs.Prelude.{◌≡◌, false, ◌≤◌, ◌<◌, length};
 ghost use Rattle.lists.specs.Choice.{pick};
@@ -14,7 +15,7 @@ ghost use Rattle.step.specs.Signals.{scan_in, hsync_in, vsync_in, padded, odd_in
 ghost use Rattle.step.specs.Step.{step_of, clock_in};
 ghost use Rattle.step.specs.Shown.{signals_with, cell_shown, blank_shown, line_in, shown_in, clock_with};
 
-#[derive(Drop)]
+#[derive(Clone, Copy)]
 pub struct Signals {
     pub hsync: bool,
     pub vsync: bool,
@@ -24,7 +25,7 @@ pub struct Signals {
 }
 
 // What a clock puts out: what refuses it, its signals, the address fetched or held, and the dots. Then the next place.
-#[derive(Drop)]
+#[derive(Clone, Copy)]
 pub struct Clock {
     pub refusal: refusal::Refusal,
     pub signals: Signals,
@@ -34,7 +35,7 @@ pub struct Clock {
 }
 
 // The same with the board for the next clock.
-#[derive(Drop)]
+#[derive(Clone, Copy)]
 pub struct Stepped {
     pub refusal: refusal::Refusal,
     pub signals: Signals,
@@ -44,7 +45,7 @@ pub struct Stepped {
 }
 
 // What a clock shows: CURSOR, and the look and the word of a cell.
-#[derive(Drop)]
+#[derive(Clone, Copy)]
 struct Shown {
     cursor: bool,
     look: video::Look,

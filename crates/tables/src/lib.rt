@@ -1,3 +1,4 @@
+#![tactic(auto)]
 // What lines and pictures are drawn from: cells as numbers, tables by mark and by sign.
 ghost use Rattle.std.specs.Prelude.{◌≡◌, ◌++◌, ◌+◌, ◌-◌, ◌*◌, ◌/◌, ◌%◌, ◌≤◌, ◌<◌, length, drop};
 ghost use Rattle.lists.specs.Choice.{pick};

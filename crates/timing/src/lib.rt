@@ -1,3 +1,4 @@
+#![tactic(auto)]
 // The registers decoded into counts (003 Table 2), the page check, and the size of a picture.
 ghost use Rattle.std.specs.Prelude.{◌≡◌, [], ◌∷◌, ◌/◌, ◌%◌};
 ghost use Rattle.lists.specs.Choice.{first_of};
@@ -7,7 +8,7 @@ ghost use Rattle.timing.specs.Fields.{coded_of, scans_of, lines_of, ec_of, table
 ghost use Rattle.timing.specs.Check.{reserved_refused, back_porch_refused, line_short, front_porch_refused, missing, width_refused, page_check, size_of, state_refused, call_check};
 
 // A line's and a frame's front porch and sync, and the counts that the beam goes by.
-#[derive(Drop)]
+#[derive(Clone, Copy)]
 pub struct Timing {
     pub hsync: units::Clocks,
     pub hfp: units::Clocks,
@@ -17,7 +18,7 @@ pub struct Timing {
 }
 
 // The cursor's first and last scan line; whether it blinks, and over how many fields.
-#[derive(Drop)]
+#[derive(Clone, Copy)]
 pub struct CursorLook {
     pub first: units::Lines,
     pub last: units::Lines,
@@ -26,7 +27,7 @@ pub struct CursorLook {
 }
 
 // The visible lines of a page, and the dots in each.
-#[derive(Drop)]
+#[derive(Clone, Copy)]
 pub struct PageSize {
     pub refusal: refusal::Refusal,
     pub lines: units::Lines,

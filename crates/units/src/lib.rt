@@ -1,3 +1,4 @@
+#![tactic(auto)]
 // The three units of the papers: character clocks, scan lines, dots. A count of one is never added to a count of another.
 // Only here is a count's plain number worked with: sums and comparisons within a unit, the conversions between them, and
 // those to cells of a row and places of a buffer, which are plain numbers. Elsewhere it is only handed on: to C, as the
@@ -6,15 +7,15 @@ ghost use Rattle.std.specs.Prelude.{◌≡◌, min, ◌+◌, ◌-◌, ◌*◌, �
 ghost use Rattle.units.specs.Units.{clocks, lines, during, clocks_of, dots_of, whole_lines};
 
 #[repr(C)]
-#[derive(Drop)]
+#[derive(Clone, Copy)]
 pub struct Clocks(pub u32);
 
 #[repr(C)]
-#[derive(Drop)]
+#[derive(Clone, Copy)]
 pub struct Lines(pub u32);
 
 #[repr(C)]
-#[derive(Drop)]
+#[derive(Clone, Copy)]
 pub struct Dots(pub u32);
 
 // a - b, and 0 where b is more.

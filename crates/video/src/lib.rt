@@ -1,3 +1,4 @@
+#![tactic(auto)]
 // The attributes controller (000): from attributes and cursor to black, gray and white.
 ghost use Rattle.std.specs.Prelude.{◌≡◌, ◌≤◌, ◌<◌};
 ghost use Rattle.std.specs.Bool.{xor};
@@ -12,7 +13,7 @@ ghost use Rattle.video.specs.At.{lent_refused, lent_by, lent_check, reading_of, 
 
 // What is the same for all cells of a scan line: whether the picture is shown, the blank level, BKGND, BLINK, whether this is the
 // underline line and the strike line, whether the cursor gate opens on this line, and at which address.
-#[derive(Drop)]
+#[derive(Clone, Copy)]
 pub struct Scene {
     pub shown: bool,
     pub blank: u8,
@@ -26,7 +27,7 @@ pub struct Scene {
 
 // How a page's cells are read: where the cursor is, whether attributes run on, whether a cell that sets them has zero dots, and whether bit 5 of
 // them means graphics.
-#[derive(Drop)]
+#[derive(Clone, Copy)]
 pub struct Reading {
     pub cursor: u16,
     pub runs: bool,
@@ -35,7 +36,7 @@ pub struct Reading {
 }
 
 // A cell's two levels, and whether a line lights all its dots.
-#[derive(Drop)]
+#[derive(Clone, Copy)]
 pub struct Look {
     pub lit: bool,
     pub symbol: u8,
@@ -43,7 +44,7 @@ pub struct Look {
 }
 
 // The inputs of 000's Table 1.
-#[derive(Drop)]
+#[derive(Clone, Copy)]
 struct Case {
     blank: bool,
     rblank: bool,
@@ -54,7 +55,7 @@ struct Case {
 }
 
 // A line of it: what it asks of each input, and what it gives, the level of the symbol, underline and strike-through too, and that of its surround.
-#[derive(Drop)]
+#[derive(Clone, Copy)]
 struct TableLine {
     blank: u8,
     rblank: u8,

@@ -1,0 +1,6 @@
+use borrow.Author.Rules.{rules}
+use Rattle.dots.specs.Bytes.{nibble}
+use Rattle.dots.proofs.nibble.Goals as goal
+
+pub returns : goal.returns
+returns c = nibble c.args.w

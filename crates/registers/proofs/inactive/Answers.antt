@@ -1,0 +1,27 @@
+-- Rests on the ranges of addresses, and on whether the write is a reset.
+use mathlib.Core.Path.{refl, ap, ◌∙◌}
+use native.Mathlib.Omega.{arith}
+use borrow.Author.Rules.{rules}
+use Rattle.lists.specs.Choice.{stop, pass, inside, over}
+use Rattle.refusal.specs.declared.Refusal.TheVariants.{Done}
+use Rattle.registers.specs.Answers.{answer}
+use Rattle.registers.specs.Write.{inactive_of}
+use Rattle.registers.proofs.inactive.Goals as goal
+
+pub returns-then-a-v : goal.returns-then-a-v
+unfolding inactive_of
+returns-then-a-v c =
+    let a = c.args.a in
+    stop _ (inside 0 7 a (omega arith) (omega arith))
+    (stop _ c.if-a-v.true (c.done.ensures ∙ ap (answer Done) c.reset.ensures))
+
+pub returns-else-a-v : goal.returns-else-a-v
+unfolding inactive_of
+returns-else-a-v c =
+    let a = c.args.a in
+    stop _ (inside 0 7 a (omega arith) (omega arith))
+    (pass _ c.if-a-v.false (c.done-else-a-v.ensures ∙ ap (answer Done) c.broken.ensures))
+
+pub returns-in_default : goal.returns-in_default
+unfolding inactive_of
+returns-in_default c = pass _ (over 0 7 c.args.a (omega arith)) refl

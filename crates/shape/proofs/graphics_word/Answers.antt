@@ -1,0 +1,8 @@
+use native.Mathlib.Omega.{arith}
+use borrow.Author.Rules.{rules}
+use Rattle.shape.specs.Font.{graphics_word}
+use Rattle.shape.proofs.graphics_word.Goals as goal
+
+pub returns : goal.returns
+unfolding graphics_word
+returns c = rw c.pair_of-pair.ensures.0

@@ -1,0 +1,8 @@
+use mathlib.Core.Path.{refl}
+use borrow.Author.Rules.{rules}
+use Rattle.timing.specs.Fields.{cursor_of}
+use Rattle.timing.proofs.cursor_of.Goals as goal
+
+pub returns : goal.returns
+unfolding cursor_of
+returns c = refl

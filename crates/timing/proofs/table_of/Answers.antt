@@ -1,0 +1,8 @@
+use mathlib.Core.Path.{refl}
+use borrow.Author.Rules.{rules}
+use Rattle.timing.specs.Fields.{table_of}
+use Rattle.timing.proofs.table_of.Goals as goal
+
+pub returns : goal.returns
+unfolding table_of
+returns c = refl

@@ -1,9 +1,0 @@
-use borrow.Author.Rules.{rules}
-use Rattle.units.proofs.Lines.minus.Statement.{statement}
-use Rattle.units.proofs.Lines.minus.Tie as tie
-
-returns : tie.Need-returns
-returns c = cc
-
-pub minus-spec : {M : Type 1} → statement M
-minus-spec = tie.close (tie.spec (λ c κs. search rules) returns)
