@@ -1,0 +1,13 @@
+-- Rests on the invariant: a is the lowest place that is left, and the cells from there to x have no mark.
+use Prim.Native.Nat.{◌+◌, ◌-◌, ◌<◌}
+use native.Mathlib.Omega.{arith}
+use borrow.Author.Tests.{ltb-true}
+use Rattle.lists.specs.Choice.{both}
+use Rattle.catalogue.specs.Marks.{Searching, search-begins, search-turn, search-found, all-looked-at, search-none}
+use Rattle.catalogue.proofs.lowest.Given as goal
+
+abbrev pub invariant-loop-x : goal.invariant-loop-x
+invariant-loop-x l = Searching l.marks l.n l.a l.x
+
+abbrev pub decreases-loop-x : goal.decreases-loop-x
+decreases-loop-x l = 16384 - l.x

@@ -1,0 +1,8 @@
+use mathlib.Core.Path.{◌∙◌}
+use borrow.Author.Rules.{rules}
+use Rattle.catalogue.specs.ToTable.{own_check}
+use Rattle.catalogue.proofs.own_check.Goals as goal
+
+pub returns : goal.returns
+unfolding own_check
+returns c = c.call_check.ensures ∙ rw c.wrong_size.ensures

@@ -1,0 +1,20 @@
+-- Rests on the invariant: the entries put so far, and where the next row starts.
+use Prim.Native.Nat.{ℕ, ◌+◌, ◌-◌, ◌*◌, ◌≤◌, ◌<◌}
+use mathlib.Core.Path.{◌≡◌, refl, sym, ap, ◌∙◌}
+use mathlib.Core.List.{◌++◌}
+use native.Mathlib.Nat.{zero-mul}
+use native.Mathlib.Omega.{arith}
+use borrow.Author.Rules.{rules}
+use lib.ListN.{length, drop, length-set}
+use Rattle.lists.specs.Tab.{tab}
+use Rattle.raster.specs.Moves.{cell, advance_by, advance_by-zero, advance_by-lt}
+use Rattle.catalogue.specs.Marks.{entry_byte, entry-put, row_on}
+use Rattle.catalogue.proofs.put_table.Given as goal
+
+abbrev pub invariant-loop-r : goal.invariant-loop-r
+invariant-loop-r l =
+    (l.r ≤ l.rows) × (length l.out ≡ length l.initial.out) × (l.cell ≡ cell (advance_by l.buffer (l.r * l.columns) l.initial.cell.address))
+    × (l.out ≡ tab (2 * l.r) (entry_byte l.buffer l.initial.cell.address (l.columns)) ++ drop (2 * l.r) l.initial.out)
+
+abbrev pub decreases-loop-r : goal.decreases-loop-r
+decreases-loop-r l = l.rows - l.r

@@ -1,0 +1,16 @@
+-- Rests on the loop that stores one word a turn (lists Tab).
+use Prim.Native.Nat.{ℕ, ◌≤◌, ◌-◌, ◌*◌, zero-le}
+use mathlib.Core.Path.{◌≡◌, refl}
+use mathlib.Core.List.{◌++◌}
+use native.Mathlib.Omega.{arith}
+use borrow.Author.Rules.{rules}
+use lib.ListN.{length, drop}
+use Rattle.lists.specs.Tab.{tab, tab-turn, tab-ends}
+use Rattle.files.specs.Page.{word_at}
+use Rattle.files.proofs.read_words.Given as goal
+
+abbrev pub invariant-loop-i : goal.invariant-loop-i
+invariant-loop-i l = (l.i ≤ length l.initial.dst) × (length l.dst ≡ length l.initial.dst) × (l.dst ≡ tab l.i (λ (k : ℕ). word_at l.src (2 * k)) ++ drop l.i l.initial.dst)
+
+abbrev pub decreases-loop-i : goal.decreases-loop-i
+decreases-loop-i l = length l.initial.dst - l.i

@@ -1,0 +1,8 @@
+use mathlib.Core.Path.{refl}
+use borrow.Author.Rules.{rules}
+use Rattle.records.specs.Records.{bad_record}
+use Rattle.records.proofs.is_bad.Goals as goal
+
+pub returns : goal.returns
+unfolding bad_record
+returns c = refl

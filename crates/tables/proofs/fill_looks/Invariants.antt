@@ -1,0 +1,20 @@
+-- Rests on the loop that lends each turn its own stretch (lists Join), one scan line a turn.
+use Prim.Native.Nat.{◌≤◌, ◌-◌, ◌*◌}
+use mathlib.Core.List.{◌++◌}
+use native.Mathlib.Omega.{arith}
+use borrow.Author.Rules.{rules}
+use lib.ListN.{length, drop, length-take, length-drop}
+use Rattle.lists.specs.Fill.{Filling}
+use Rattle.lists.specs.Join.{joined, join-begins, join-turn, join-ends}
+use Rattle.tables.specs.Tables.{levels_at}
+use Rattle.tables.specs.Marks.{blank-lt}
+use Rattle.tables.specs.Laws.{length-levels}
+use Rattle.tables.proofs.fill_looks.Given as goal
+
+abbrev pub invariant-loop-s : goal.invariant-loop-s
+invariant-loop-s l =
+    (l.s ≤ l.count)
+    × Filling (joined 0 l.count (levels_at l.b l.field) ++ drop (l.count * 128) l.initial.table) l.initial.table (l.count * 128) l.table (l.s * 128) (joined l.s (l.count - l.s) (levels_at l.b l.field))
+
+abbrev pub decreases-loop-s : goal.decreases-loop-s
+decreases-loop-s l = l.count - l.s

@@ -1,0 +1,20 @@
+-- Rests on the loop that lends each turn its own stretch (lists Join), one scan line a turn.
+use Prim.Native.Nat.{◌≤◌, ◌-◌, ◌*◌}
+use mathlib.Core.List.{◌++◌}
+use native.Mathlib.Omega.{arith}
+use borrow.Author.Rules.{rules}
+use lib.ListN.{length, drop, length-take, length-drop}
+use Rattle.lists.specs.Fill.{Filling}
+use Rattle.lists.specs.Join.{joined, join-begins, join-turn, join-ends}
+use Rattle.tables.specs.Tables.{words_at}
+use Rattle.tables.specs.Laws.{length-words}
+use Rattle.tables.proofs.fill_words.Given as goal
+
+abbrev pub invariant-loop-s : goal.invariant-loop-s
+invariant-loop-s l =
+    (l.s ≤ l.count)
+    × Filling (joined 0 l.count (words_at l.words l.flags l.lines l.d) ++ drop (l.count * 512) l.initial.table) l.initial.table (l.count * 512) l.table (l.s * 512)
+    (joined l.s (l.count - l.s) (words_at l.words l.flags l.lines l.d))
+
+abbrev pub decreases-loop-s : goal.decreases-loop-s
+decreases-loop-s l = l.count - l.s

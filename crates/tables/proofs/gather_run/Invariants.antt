@@ -1,0 +1,23 @@
+-- Rests on the invariant: cells put, and what is valid before the next one.
+use Prim.Native.Nat.{◌+◌, ◌-◌, ◌≤◌, ◌<◌, zero-le}
+use mathlib.Core.Path.{◌≡◌, refl, ap, sym, ◌∙◌}
+use mathlib.Core.List.{◌++◌}
+use native.Mathlib.Omega.{arith}
+use borrow.Author.Rules.{rules}
+use lib.ListN.{length, drop}
+use Rattle.lists.specs.Choice.{pick-le}
+use Rattle.lists.specs.Tab.{tab, tab-turn, tab-upto}
+use Rattle.raster.specs.Moves.{cell as cell_of}
+use Rattle.tables.specs.Tables.{held_by, cell_by}
+use Rattle.tables.specs.Laws.{sign-by, as-cell, runs_on, not-run}
+use Rattle.tables.specs.Run.{whole, whole-at}
+use Rattle.tables.proofs.gather_run.Given as goal
+
+abbrev pub invariant-loop-c : goal.invariant-loop-c
+invariant-loop-c l =
+    (l.c ≤ l.n) × (length l.cells ≡ length l.initial.cells)
+    × (l.cells ≡ tab l.c (cell_by l.k l.chars l.attrs whole l.held l.from) ++ drop l.c l.initial.cells)
+    × (l.valid ≡ held_by l.k.runs l.attrs whole l.held l.from l.c)
+
+abbrev pub decreases-loop-c : goal.decreases-loop-c
+decreases-loop-c l = l.n - l.c

@@ -1,0 +1,18 @@
+-- Rests on the loop that stores one element a turn (lists Tab).
+use Prim.Native.Nat.{◌≤◌, ◌-◌, zero-le}
+use mathlib.Core.Path.{◌≡◌, refl}
+use mathlib.Core.List.{◌++◌}
+use native.Mathlib.Omega.{arith}
+use borrow.Author.Rules.{rules}
+use lib.ListN.{length, drop}
+use Rattle.lists.specs.Tab.{tab, tab-turn, tab-upto}
+use Rattle.tables.specs.Tables.{levels_for}
+use Rattle.tables.proofs.half.Goals as goal
+
+pub loop-i-init : goal.loop-i-init
+unfolding tab
+loop-i-init c = (zero-le, refl, refl)
+
+pub loop-i-preserved : goal.loop-i-preserved
+loop-i-preserved c =
+    (omega (arith, c.loop-i-test.true), search rules, tab-turn (levels_for c.args.s c.args.here) c.args.table.now _ c.loop-i.i c.loop-i.invariant.2 _ (omega (arith, c.requires, c.loop-i-test.true)) c.levels.ensures)

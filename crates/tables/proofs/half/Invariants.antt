@@ -1,0 +1,16 @@
+-- Rests on the loop that stores one element a turn (lists Tab).
+use Prim.Native.Nat.{◌≤◌, ◌-◌, zero-le}
+use mathlib.Core.Path.{◌≡◌, refl}
+use mathlib.Core.List.{◌++◌}
+use native.Mathlib.Omega.{arith}
+use borrow.Author.Rules.{rules}
+use lib.ListN.{length, drop}
+use Rattle.lists.specs.Tab.{tab, tab-turn, tab-upto}
+use Rattle.tables.specs.Tables.{levels_for}
+use Rattle.tables.proofs.half.Given as goal
+
+abbrev pub invariant-loop-i : goal.invariant-loop-i
+invariant-loop-i l = (l.i ≤ 64) × (length l.table ≡ length l.initial.table) × (l.table ≡ tab l.i (levels_for l.s l.here) ++ drop l.i l.initial.table)
+
+abbrev pub decreases-loop-i : goal.decreases-loop-i
+decreases-loop-i l = 64 - l.i

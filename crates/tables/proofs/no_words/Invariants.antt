@@ -1,0 +1,16 @@
+-- Rests on the loop that stores one number a turn (lists Tab).
+use Prim.Native.Nat.{◌≤◌, ◌-◌, zero-le}
+use mathlib.Core.Path.{◌≡◌, refl}
+use mathlib.Core.List.{◌++◌}
+use native.Mathlib.Omega.{arith}
+use borrow.Author.Rules.{rules}
+use lib.ListN.{length, drop}
+use Rattle.lists.specs.Tab.{tab, tab-turn, tab-upto}
+use Rattle.tables.specs.Tables.{no_word}
+use Rattle.tables.proofs.no_words.Given as goal
+
+abbrev pub invariant-loop-i : goal.invariant-loop-i
+invariant-loop-i l = (l.i ≤ 128) × (length l.table ≡ length l.initial.table) × (l.table ≡ tab l.i no_word ++ drop l.i l.initial.table)
+
+abbrev pub decreases-loop-i : goal.decreases-loop-i
+decreases-loop-i l = 128 - l.i

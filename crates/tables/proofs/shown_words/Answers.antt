@@ -1,0 +1,8 @@
+-- Rests on signs: the letters, then graphics.
+use borrow.Author.Rules.{rules}
+use Rattle.tables.specs.Halves.{signs}
+use Rattle.tables.proofs.shown_words.Goals as goal
+
+pub returns : goal.returns
+returns c =
+    signs c.args.words.now c.args.flags.now c.args.line c.args.d c.args.table.now _ _ c.requires.2 c.letter_words.ensures c.pair_words.ensures
