@@ -13,28 +13,29 @@ use Rattle.files.proofs.put_bytes.Goals as goal
 
 pub slice_bounds-irs-end : goal.slice_bounds-irs-end
 slice_bounds-irs-end c =
+    let fits = layout-fits c.args.p.version in
+    let most : c.layout_of-layout.result.irs ≤ 15 = rw c.layout_of-layout.ensures fits.irs-most in
     let irs-all : length c.args.p.irs ≡ 15 = search rules in
-    let most : (c.layout_of-layout.result.irs ≤ 15) × (c.layout_of-layout.result.rest ≤ 10) = 
-        let fits = layout-fits c.args.p.version in
-        rw c.layout_of-layout.ensures (fits.irs-most, fits.rest-most) in
-    omega (arith, most.0, irs-all)
+    omega (arith, most, irs-all)
 
 pub slice_bounds-put-end : goal.slice_bounds-put-end
 slice_bounds-put-end c =
-    let taken : length (take c.layout_of-layout.result.irs c.args.p.irs) ≡ c.layout_of-layout.result.irs = length-take-le c.layout_of-layout.result.irs c.args.p.irs (array-share-prefix-irs c) in
-    sym taken
+    let fits = layout-fits c.args.p.version in
+    let most : c.layout_of-layout.result.irs ≤ 15 = rw c.layout_of-layout.ensures fits.irs-most in
+    let irs-all : length c.args.p.irs ≡ 15 = search rules in
+    sym (length-take-le c.layout_of-layout.result.irs c.args.p.irs (omega (arith, most, irs-all)))
 
 pub slice_bounds-tail-end : goal.slice_bounds-tail-end
 slice_bounds-tail-end c =
-    let most : (c.layout_of-layout.result.irs ≤ 15) × (c.layout_of-layout.result.rest ≤ 10) = 
-        let fits = layout-fits c.args.p.version in
-        rw c.layout_of-layout.ensures (fits.irs-most, fits.rest-most) in
-    rw (c.tail_of-tail.ensures, tail-long c.args.p) most.1
+    let fits = layout-fits c.args.p.version in
+    let most : c.layout_of-layout.result.rest ≤ 10 = rw c.layout_of-layout.ensures fits.rest-most in
+    rw (c.tail_of-tail.ensures, tail-long c.args.p) most
 
 pub slice_bounds-put-end-2 : goal.slice_bounds-put-end-2
 slice_bounds-put-end-2 c =
-    let tail-taken : length (take c.layout_of-layout.result.rest c.tail_of-tail.result) ≡ c.layout_of-layout.result.rest = length-take-le c.layout_of-layout.result.rest c.tail_of-tail.result (array-share-prefix-tail c) in
-    sym tail-taken
+    let fits = layout-fits c.args.p.version in
+    let most : c.layout_of-layout.result.rest ≤ 10 = rw c.layout_of-layout.ensures fits.rest-most in
+    sym (length-take-le c.layout_of-layout.result.rest c.tail_of-tail.result (rw (c.tail_of-tail.ensures, tail-long c.args.p) most))
 
 pub returns : goal.returns
 returns c =

@@ -14,7 +14,7 @@ said t e q = ap (λ (y : Bool). t && y) (sym e) ∙ q
 
 pub returns-then-not-bad-good : goal.returns-then-not-bad-good
 returns-then-not-bad-good c =
-    let none = neither _ _ (not-true _ c.if-not-bad-good.true) in
+    let none = neither _ _ c.if-not-bad-good.true in
     visit-on _ _ _ _ (sym c.is_bad-bad.ensures ∙ none.0) (sym c.holds-good.ensures ∙ none.1)
 
 pub returns-then-s-bad : goal.returns-then-s-bad

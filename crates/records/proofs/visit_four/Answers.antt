@@ -9,7 +9,7 @@ use Rattle.records.proofs.visit_four.Goals as goal
 
 pub returns-then-not-w-x : goal.returns-then-not-w-x
 returns-then-not-w-x c =
-    four-on _ _ _ _ _ _ _ c.same_label-w.ensures c.same_label-x.ensures c.same_label-y.ensures c.same_label-z.ensures (not-true _ c.if-not-w-x.true)
+    four-on _ _ _ _ _ _ _ c.same_label-w.ensures c.same_label-x.ensures c.same_label-y.ensures c.same_label-z.ensures c.if-not-w-x.true
 
 pub returns-then-s-first : goal.returns-then-s-first
 returns-then-s-first c =

@@ -25,12 +25,12 @@ overflow_cast-at c =
 pub bounds-attrs-at : goal.bounds-attrs-at
 bounds-attrs-at c =
     let at : c.loop-c.cell.address < 16384 = at_lt _ _ _ _ c.loop-c.invariant.1 in
-    omega (arith, at, c.pre.1)
+    omega (arith, at, c.requires.1)
 
 pub bounds-chars-at : goal.bounds-chars-at
 bounds-chars-at c =
     let at : c.loop-c.cell.address < 16384 = at_lt _ _ _ _ c.loop-c.invariant.1 in
-    omega (arith, at, c.pre.0)
+    omega (arith, at, c.requires.0)
 
 pub loop-c-preserved : goal.loop-c-preserved
 loop-c-preserved c =

@@ -27,7 +27,7 @@ loop-i-preserved c =
     let room = begun-room a.words.now a.flags.now a.line a.d a.table.now _ c.requires.2 c.no_words.ensures in (
       omega (arith, c.loop-i-test.true),
       search rules,
-      tab-turn (shown_word a.words.now a.flags.now a.line a.d) c.no_words.new.0 _ c.loop-i.i c.loop-i.invariant.2 _ (omega (arith, room, c.loop-i-test.true))
+      tab-turn (shown_word a.words.now a.flags.now a.line a.d) c.no_words.new.table _ c.loop-i.i c.loop-i.invariant.2 _ (omega (arith, room, c.loop-i-test.true))
           (rw (c.wide.ensures, c.word_by-word.ensures, lt-leb 256 c.loop-i.i (omega (arith, c.loop-i-test.true)), low)),
     )
 
