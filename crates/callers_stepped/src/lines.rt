@@ -53,7 +53,7 @@ fn step_line(
         let a = c * d;
         let s = feldrime::step_numbers(at, chars, attrs, words, flags, unshifted, shifted, groups);
         let dots = s.answer.dots;
-        bytes::copy(&dots[..d], &mut out[a..]);
+        out[a..a + d].copy_from_slice(&dots[..d]);
         at = s.board;
         c += 1;
     }

@@ -48,7 +48,7 @@ fn put_number(out: &mut [u8], n: Digits, after: u8)
 {
     let count = n.count;
     let digits = n.bytes;
-    bytes::copy(&digits[..count], out);
+    out[..count].copy_from_slice(&digits[..count]);
     out[count] = after;
 }
 

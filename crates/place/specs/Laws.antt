@@ -219,10 +219,10 @@ module _ (p : Page) (chars attrs : List ℕ) where
   module _ (n : ℕ) (t : Timing) (et : t ≡ timing_of p) (whole : Lines) (ew : whole ≡ lines (n / t.counts.ht.0))
       (clock : Clocks) (ec : clock ≡ clocks (n % t.counts.ht.0)) (line : Lines) (el : line ≡ lines (whole.0 % t.counts.vt.0))
       (frame : ℕ) (ef : frame ≡ whole.0 / t.counts.vt.0) where
-    pub place_at : (x : Carried) → x ≡ carried_before p chars attrs clock.0 line.0 frame
+    pub place_at_lem : (x : Carried) → x ≡ carried_before p chars attrs clock.0 line.0 frame
         → ◌≡◌ {A = Place} (record { field = frame % 256; line = line; clock = clock; beam = beam x.beam.address x.beam.latch; row = x.row }) (place_at p chars attrs n)
     unfolding place_at timing_of counts_of
-    place_at x e = rw (e, ec, el, ef, ew, et)
+    place_at_lem x e = rw (e, ec, el, ef, ew, et)
 
 pub state-whole : (b : Board) (chars attrs : List ℕ) → state_check b chars attrs ≡ Done → (length chars ≡ 16384) × (length attrs ≡ 16384)
 state-whole b chars attrs e =

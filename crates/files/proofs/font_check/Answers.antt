@@ -27,7 +27,15 @@ slice_bounds-groups_check-count c =
     omega (arith, least)
 
 pub slice_bounds-groups_check-start : goal.slice_bounds-groups_check-start
-slice_bounds-groups_check-start c = ?
+slice_bounds-groups_check-start c =
+    let follow : c.font_size-n.result - 5 ≡ font_length (version_in c.args.file.now) = omega (arith, c.font_size-n.ensures ∙ ap font_size c.version_in.ensures) in
+    let check : c.file_check-refused.result ≡ file_check c.args.file.now 2 (font_length (version_in c.args.file.now)) c.args.size Done = c.file_check-refused.ensures ∙ ap (λ (n : ℕ). file_check c.args.file.now 2 n c.args.size Done) follow in
+    let sized : length c.args.file.now ≡ font_size (version_in c.args.file.now) = 
+        let file = c.args.file.now in
+        let n = font_length (version_in file) in
+        file-sized file n (file-passed file 2 n c.args.size Done (done-is _ (checked check c.is_done.ensures c.if-is_done.true))).length-ok in
+    let least : 2455 ≤ length c.args.file.now = font-least c.args.file.now sized in
+    omega (arith, least)
 
 pub returns-then-is_done : goal.returns-then-is_done
 unfolding font_check

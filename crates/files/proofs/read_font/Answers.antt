@@ -14,7 +14,15 @@ use Rattle.files.specs.FontLaws.{FontTaken, font-least, font-passed, font-done, 
 use Rattle.files.proofs.read_font.Goals as goal
 
 pub slice_bounds-read_words-end : goal.slice_bounds-read_words-end
-slice_bounds-read_words-end c = ?
+slice_bounds-read_words-end c =
+    let lent : Font = font_of c.args.words.now c.args.flags.now c.args.unshifted.now c.args.shifted.now c.args.groups.now in
+    let check-is : c.font_check-refused.result ≡ font_check c.args.file.now (font_short c.args.file.now lent) = 
+        let file = c.args.file.now in
+        c.font_check-refused.ensures
+        ∙ ap₂ (λ (t : Bool) (v : ℕ). font_check file (t || (eqb v 2 && eqb (length c.args.groups.now) 0))) c.font_refused.ensures c.version_in.ensures in
+    let fits : FontTaken c.args.file.now lent = font-passed _ lent (done-is _ (checked check-is c.is_done.ensures c.if-is_done.true)) in
+    let least : 2455 ≤ length c.args.file.now = font-least c.args.file.now fits.file-all in
+    omega (arith, least)
 
 pub read_words-requires : goal.read_words-requires
 read_words-requires c =
