@@ -1,0 +1,10 @@
+-- The answer after i records.
+use Rattle.std.proofs.Common.{◌≡◌, ◌≤◌, ◌-◌, length}
+use Rattle.records.specs.Folds.{search_to}
+use Rattle.phrases.proofs.search.Given as goal
+
+abbrev pub invariant-loop-i : goal.invariant-loop-i
+invariant-loop-i l = (l.i ≤ length l.phrases) × (l.s ≡ search_to l.phrases l.asked l.i)
+
+abbrev pub decreases-loop-i : goal.decreases-loop-i
+decreases-loop-i l = length l.phrases - l.i

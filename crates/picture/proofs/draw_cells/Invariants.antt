@@ -1,0 +1,21 @@
+-- Rests on the loop whose stores run past the stretch of their turn (Spill); the last cell is stored tight.
+use Prim.Native.Nat.{ℕ, max, ◌+◌, ◌*◌, ◌-◌, ◌≤◌, ◌<◌}
+use mathlib.Core.Path.{◌≡◌, refl, sym, ap, ap₂, ◌∙◌}
+use mathlib.Core.List.{◌++◌}
+use native.Mathlib.Nat.{add-mul, one-mul}
+use native.Mathlib.Omega.{arith}
+use borrow.Author.Rules.{rules}
+use lib.ListN.{drop, length, get_or, length-take, length-drop}
+use Rattle.lists.specs.Join.{joined, stretch-inside}
+use Rattle.picture.specs.Spill.{Spilling, spill-begins, spill-turn, spill-ends}
+use Rattle.picture.specs.Plan.{cell_from, length-cell, front-cell, length-stored, as-cell}
+use Rattle.picture.proofs.draw_cells.Given as goal
+
+abbrev pub invariant-loop-i : goal.invariant-loop-i
+invariant-loop-i l =
+    (l.i ≤ l.last)
+    × Spilling (joined 0 (l.last + 1) (cell_from l.cells l.shown l.looks l.d l.scan.0) ++ drop ((l.last + 1) * l.d) l.initial.out) l.initial.out ((l.last + 1) * l.d) l.out (l.i * l.d) l.d
+    (joined l.i (l.last + 1 - l.i) (cell_from l.cells l.shown l.looks l.d l.scan.0))
+
+abbrev pub decreases-loop-i : goal.decreases-loop-i
+decreases-loop-i l = l.last - l.i

@@ -1,0 +1,24 @@
+-- Rests on as_row and held_after: the gathered cells make the row, and what is valid after it.
+use Prim.Native.Nat.{ℕ, ◌<◌}
+use native.Mathlib.Omega.{arith}
+use borrow.Author.Rules.{rules}
+use lib.ListN.{get_or}
+use Rattle.raster.specs.Wide.{is_wide}
+use Rattle.tables.specs.Laws.{gathered-lt}
+use Rattle.dots.specs.Half.{cells-few}
+use Rattle.picture.specs.Plan.{as_row, held_after}
+use Rattle.picture.proofs.draw_row.Goals as goal
+
+pub draw_lines-requires : goal.draw_lines-requires
+draw_lines-requires c =
+    let bytes : (i : ℕ) → get_or c.args.chars.now i 0 < 256 = λ i. omega (arith, c.type_inv.chars i) in
+    let pre = c.requires in
+    record { tables_fit = (pre.0.0, search rules, (λ i h. gathered-lt _ _ _ _ _ _ _ _ _ c.gather-valid.ensures.1 bytes i (omega (arith, h, pre.1.0)))); width_in_bounds = pre.1.2 }
+
+pub returns : goal.returns
+returns c =
+    let a = c.args in
+    let n = c.requires.n_value.0 in (
+      held_after a.p a.k a.chars.now a.attrs.now a.held a.start.address n _ c.gather-valid.ensures.0,
+      as_row a.p a.k a.chars.now a.attrs.now a.held a.start.address n _ _ _ _ _ _ c.gather-valid.ensures.1 c.draw_lines.ensures,
+    )
