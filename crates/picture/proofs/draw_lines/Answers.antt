@@ -15,7 +15,7 @@ pub loop-s-preserved : goal.loop-s-preserved
 loop-s-preserved c =
     let whole : c.places-n.result * c.args.p.width ≤ length c.args.out.now = omega (arith, ap (λ (n : ℕ). n * c.args.p.width) c.places-n.ensures, c.requires.width_in_bounds) in
     let pre = c.requires in
-    let sheet = pre.0.0 in
+    let sheet = pre.tables_fit.0 in
     let a = c.args in (
       omega (arith, c.loop-s-test.true),
       join-turn _ _ (length-line _ _ _ _ _ sheet.least sheet.width_is) _ _ _ c.loop-s.invariant.1 c.loop-s-test.true whole

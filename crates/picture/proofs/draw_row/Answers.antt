@@ -13,7 +13,7 @@ pub draw_lines-requires : goal.draw_lines-requires
 draw_lines-requires c =
     let bytes : (i : ℕ) → get_or c.args.chars.now i 0 < 256 = λ i. omega (arith, c.type_inv.chars i) in
     let pre = c.requires in
-    record { tables_fit = (pre.0.0, search rules, (λ i h. gathered-lt _ _ _ _ _ _ _ _ _ c.gather-valid.ensures.1 bytes i (omega (arith, h, pre.1.0)))); width_in_bounds = pre.1.2 }
+    record { tables_fit = (pre.tables_fit.0, search rules, (λ i h. gathered-lt _ _ _ _ _ _ _ _ _ c.gather-valid.ensures.1 bytes i (omega (arith, h, pre.n_value.0)))); width_in_bounds = pre.n_value.2 }
 
 pub returns : goal.returns
 returns c =

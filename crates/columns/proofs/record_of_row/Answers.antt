@@ -1,0 +1,8 @@
+use mathlib.Core.Path.{ap, ◌∙◌}
+use borrow.Author.Rules.{rules}
+use Rattle.records.specs.Folds.{search_of}
+use Rattle.phrases.specs.Laws.{row-held}
+use Rattle.columns.proofs.record_of_row.Goals as goal
+
+pub returns : goal.returns
+returns c = c.search.ensures ∙ ap (search_of _) c.row_asked-asked.ensures ∙ row-held _ _ _ _

@@ -1,0 +1,16 @@
+-- Rests on the invariant: s is the answer after i records; Laws.pairs-all ends it.
+use Prim.Native.Nat.{◌-◌, ◌≤◌}
+use mathlib.Core.Path.{◌≡◌, ◌∙◌}
+use native.Mathlib.Omega.{arith}
+use borrow.Author.Rules.{rules}
+use Rattle.records.specs.Folds.{pairs_to}
+use Rattle.phrases.specs.Laws.{pairs-all}
+use Rattle.columns.specs.Columns.{records_of}
+use Rattle.columns.specs.Laws.{pair-more, ended}
+use Rattle.columns.proofs.records_differ.Given as goal
+
+abbrev pub invariant-loop-i : goal.invariant-loop-i
+invariant-loop-i l = (l.i ≤ l.n) × (l.s ≡ pairs_to (records_of l.languages l.numbers l.firsts l.lengths) l.i)
+
+abbrev pub decreases-loop-i : goal.decreases-loop-i
+decreases-loop-i l = l.n - l.i
