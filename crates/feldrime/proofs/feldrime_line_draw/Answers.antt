@@ -1,0 +1,20 @@
+-- Rests on three and taken: 3 for the numbers, else what draw_line answers.
+use mathlib.Core.Path.{sym, ◌∙◌}
+use borrow.Author.Rules.{rules}
+use Rattle.feldrime.specs.LineDraw.{line_draw_check, line_drawn}
+use Rattle.numbers.specs.Laws.{numbers-room}
+use Rattle.feldrime.specs.Laws.{three, taken}
+use Rattle.feldrime.proofs.feldrime_line_draw.Goals as goal
+
+pub returns-then-numbers_refused : goal.returns-then-numbers_refused
+unfolding line_draw_check line_drawn
+returns-then-numbers_refused c =
+    three _ _ _ _ _ (sym c.numbers_refused.ensures ∙ c.if-numbers_refused.true) c.answered.ensures
+
+pub board_at-b-requires : goal.board_at-b-requires
+board_at-b-requires c = numbers-room c.args.numbers.now (sym c.numbers_refused.ensures ∙ c.if-numbers_refused.false)
+
+pub returns : goal.returns
+unfolding line_draw_check line_drawn
+returns c =
+    taken _ _ _ _ _ (sym c.numbers_refused.ensures ∙ c.if-numbers_refused.false) _ _ (rw c.board_at-b.ensures at c.draw_line-refused.ensures) c.answered-2.ensures
