@@ -1,0 +1,6 @@
+use borrow.Author.Rules.{rules}
+use Rattle.callers_registers.specs.Kept.{write_kept}
+use Rattle.callers_registers.proofs.kept.written_or_kept.Goals as goal
+
+pub returns : goal.returns
+returns c = write_kept _ _ _ c.feldrime_register_write.ensures
