@@ -102,9 +102,9 @@ unfolding bad_record
 whole-good l n zero k = refl
 whole-good l n (suc i) k = absurd (omega (arith, k))
 
-pub all_held : (b : Board) (chars : List ℕ) (row l n : ℕ) → phrase_of_row b chars (records_of (l ∷ []) (n ∷ []) (0 ∷ 0 ∷ []) (16384 ∷ 0 ∷ [])) row ≡ all_held b chars row
+pub all_held_lem : (b : Board) (chars : List ℕ) (row l n : ℕ) → phrase_of_row b chars (records_of (l ∷ []) (n ∷ []) (0 ∷ 0 ∷ []) (16384 ∷ 0 ∷ [])) row ≡ all_held b chars row
 unfolding all_held records_of
-all_held b chars row l n = go (done_of (run_check b (length chars) row)) refl
+all_held_lem b chars row l n = go (done_of (run_check b (length chars) row)) refl
   where
     rs : List Phrase
     rs = phrase_by l n 0 16384 ∷ []

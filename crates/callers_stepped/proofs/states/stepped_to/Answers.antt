@@ -1,0 +1,22 @@
+-- Rests on the contracts of the step and of `feldrime_state_at`: a loop over `goes`, ended by `stepped`.
+use Prim.Native.Nat.{◌≤◌, ◌-◌}
+use mathlib.Core.Path.{◌≡◌, refl}
+use native.Mathlib.Omega.{arith}
+use borrow.Author.Rules.{rules}
+use Rattle.shape.specs.Font.{font_of}
+use Rattle.callers_stepped.specs.States.{on, not-stepped, stepped, goes}
+use Rattle.callers_stepped.proofs.states.stepped_to.Goals as goal
+
+pub returns-then-refused-ne0 : goal.returns-then-refused-ne0
+returns-then-refused-ne0 c = not-stepped _ _ _ _ _ _ _ _ _ c.step_numbers-tried.ensures c.if-refused-ne0.true
+
+pub loop-i-init : goal.loop-i-init
+unfolding on
+loop-i-init c = (omega arith, refl)
+
+pub loop-i-preserved : goal.loop-i-preserved
+loop-i-preserved c = (omega (arith, c.loop-i-test.true), goes _ _ _ _ _ _ _ _ _ c.loop-i.invariant.1 c.step_numbers-s.ensures)
+
+pub returns : goal.returns
+returns c =
+    stepped _ _ _ _ _ _ _ _ _ c.step_numbers-tried.ensures c.if-refused-ne0.false _ _ c.feldrime_state_at-asked.ensures c.loop-i.invariant.1 (omega arith)

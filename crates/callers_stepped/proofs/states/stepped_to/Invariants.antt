@@ -1,0 +1,14 @@
+-- Rests on the contracts of the step and of `feldrime_state_at`: a loop over `goes`, ended by `stepped`.
+use Prim.Native.Nat.{◌≤◌, ◌-◌}
+use mathlib.Core.Path.{◌≡◌, refl}
+use native.Mathlib.Omega.{arith}
+use borrow.Author.Rules.{rules}
+use Rattle.shape.specs.Font.{font_of}
+use Rattle.callers_stepped.specs.States.{on, not-stepped, stepped, goes}
+use Rattle.callers_stepped.proofs.states.stepped_to.Given as goal
+
+abbrev pub invariant-loop-i : goal.invariant-loop-i
+invariant-loop-i l = (l.i ≤ l.steps) × (l.at ≡ on l.initial.at l.chars l.attrs (font_of l.words l.flags l.unshifted l.shifted l.groups) l.i)
+
+abbrev pub decreases-loop-i : goal.decreases-loop-i
+decreases-loop-i l = l.steps - l.i
