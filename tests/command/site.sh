@@ -162,5 +162,8 @@ chmod +x "$work/bin/rt"
 build=(env PATH="$work/bin:$PATH" bash -c '. "$0/tree/tools/build.sh"; build_archive' "$work")
 ends 0 "proved 3 of 3: feldrime_c" env verdict=proved "${build[@]}"
 [[ $said == *"the log is $work/tree/target/build.log"*"proved 1 of 3: one"$'\n'"proved 2 of 3: two"$'\n'* ]] || say "the first build says: $said"
+ends 0 "" env verdict=not-proved "${build[@]}"
+[ -z "$said" ] || say "what is not older than its sources is built again: $said"
+touch "$work/tree/crates.txt"
 ends 1 "logic=not-proved" env verdict=not-proved "${build[@]}"
 [[ $said != *"of 3: two"* ]] || say "a crate that is not proved is reported as proved"
