@@ -19,21 +19,27 @@ needed() {  # needed CRATE: how many crates of crates.txt are proved for it, its
 }
 
 progress() {  # progress CRATE: a line for each crate that rt, on standard input, says is proved
-    local line proved=0 all
+    local line name= proved=0 all
     all=$(needed "$1")
     while IFS= read -r line; do
-        if [[ $line =~ ^rt:\ ([a-z_]+)\ proved ]]; then
-            proved=$((proved + 1))
-            echo "proved $proved of $all: ${BASH_REMATCH[1]}"
-        elif [[ $line == "rt: target/staticlib/"* ]]; then
+        if [[ $line =~ ^rt:\ chose\ .*\ for\ ([a-z_]+)$ ]]; then
+            name=${BASH_REMATCH[1]}
+        elif [[ $line != logic=proved* ]]; then
+            continue
+        elif [ "$name" = "$1" ]; then
             echo "proved $all of $all: $1, as an archive"
+        else
+            proved=$((proved + 1))
+            echo "proved $proved of $all: $name"
         fi
     done
 }
 
 prove() {  # prove FILE CRATE WHAT: the file is the crate's archive
     local log=$root/target/build.log
-    if [ -e "$1" ] && [ -z "$(find "$root/crates" "$root/crates.txt" -newer "$1" -print -quit)" ]; then
+    # rt's own out/ apart
+    if [ -e "$1" ] &&
+        [ -z "$(find "$root/crates.txt" "$root"/crates/*/* -name out -prune -o -newer "$1" -print -quit)" ]; then
         return
     fi
     if ! command -v rt > /dev/null; then
@@ -41,17 +47,20 @@ prove() {  # prove FILE CRATE WHAT: the file is the crate's archive
         return 1
     fi
     echo "proving $3 and building it, which takes minutes; the log is $log"
-    mkdir -p "$root/target"
-    if ! (set -o pipefail; cd "$root" && rt staticlib "$2" 2>&1 | tee "$log" | progress "$2"); then
+    mkdir -p "$(dirname "$1")"
+    if ! (set -o pipefail; cd "$root/crates/$2" && rt lib 2>&1 | tee "$log" | progress "$2"); then
         tail -n 20 "$log" >&2
         return 1
     fi
+    # under another name first: what links it meanwhile never gets half a file
+    cp "$root/crates/$2/out/lib$2.a" "$1.new"
+    mv "$1.new" "$1"
 }
 
 build_archive() {
-    prove "$archive" feldrime "the library"
+    prove "$archive" feldrime_c "the library"
 }
 
 build_listing_archive() {
-    prove "$listing_archive" listing_program "the listing program"
+    prove "$listing_archive" listing_program_c "the listing program"
 }

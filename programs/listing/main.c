@@ -1,4 +1,4 @@
-/* feldrime-listing: C's main. All else of the program is proved, in crates/listing. */
+/* feldrime-listing: C's main. It reads the input; all else of the program is proved, in crates/listing_program. */
 #define _POSIX_C_SOURCE 200809L
 #include <errno.h>
 #include <getopt.h>
@@ -10,9 +10,13 @@
 
 #include "feldrime.h"
 
-/* Of crates/listing: reads and writes, and says how it ended. */
-uint32_t feldrime_listing(void);
+/* Of crates/listing_program: writes what it makes of the input, and says how that ended. `unread` is not 0 where reading
+ * failed before the input ended or was full. */
+uint32_t feldrime_listing(const uint8_t *input, size_t count, uint8_t unread);
 enum { WRITTEN, UNREAD };
+
+/* Full, it has a byte more than the longest page file and the longest font file, so that a longer one shows. */
+static uint8_t input[FELDRIME_PAGE_FILE + FELDRIME_FONT_FILE + 1];
 
 static const char help[] =
     "Usage: cat PAGE FONT | feldrime-listing [OPTION]\n"
@@ -48,13 +52,36 @@ static int hint_at_help(void)
     return 2;
 }
 
+/* Reads until the input is full or ends, or reading fails: then `why` is its errno, else 0. */
+static size_t read_input(int *why)
+{
+    size_t count = 0;
+
+    *why = 0;
+    while (count < sizeof input) {
+        ssize_t got = read(STDIN_FILENO, input + count, sizeof input - count);
+
+        if (got < 0)
+            *why = errno;
+        if (got <= 0)
+            break;
+        count += (size_t)got;
+    }
+    return count;
+}
+
 static int list(void)
 {
+    int why;
+    size_t count = read_input(&why);
+
     /* A file that would exceed the limit on its size is then reported like any other that cannot be written. */
     signal(SIGXFSZ, SIG_IGN);
-    uint32_t ending = feldrime_listing();
-    if (ending == UNREAD)
+    uint32_t ending = feldrime_listing(input, count, why != 0);
+    if (ending == UNREAD) {
+        errno = why;
         return failed("standard input");
+    }
     /* Some file systems report only now that a write has failed. */
     if (ending != WRITTEN || close(STDOUT_FILENO) != 0)
         return failed("standard output");

@@ -146,12 +146,24 @@ for run in "$work/tree/.ci/run" "$work/run"; do
     ends 0 "checked in $work/tree/.ci/../check" env -C / "$run"
 done
 grep -q '^export FELDRIME_INSTALL=1$' check || say "./check does not install what is missing"
-printf 'one:\ntwo: one\nfeldrime: two kit\nother: one\n' > "$work/tree/crates.txt"
+printf 'one:\ntwo: one\nfeldrime_c staticlib: two kit\nother: one\n' > "$work/tree/crates.txt"
+mkdir -p "$work/tree/crates/feldrime_c"
 ends 1 "the library must be built first, and Rattle's command rt is missing" "${lacking[@]}" bash -c '. "$0/tools/build.sh"; build_archive' "$work/tree"
-printf '#!/bin/sh\necho "rt: one proved (1 s)"\necho "rt: two $verdict"\n[ "$verdict" = proved ] && echo "rt: target/staticlib/libfeldrime.a has them"\n' > "$work/bin/rt"
+cat > "$work/bin/rt" << 'END'
+#!/bin/sh
+[ "$1" = lib ] || exit 2
+printf '%s\n' "rt: chose --jobs 2 for one" "logic=proved functions=1" "rt: chose --jobs 2 for two" "logic=$verdict functions=2"
+[ "$verdict" = proved ] || exit 1
+printf '%s\n' "rt: chose --jobs 2 for feldrime_c" "logic=proved functions=3"
+mkdir -p out
+echo archive > out/libfeldrime_c.a
+END
 chmod +x "$work/bin/rt"
 build=(env PATH="$work/bin:$PATH" bash -c '. "$0/tree/tools/build.sh"; build_archive' "$work")
-ends 0 "proved 3 of 3: feldrime" env verdict=proved "${build[@]}"
+ends 0 "proved 3 of 3: feldrime_c" env verdict=proved "${build[@]}"
 [[ $said == *"the log is $work/tree/target/build.log"*"proved 1 of 3: one"$'\n'"proved 2 of 3: two"$'\n'* ]] || say "the first build says: $said"
-ends 1 "rt: two NOT PROVED" env verdict="NOT PROVED" "${build[@]}"
+ends 0 "" env verdict=not-proved "${build[@]}"
+[ -z "$said" ] || say "what is not older than its sources is built again: $said"
+touch "$work/tree/crates.txt"
+ends 1 "logic=not-proved" env verdict=not-proved "${build[@]}"
 [[ $said != *"of 3: two"* ]] || say "a crate that is not proved is reported as proved"

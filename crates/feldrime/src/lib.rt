@@ -1,5 +1,6 @@
 #![tactic(auto)]
-// What C calls. Only numbers and slices cross; every call checks what it is given, so none has a condition to meet.
+// The calls, which `feldrime_c` hands to C. Only numbers and slices cross; every call checks what it is given, so none
+// has a condition to meet.
 ghost use Rattle.std.specs.Prelude.{◌≡◌};
 ghost use Rattle.lists.specs.Choice.{pick};
 ghost use Rattle.board.specs.State.{power_of};
@@ -16,8 +17,7 @@ ghost use Rattle.feldrime.specs.Phrases.{phrase_for, asked_for};
 ghost use Rattle.feldrime.specs.Step.{numbered, step_numbers, StepsFor};
 ghost use Rattle.feldrime.specs.Boards.{set_video_for, write_for, read_for, state_for};
 
-#[unsafe(no_mangle)]
-pub extern "C" fn feldrime_version() -> u32
+pub fn feldrime_version() -> u32
     ensures { result ≡ archive_version }
 {
     8
@@ -40,8 +40,7 @@ fn answered(r: refusal::Refusal) -> Answer
     }
 }
 
-#[unsafe(no_mangle)]
-pub extern "C" fn feldrime_page_check(numbers: &[u8]) -> Answer
+pub fn feldrime_page_check(numbers: &[u8]) -> Answer
     ensures { result ≡ answer_of (numbers_check numbers.now) }
 {
     answered(numbers::numbers_check(numbers))
@@ -57,8 +56,7 @@ pub struct SizeAnswer {
     pub dots: u32,
 }
 
-#[unsafe(no_mangle)]
-pub extern "C" fn feldrime_page_size(numbers: &[u8]) -> SizeAnswer
+pub fn feldrime_page_size(numbers: &[u8]) -> SizeAnswer
     ensures { result ≡ size_for numbers.now }
 {
     if numbers::numbers_refused(numbers) {
@@ -80,8 +78,7 @@ pub extern "C" fn feldrime_page_size(numbers: &[u8]) -> SizeAnswer
 }
 
 // Reads a page file: its numbers and the two memories. A refusal leaves them as they were.
-#[unsafe(no_mangle)]
-pub extern "C" fn feldrime_page_read(
+pub fn feldrime_page_read(
     file: &[u8],
     numbers: &mut [u8],
     chars: &mut [u8],
@@ -95,13 +92,7 @@ pub extern "C" fn feldrime_page_read(
 }
 
 // Writes a page file at the front of out.
-#[unsafe(no_mangle)]
-pub extern "C" fn feldrime_page_write(
-    numbers: &[u8],
-    chars: &[u8],
-    attrs: &[u8],
-    out: &mut [u8],
-) -> Answer
+pub fn feldrime_page_write(numbers: &[u8], chars: &[u8], attrs: &[u8], out: &mut [u8]) -> Answer
     ensures { WritesPageFor numbers.now chars.now attrs.now out.old result out.new }
 {
     let refused = numbers::write_file(numbers, chars, attrs, out);
@@ -127,8 +118,7 @@ fn groups_read(r: refusal::Refusal, file: &[u8]) -> u32
 }
 
 // Reads a font file into the five parts. A refusal leaves them as they were, and a file without groups the lent groups.
-#[unsafe(no_mangle)]
-pub extern "C" fn feldrime_font_read(
+pub fn feldrime_font_read(
     file: &[u8],
     words: &mut [u16],
     flags: &mut [u8],
@@ -147,8 +137,7 @@ pub extern "C" fn feldrime_font_read(
 }
 
 // Draws a visible line as it looks in a field, HACT x dots bytes at the front of out.
-#[unsafe(no_mangle)]
-pub extern "C" fn feldrime_line_draw(
+pub fn feldrime_line_draw(
     numbers: &[u8],
     chars: &[u8],
     attrs: &[u8],
@@ -185,8 +174,7 @@ pub extern "C" fn feldrime_line_draw(
 }
 
 // Draws all visible lines as they look in a field, end to end at the front of out.
-#[unsafe(no_mangle)]
-pub extern "C" fn feldrime_picture_draw(
+pub fn feldrime_picture_draw(
     numbers: &[u8],
     chars: &[u8],
     attrs: &[u8],
@@ -221,8 +209,7 @@ pub struct RunAnswer {
     pub count: u32,
 }
 
-#[unsafe(no_mangle)]
-pub extern "C" fn feldrime_row_run(numbers: &[u8], chars: &[u8], row: u32) -> RunAnswer
+pub fn feldrime_row_run(numbers: &[u8], chars: &[u8], row: u32) -> RunAnswer
     ensures { result ≡ run_for numbers.now chars.now row }
 {
     if numbers::numbers_refused(numbers) {
@@ -253,13 +240,7 @@ pub struct CellsAnswer {
 }
 
 // The addresses of all cells that a row fetches, column by column, at the front of cells.
-#[unsafe(no_mangle)]
-pub extern "C" fn feldrime_row_cells(
-    numbers: &[u8],
-    chars: &[u8],
-    row: u32,
-    cells: &mut [u16],
-) -> CellsAnswer
+pub fn feldrime_row_cells(numbers: &[u8], chars: &[u8], row: u32, cells: &mut [u16]) -> CellsAnswer
     ensures { GivesCellsFor numbers.now chars.now row cells.old result cells.new }
 {
     if numbers::numbers_refused(numbers) {
@@ -279,8 +260,7 @@ pub extern "C" fn feldrime_row_cells(
 }
 
 // A sheet becomes a page with a row table: its numbers and character memory are altered where they stand.
-#[unsafe(no_mangle)]
-pub extern "C" fn feldrime_to_table(numbers: &mut [u8], chars: &mut [u8]) -> Answer
+pub fn feldrime_to_table(numbers: &mut [u8], chars: &mut [u8]) -> Answer
     ensures { MovesToTableFor numbers.old chars.old result numbers.new chars.new }
 {
     if numbers::numbers_refused(numbers) {
@@ -294,8 +274,7 @@ pub extern "C" fn feldrime_to_table(numbers: &mut [u8], chars: &mut [u8]) -> Ans
 }
 
 // A page whose rows follow one another becomes a sheet: its numbers are altered where they stand.
-#[unsafe(no_mangle)]
-pub extern "C" fn feldrime_to_sheet(numbers: &mut [u8], chars: &[u8]) -> Answer
+pub fn feldrime_to_sheet(numbers: &mut [u8], chars: &[u8]) -> Answer
     ensures { MovesToSheetFor numbers.old chars.now result numbers.new }
 {
     if numbers::numbers_refused(numbers) {
@@ -324,8 +303,7 @@ fn numbers_asked(numbers: &[u8], chars: &[u8], row: u32) -> records::Asked
 }
 
 // The lowest record that holds the whole of what a row fetches.
-#[unsafe(no_mangle)]
-pub extern "C" fn feldrime_phrase_of_row(
+pub fn feldrime_phrase_of_row(
     numbers: &[u8],
     chars: &[u8],
     phrases: &[records::Phrase],
@@ -338,8 +316,7 @@ pub extern "C" fn feldrime_phrase_of_row(
 }
 
 // The first two records with the same language and number that differ in first cell or length.
-#[unsafe(no_mangle)]
-pub extern "C" fn feldrime_phrases_differ(phrases: &[records::Phrase]) -> records::PairAnswer
+pub fn feldrime_phrases_differ(phrases: &[records::Phrase]) -> records::PairAnswer
     ensures { result ≡ phrases_differ phrases.now }
 {
     phrases::phrases_differ(phrases)
@@ -364,16 +341,14 @@ fn with_board(r: refusal::Refusal, b: board::Board) -> BoardAnswer
     }
 }
 
-#[unsafe(no_mangle)]
-pub extern "C" fn feldrime_power() -> board::Board
+pub fn feldrime_power() -> board::Board
     ensures { result ≡ power_of }
 {
     board::power()
 }
 
 // An active board at clock 0, pointer at IR0; on a refusal the board that power gives.
-#[unsafe(no_mangle)]
-pub extern "C" fn feldrime_board_of(numbers: &[u8]) -> BoardAnswer
+pub fn feldrime_board_of(numbers: &[u8]) -> BoardAnswer
     ensures { result ≡ board_for numbers.now }
 {
     let refused = numbers::numbers_check(numbers);
@@ -384,16 +359,14 @@ pub extern "C" fn feldrime_board_of(numbers: &[u8]) -> BoardAnswer
 }
 
 // A board's page as numbers, the way back.
-#[unsafe(no_mangle)]
-pub extern "C" fn feldrime_numbers_of(b: board::Board, numbers: &mut [u8]) -> Answer
+pub fn feldrime_numbers_of(b: board::Board, numbers: &mut [u8]) -> Answer
     ensures { GivesNumbersFor b numbers.old result numbers.new }
 {
     let refused = numbers::numbers_of(b, numbers);
     answered(refused)
 }
 
-#[unsafe(no_mangle)]
-pub extern "C" fn feldrime_set_video(
+pub fn feldrime_set_video(
     b: board::Board,
     width: u8,
     strike: u8,
@@ -414,8 +387,7 @@ pub extern "C" fn feldrime_set_video(
     with_board(refused, board)
 }
 
-#[unsafe(no_mangle)]
-pub extern "C" fn feldrime_register_write(b: board::Board, address: u8, byte: u8) -> BoardAnswer
+pub fn feldrime_register_write(b: board::Board, address: u8, byte: u8) -> BoardAnswer
     ensures { result ≡ write_for b address byte }
 {
     let w = registers::write(b, address, byte);
@@ -432,8 +404,7 @@ pub struct ByteAnswer {
     pub byte: u32,
 }
 
-#[unsafe(no_mangle)]
-pub extern "C" fn feldrime_register_read(b: board::Board, address: u8) -> ByteAnswer
+pub fn feldrime_register_read(b: board::Board, address: u8) -> ByteAnswer
     ensures { result ≡ read_for b address }
 {
     let read = registers::read(b, address);
@@ -446,13 +417,7 @@ pub extern "C" fn feldrime_register_read(b: board::Board, address: u8) -> ByteAn
 }
 
 // The board at clock n, counted from clock 0.
-#[unsafe(no_mangle)]
-pub extern "C" fn feldrime_state_at(
-    b: board::Board,
-    chars: &[u8],
-    attrs: &[u8],
-    n: u32,
-) -> BoardAnswer
+pub fn feldrime_state_at(b: board::Board, chars: &[u8], attrs: &[u8], n: u32) -> BoardAnswer
     ensures { result ≡ state_for b chars.now attrs.now n }
 {
     let s = place::state_at(b, chars, attrs, units::Clocks(n));
@@ -530,8 +495,7 @@ pub fn step_numbers(
 }
 
 // One clock: the board is altered where it stands.
-#[unsafe(no_mangle)]
-pub extern "C" fn feldrime_step(
+pub fn feldrime_step(
     b: &mut board::Board,
     chars: &[u8],
     attrs: &[u8],

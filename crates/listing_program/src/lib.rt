@@ -1,73 +1,49 @@
 #![tactic(auto)]
-// The listing program but for C's `main` (programs/listing). It reads a page file, then a font file, from standard input
-// and writes the listing or the refusal to standard output.
-ghost use Rattle.std.specs.Prelude.{◌≤◌, length};
-ghost use Rattle.io.specs.Counts.{IsPrefixLen};
+// The listing program but for C's `main` (programs/listing). That hands over what standard input holds: a page file, then
+// a font file. The listing or the refusal is written to standard output.
+ghost use Rattle.std.specs.Prelude.{◌≡◌, ◌≤◌, length, min};
 
-use libc::{STDIN_FILENO, STDOUT_FILENO};
 use listing::{Listed, listing_head, listing_line};
 
-// What was read stands at the front of the buffer; or reading failed.
+const STDOUT: i32 = 1;
+
+// What the input has of a part of it, and whether that is less than was wanted because reading failed.
 #[derive(Clone, Copy)]
-struct Input {
+struct Part {
     failed: bool,
     count: usize,
 }
 
-// One read, to the front of the buffer.
-fn read_once(buf: &mut [u8]) -> Input
-    ensures { result.count ≤ length buf.new }
+// The part at the front of what is left of the input.
+fn part_of(left: &[u8], wanted: usize, failed: bool) -> Part
+    ensures { result.count ≡ min wanted (length left.now) }
 {
-    let got = libc::read(STDIN_FILENO, buf);
-    Input {
-        failed: got < 0,
-        count: io::count(got, buf),
+    if left.len() < wanted {
+        return Part {
+            failed,
+            count: left.len(),
+        };
     }
-}
-
-// Reads until the buffer is full or the input ends.
-fn read_input(buf: &mut [u8]) -> Input
-    ensures { IsPrefixLen result.count buf.new }
-{
-    let mut count = 0;
-    while count < buf.len() {
-        let read = read_once(&mut buf[count..]);
-        let more = read.count;
-        if more == 0 {
-            return Input {
-                failed: read.failed,
-                count,
-            };
-        }
-        count += more;
-    }
-    Input {
+    Part {
         failed: false,
-        count,
+        count: wanted,
     }
 }
 
-// Reads a page file, which is as long as its version byte says.
-fn read_page_file(file: &mut [u8]) -> Input
-    requires { 32798 ≤ length file.old }
-    ensures { IsPrefixLen result.count file.new }
+// The page file, which is as long as its version byte says.
+fn page_part(input: &[u8], failed: bool) -> Part
+    ensures { result.count ≤ length input.now }
 {
-    let first = read_input(&mut file[..1]);
-    if first.count == 0 {
-        return first;
+    if input.len() == 0 {
+        return Part { failed, count: 0 };
     }
-    let size = files::file_size(file[0]);
-    let rest = read_input(&mut file[1..size]);
-    Input {
-        failed: rest.failed,
-        count: rest.count + 1,
-    }
+    part_of(input, files::file_size(input[0]), failed)
 }
 
 fn print_refusal(r: refusal::Refusal) -> bool {
-    io::write_all(STDOUT_FILENO, b"refused ")
-        && io::print_decimal(STDOUT_FILENO, refusal::number(r) as u64)
-        && io::write_all(STDOUT_FILENO, b"\n")
+    io::write_all(STDOUT, b"refused ")
+        && io::print_decimal(STDOUT, refusal::number(r) as u64)
+        && io::write_all(STDOUT, b"\n")
 }
 
 // Writes what was listed, which stands at the front of out.
@@ -75,7 +51,7 @@ fn print(listed: Listed, out: &[u8]) -> bool
     requires { listed.count ≤ length out.now }
 {
     let count = listed.count;
-    io::write_all(STDOUT_FILENO, &out[..count])
+    io::write_all(STDOUT, &out[..count])
 }
 
 // The head and every visible line, as in field 0. The buffer has room for 256 cells of 12 dots and a line feed.
@@ -120,22 +96,21 @@ fn ending(written: bool) -> u32 {
     if written { WRITTEN } else { UNWRITTEN }
 }
 
-// The page was accepted; now the font. One byte more than the longest font file has is asked for, so that a longer one
+// The page was accepted; now the font. One byte more than the longest font file has is looked at, so that a longer one
 // shows.
-fn list_page(b: board::Board, chars: &[u8], attrs: &[u8]) -> u32 {
-    let mut file = [0u8; files::LONGEST_FONT + 1];
-    let input = read_input(&mut file);
-    if input.failed {
+fn list_page(b: board::Board, chars: &[u8], attrs: &[u8], left: &[u8], failed: bool) -> u32 {
+    let part = part_of(left, files::LONGEST_FONT + 1, failed);
+    if part.failed {
         return UNREAD;
     }
-    let n = input.count;
+    let file = &left[..part.count];
     let mut words = [0u16; 1152];
     let mut flags = [0u8; 128];
     let mut unshifted = [0u8; 9];
     let mut shifted = [0u8; 9];
     let mut groups = [0u8; 16];
     let refused = files::read_font(
-        &file[..n],
+        file,
         &mut words,
         &mut flags,
         &mut unshifted,
@@ -145,27 +120,27 @@ fn list_page(b: board::Board, chars: &[u8], attrs: &[u8]) -> u32 {
     if !refusal::is_done(refused) {
         return ending(print_refusal(refused));
     }
-    let k = files::groups_in(&file[..n]);
+    let k = files::groups_in(file);
     let lent = &groups[..k];
     ending(print_listing(b, chars, attrs, &words, &flags, &unshifted, &shifted, lent))
 }
 
-// No law of one answer: what it reads and prints no contract of the kit can say. It is proved to end and to index nothing
-// out of range, given that each `read` and `write` of C returns.
-#[unsafe(no_mangle)]
-pub extern "C" fn feldrime_listing() -> u32 {
-    let mut file = [0u8; files::LONGEST_PAGE];
-    let input = read_page_file(&mut file);
-    if input.failed {
+// `failed` is not 0 where reading the input failed before it ended or was full, which is at a byte more than the longest
+// page file and the longest font file have together.
+// No law of one answer: what it prints no contract of the kit can say. It is proved to end and to index nothing out of
+// range, given that each `write` of C returns.
+pub fn feldrime_listing(input: &[u8], failed: u8) -> u32 {
+    let part = page_part(input, failed != 0);
+    if part.failed {
         return UNREAD;
     }
-    let n = input.count;
+    let n = part.count;
     let mut chars = [0u8; 16384];
     let mut attrs = [0u8; 16384];
-    let read = files::read_page(&file[..n], &mut chars, &mut attrs);
+    let read = files::read_page(&input[..n], &mut chars, &mut attrs);
     let refused = read.refusal;
     if !refusal::is_done(refused) {
         return ending(print_refusal(refused));
     }
-    list_page(read.board, &chars, &attrs)
+    list_page(read.board, &chars, &attrs, &input[n..], failed != 0)
 }
