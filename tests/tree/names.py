@@ -4,6 +4,9 @@ Every public function has a law of one answer whose text is that of its contract
 `No law of one answer: ..`. A contract speaks of the result and of each buffer that is lent to be written. No call for C
 has a `requires`. The functions of callers* are promises and not answers, and have no law.
 
+What a static library NAME_c exports is each `feldrime_..` of NAME: with its parameters, its result and its clauses, and
+nothing but a call of it.
+
 A name in backquotes in PROMISES.md is there: a definition or law, a function, a wrong program, a crate, a file. Of a
 command of `rt` the last word is a crate.
 
@@ -39,6 +42,23 @@ for f in functions:
     if f.public and not f.crate.startswith('callers'):
         judge(f)
 
+
+def words(head):  # without what is laid out: line ends, and a comma before a closing bracket
+    return re.sub(r',? ?\) ?', ')', re.sub(r'\( ', '(', ' '.join(head.split())))
+
+
+exports = list(sources.functions(' staticlib'))
+exported = {(e.crate, e.name): e for e in exports}
+called = {(f.crate + '_c', f.name): f for f in functions if f.public and f.name.startswith('feldrime_')}
+for e in exports:
+    f = called.get((e.crate, e.name))
+    arguments = ', '.join(re.findall(r'(\w+): ', e.head.split(')')[0]))
+    if not f or not e.public or words(e.head) != words(f.head):
+        missing.append(f'{e.full} as an export of a function with its clauses')
+    elif words(e.body) != words(f'{f.full}({arguments})'):
+        missing.append(f'a call of {f.full} as all that {e.full} does')
+missing += [f'an export of {f.full}' for key, f in called.items() if key not in exported]
+
 known = WORDS | {f.name for f in functions} | {f.full for f in functions} | {d.name for d in declared}
 known |= {e.label for e in sources.edits(functions, declared)} | {p.name for p in Path('crates').iterdir()}
 
@@ -53,7 +73,8 @@ def there(name):
 for number, line in enumerate(PAGE.read_text().splitlines(), 1):
     missing += [f'{PAGE}:{number}: {name}' for name in re.findall('`([^`]+)`', line) if not there(name)]
 
-for path in sorted(Path('.').glob('crates/*/proofs/**/Proof.antt')):
+PROOFS = ('Answers.antt', 'Invariants.antt', 'Proof.antt')
+for path in sorted(p for p in Path('.').glob('crates/*/proofs/**/*.antt') if p.name in PROOFS):
     proof = path.read_text()
     if proof.count('\n') > 25 and not proof.startswith('-- '):
         missing.append(f'a first line in {path} that says what it rests on')

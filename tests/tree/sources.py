@@ -35,13 +35,11 @@ class Function:
 
     @property
     def requires(self):
-        found = re.search(r'requires \{ (.*?) \}\s+ensures', self.head, re.S)
-        return ' '.join(found[1].split()).strip('⌜⌝ ') if found else None
+        return clauses(self.head, 'requires')
 
     @property
     def ensures(self):
-        found = re.search(r'ensures \{ λ \w+\. (.*) \}', self.head, re.S)
-        return ' '.join(found[1].split()) if found else ''
+        return clauses(self.head, 'ensures')
 
 
 @dataclass
@@ -64,9 +62,21 @@ class Edit:
     tags: list = field(default_factory=list)
 
 
+def clauses(head, kind):  # the facts of a function's clauses of this kind, as one text
+    facts = []
+    for found in re.finditer(rf'\b{kind}\*?(?: \w+)? \{{', head):
+        depth, end = 1, found.end()
+        while depth:
+            depth += {'{': 1, '}': -1}.get(head[end], 0)
+            end += 1
+        facts.append(' '.join(head[found.end():end - 1].split()))
+    return ' × '.join(facts)
+
+
 def comment_above(text, start, mark):  # the lines of a comment, without attributes
     lines = []
-    for line in reversed(text[:start].splitlines()):
+    above = re.sub(r'^ *#\[[^\n]*(?:\n(?! *(?:#\[|//|pub |fn |extern ))[^\n]*)*\n\Z', '', text[:start], flags=re.M)
+    for line in reversed(above.splitlines()):
         if line.strip().startswith(mark):
             lines.insert(0, line.strip()[len(mark):].strip())
         elif not line.strip().startswith('#['):
@@ -74,13 +84,13 @@ def comment_above(text, start, mark):  # the lines of a comment, without attribu
     return ' '.join(lines)
 
 
-def in_order(pattern):  # the files of all crates, in the order of crates.txt
-    crates = re.findall(r'^(\w+):', Path('crates.txt').read_text(), re.M)
+def in_order(pattern, kind=''):  # the files of all crates of a kind, libraries or ' staticlib', in the order of crates.txt
+    crates = re.findall(rf'^(\w+){kind}:', Path('crates.txt').read_text(), re.M)
     return [path for crate in crates for path in sorted(Path('crates', crate).glob(pattern))]
 
 
-def functions():
-    for path in in_order('src/*.rt'):
+def functions(kind=''):
+    for path in in_order('src/*.rt', kind):
         text = path.read_text()
         for m in FUNCTION.finditer(text):
             owner = re.findall(r'^impl (\w+) \{', text[:m.start()], re.M)[-1:] if m[1] else []
@@ -91,12 +101,6 @@ def functions():
 def tags_in(line):  # the tags, and the words behind them
     found = list(TAG.finditer(line))
     return [m[1] for m in found], line[found[-1].end():].strip() if found else ''
-
-
-def kind_of(keyword, name):
-    if keyword or re.fullmatch(r'[a-z]+[A-Z]\w*', name):
-        return 'definition'
-    return 'law'
 
 
 def declarations(sentences, complaints):  # those of specs; a tag's words go into sentences
@@ -111,7 +115,7 @@ def declarations(sentences, complaints):  # those of specs; a tag's words go int
                 comment.append(line.strip()[2:].strip())
             elif (m := DECLARED.match(line)) and not line.startswith('use ') and not line.lstrip().startswith('module'):
                 name = m[2] or m[3]
-                yield Declared(path.parts[1], path.stem, name, kind_of(m[1] or m[2], name), ' '.join(comment), tags, number)
+                yield Declared(path.parts[1], path.stem, name, 'definition' if m[1] or m[2] else 'law', ' '.join(comment), tags, number)
                 tags, comment = [], []
             else:
                 comment = []

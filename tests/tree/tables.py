@@ -115,9 +115,9 @@ def calls(tree, laws):
 
 
 def contract(tree, f):
-    own = ['self', 'lentFont', 'leftFont'] + re.findall(r'(\w+): ', f.head)
+    own = ['self', 'result', 'lent_font', 'font_to_fill', 'left_font'] + re.findall(r'(\w+): ', f.head)
     names = [n for n in re.findall(r"(?<!\.)\b[A-Za-z][\w'-]*", f.ensures) if n in tree.definitions]
-    return quoted(n for n in names if n not in own) or f'`{f.ensures.strip("⌜⌝ ")}`'
+    return quoted(n for n in names if n not in own) or f'`{f.ensures}`'
 
 
 def public(tree, laws):
