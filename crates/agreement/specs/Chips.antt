@@ -3,10 +3,10 @@
 --     no-graphics       on chip A no cell is graphics
 --     groups-line, groups-picture, groups-step    and groups that are not refused change nothing there
 --     three-as-two      a version 3 page of chip A shows what version 2 with the same bytes shows
-use Rattle.std.specs.Prelude.{ℕ, zero, suc, ◌+◌, ◌-◌, ◌*◌, ◌/◌, ◌%◌, ◌^◌, ◌<◌, ◌≤◌, ◌≡◌, Bool, true, false, List, [], ◌++◌, eqb, length, replicate}
+use Rattle.std.specs.Prelude.{ℕ, zero, suc, ◌+◌, ◌*◌, ◌/◌, ◌%◌, ◌^◌, ◌<◌, ◌≡◌, false, List, ◌++◌, eqb, replicate}
 use Rattle.std.proofs.Math.Path.{refl, ap}
 use Rattle.std.proofs.Common.{sym, ◌∙◌, arith}
-use Rattle.lists.specs.Join.{joined, same-joined}
+use Rattle.lists.specs.Join.{same-joined}
 use Rattle.refusal.specs.declared.Refusal.TheVariants.{Done}
 use Rattle.board.specs.declared.Page.{Page}
 use Rattle.board.specs.declared.Board.{Board}

@@ -1,6 +1,6 @@
 -- Files from C: a page file that is read and written again is the same bytes; and a page file and a font file that are accepted give numbers, memories and font
 -- parts of which a board is made and no step is refused, so that all that FromC promises holds of them. Assumes nothing.
-use Rattle.std.specs.Prelude.{ℕ, ◌≤◌, ◌≡◌, Bool, false, List, ◌++◌, length, drop}
+use Rattle.std.specs.Prelude.{ℕ, ◌≤◌, ◌≡◌, Bool, List, ◌++◌, length, drop}
 use Rattle.std.proofs.Common.{ap}
 use Rattle.refusal.specs.declared.Refusal.TheVariants.{Done}
 use Rattle.refusal.specs.Number.{number_of}

@@ -12,7 +12,7 @@ use native.Mathlib.Omega.{arith}
 use borrow.Author.Tests.{ltb-true, eqb-true, eq-eqb, ne_eqb}
 use Rattle.lists.specs.Choice.{pick, first_of}
 use Rattle.lists.specs.Search.{first-not, first-none}
-use Rattle.refusal.specs.declared.Refusal.TheVariants.{Done, Size, Range, Room, Address, Reserved, BackPorch, LineShort, FrontPorch, Width, Kind, Stretch, Apart, Coded}
+use Rattle.refusal.specs.declared.Refusal.TheVariants.{Done, Range, Room, Address, Reserved, BackPorch, LineShort, FrontPorch, Width, Kind, Stretch, Apart, Coded}
 use Rattle.refusal.specs.Number.{number_of, done_of, wrong_size}
 use Rattle.refusal.specs.Laws.{done-is}
 use Rattle.units.specs.declared.Clocks.{Clocks}

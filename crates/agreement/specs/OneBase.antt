@@ -1,6 +1,6 @@
 -- No second answer meets the contract of a public function of `units`, `refusal`, `raster`, `board`, `timing` or `registers`: it names its answer, so each of
 -- these is `only`.
-use Rattle.std.specs.Prelude.{ℕ, min, ◌+◌, ◌-◌, ◌*◌, ◌/◌, ◌%◌, eqb, ltb, leb, ◌≡◌, Bool, List}
+use Rattle.std.specs.Prelude.{ℕ, min, ◌+◌, ◌-◌, ◌*◌, ◌/◌, ◌%◌, eqb, ltb, leb, ◌≡◌, Bool}
 use Rattle.lists.specs.Answer.{OneAnswer, only}
 use Rattle.units.specs.declared.Dots.{Dots}
 use Rattle.units.specs.declared.Clocks.{Clocks}

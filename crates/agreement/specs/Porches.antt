@@ -1,7 +1,7 @@
 -- 02, R-2: which porch. A page is accepted exactly if neither 12 nor 4 refuses it, its back porch code is not 0, its front
 -- porch is at least 2, and 6 does not refuse it. Each of 13, 14 and 15 is answered exactly if its fact holds and none
 -- before it does, and the number beside it is what the front porch misses. Assumes nothing.
-use Rattle.std.specs.Prelude.{ℕ, ◌+◌, ◌-◌, ◌%◌, ◌≤◌, ◌≡◌, Bool, ◌&&◌, ◌||◌, List, [], ◌∷◌, ltb}
+use Rattle.std.specs.Prelude.{ℕ, ◌+◌, ◌-◌, ◌%◌, ◌≤◌, ◌≡◌, Bool, ◌&&◌, ◌||◌, [], ◌∷◌, ltb}
 use Rattle.std.proofs.Math.Path.{refl}
 use Rattle.std.proofs.Common.{sym, ap, ◌∙◌, arith, lt-ltb, ltb-true, ltb-false}
 use Rattle.std.proofs.Math.Bool.{true, false, not}

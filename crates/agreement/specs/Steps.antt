@@ -1,5 +1,5 @@
 -- Promise 3: the state worked out at once for clock n is the state after n single steps. All of it speaks of the public `step` and `state_at`. Assumes nothing.
-use Rattle.std.specs.Prelude.{ℕ, ◌≡◌, refl, false, List, length}
+use Rattle.std.specs.Prelude.{ℕ, ◌≡◌, refl, List, length}
 use Rattle.std.proofs.Common.{sym, eq-eqb}
 use Rattle.refusal.specs.declared.Refusal.TheVariants.{Done}
 use Rattle.refusal.specs.Number.{wrong_size}

@@ -14,7 +14,7 @@ use Rattle.fetch.specs.Rows.{code_at, entry_of, row_start, cell_at, fetched_of, 
 use Rattle.latch.specs.Held.{held_at}
 use Rattle.timing.specs.Fields.{buffer_of, counts_of, coded_of, lines_of, table_of, hbp_of, vsync_of}
 use Rattle.timing.specs.Check.{page_check, state_refused, call_check}
-use Rattle.shape.specs.Font.{Font, font_of, font_refused, groups_refused}
+use Rattle.shape.specs.Font.{Font, font_of, groups_refused}
 use Rattle.catalogue.specs.ToTable.{own_check, fetches_cell, table_places, unfetched_at, table_place, as_table_check}
 use Rattle.catalogue.specs.ToSheet.{follows_row, rows_apart, as_sheet_check}
 use Rattle.step.specs.Step.{step_check}

@@ -1,5 +1,5 @@
 -- Two boards that fetch the same bytes (`Views.antt`), as the calls show them: what `draw_picture` answers and leaves, and what every `step` from clock 0 puts out. Assumes nothing.
-use Rattle.std.specs.Prelude.{ℕ, ◌≡◌, Bool, List, length}
+use Rattle.std.specs.Prelude.{ℕ, ◌≡◌, List, length}
 use Rattle.std.proofs.Common.{sym, ap, ◌∙◌}
 use Rattle.std.proofs.Math.Bool.{false}
 use Rattle.refusal.specs.declared.Refusal.{Refusal}

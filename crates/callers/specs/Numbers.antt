@@ -15,7 +15,7 @@ use Rattle.board.specs.declared.Board.{Board}
 use Rattle.board.specs.Layout.{newest_version, page_length, length_field, file_size}
 use Rattle.board.specs.Modes.{version_of}
 use Rattle.board.specs.Range.{memories_refused}
-use Rattle.board.specs.Laws.{memories-all, layout-kept}
+use Rattle.board.specs.Laws.{layout-kept}
 use Rattle.timing.specs.Check.{page_check, state_refused, call_check}
 use Rattle.timing.specs.Laws.{range-ok}
 use Rattle.files.specs.declared.PageRead.{PageRead}

@@ -1,6 +1,6 @@
 -- Stores of four and eight bytes, and two of them that overlap. Assumes nothing.
 use Rattle.std.specs.Prelude.{◌≡◌, refl, List, ◌∷◌, ◌++◌, ℕ, zero, suc, ◌+◌, ◌*◌, ◌/◌, ◌%◌, ◌^◌, ◌-◌, ◌≤◌, length, take, drop, set}
-use Rattle.std.proofs.Common.{sym, ap, ◌∙◌, append_assoc, div-one, mul_comm, pow-suc, not-suc-le-zero, le_of_suc-le-suc, zero-add, suc-add, arith, length-append, length-take, length-drop, drop-drop}
+use Rattle.std.proofs.Common.{sym, ap, ◌∙◌, append_assoc, div-one, mul_comm, pow-suc, not-suc-le-zero, le_of_suc-le-suc, zero-add, suc-add, arith, length-append, length-drop, drop-drop}
 use Rattle.std.proofs.Math.Nat.{div-div-eq-div-mul}
 use Rattle.std.proofs.lemmas.List.{take-append-le}
 use Rattle.std.proofs.Math.Seq.{drop-append-add}

@@ -1,6 +1,6 @@
 -- What the proofs of the font calls use. Assumes nothing.
 use Rattle.std.specs.Prelude.{ℕ, ◌+◌, ◌-◌, ◌≤◌, ◌≡◌, refl, Bool, true, false, ◌&&◌, ◌||◌, List, [], ◌++◌, eqb, ltb, length, take, drop}
-use Rattle.std.proofs.Common.{sym, ap, ◌∙◌, true≢false, append_assoc, arith, eqb-true, ltb-false, length-drop, take_all}
+use Rattle.std.proofs.Common.{ap, ◌∙◌, true≢false, append_assoc, arith, eqb-true, ltb-false, length-drop, take_all}
 use Rattle.lists.specs.Choice.{pick, neither, pick-le}
 use Rattle.lists.specs.Tab.{tab, length-tab}
 use Rattle.refusal.specs.declared.Refusal.TheVariants.{Done, Size}

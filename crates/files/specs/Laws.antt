@@ -13,7 +13,6 @@ use Rattle.board.specs.declared.Layout.{Layout}
 use Rattle.board.specs.declared.Board.{Board}
 use Rattle.board.specs.State.{power_of}
 use Rattle.board.specs.Layout.{newest_version, layout_of, page_length, length_field, chars_place, attrs_place, file_size}
-use Rattle.board.specs.Modes.{version_of}
 use Rattle.board.specs.Range.{memories_refused}
 use Rattle.board.specs.Laws.{memories-all, layout-fits}
 use Rattle.timing.specs.Check.{page_check}

@@ -28,7 +28,7 @@ use Rattle.board.specs.declared.Page.{Page}
 use Rattle.board.specs.declared.Board.{Board}
 use Rattle.board.specs.Modes.{field_mode}
 use Rattle.timing.specs.declared.Timing.{Timing}
-use Rattle.timing.specs.Fields.{hact_of, rows_of, lines_of, visible_of, buffer_of, timing_of, counts_of}
+use Rattle.timing.specs.Fields.{hact_of, rows_of, visible_of, buffer_of, timing_of, counts_of}
 use Rattle.timing.specs.Check.{page_check, state_refused, call_check}
 use Rattle.timing.specs.Laws.{Accepted, row-shown, call-passed}
 use Rattle.fetch.specs.Rows.{code_at, row_start, cell_at, fetched_of, fetched_before, fetch_at}
@@ -42,8 +42,7 @@ use Rattle.video.specs.declared.Reading.{Reading}
 use Rattle.video.specs.Scene.{scene_of}
 use Rattle.video.specs.Cell.{column_of}
 use Rattle.video.specs.Lent.{Lent, lent}
-use Rattle.video.specs.At.{Content, lent_check, scan_at, reading_of, counted_byte, content_at, scan_dots, dots_at, fetched_content}
-use Rattle.dots.specs.Stores.{wide_of}
+use Rattle.video.specs.At.{Content, lent_check, reading_of, counted_byte, content_at, scan_dots, dots_at, fetched_content}
 use Rattle.dots.specs.Width.{shades, length-shades}
 use Rattle.dots.specs.Half.{shown_of, fetched_for, cells-few, same-shown}
 use Rattle.tables.specs.Tables.{mark_of, number_for, held_by, cell_by, shown_word, levels_of}

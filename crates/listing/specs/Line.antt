@@ -5,9 +5,9 @@ use mathlib.Core.List.{List, [], ◌∷◌, ◌++◌, map, append_assoc}
 use Rattle.std.proofs.Math.ListN.{take, drop, length-map, take-append-drop}
 use Rattle.std.proofs.Math.Seq.{take_at, drop_at, drop-drop, drop-append-le}
 use Rattle.refusal.specs.declared.Refusal.{Refusal}
-use Rattle.refusal.specs.declared.Refusal.TheVariants.{Done, Size}
+use Rattle.refusal.specs.declared.Refusal.TheVariants.{Done}
 use Rattle.refusal.specs.Number.{done_of}
-use Rattle.refusal.specs.Laws.{done-is, passed, not-refused}
+use Rattle.refusal.specs.Laws.{done-is, not-refused}
 use Rattle.board.specs.declared.Board.{Board}
 use Rattle.timing.specs.declared.PageSize.{PageSize}
 use Rattle.timing.specs.Fields.{hact_of, visible_of}

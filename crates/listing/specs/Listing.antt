@@ -1,6 +1,6 @@
 -- 01's listing: the visible lines, one space, the dots in a line; then the lines, black `.`, gray `o`, white `#`; each ends with a line feed.
 use Rattle.video.specs.At.{lent_check}
-use Rattle.std.specs.Prelude.{◌≡◌, ℕ, ◌+◌, Bool, not, List, [], ◌∷◌, ◌++◌, map, length, drop, eqb, ltb, leb}
+use Rattle.std.specs.Prelude.{◌≡◌, ℕ, ◌+◌, not, List, [], ◌∷◌, ◌++◌, map, length, drop, eqb, ltb, leb}
 use Rattle.lists.specs.Choice.{pick, first_of}
 use Rattle.refusal.specs.declared.Refusal.{Refusal}
 use Rattle.refusal.specs.declared.Refusal.TheVariants.{Done, Room}

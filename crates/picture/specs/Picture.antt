@@ -1,5 +1,5 @@
 -- A picture is its visible lines, end to end.
-use Rattle.std.specs.Prelude.{◌≡◌, ℕ, ◌*◌, Bool, false, List, ◌++◌, length, drop, ltb}
+use Rattle.std.specs.Prelude.{◌≡◌, ℕ, ◌*◌, false, List, ◌++◌, length, drop, ltb}
 use Rattle.lists.specs.Choice.{pick}
 use Rattle.lists.specs.Join.{joined}
 use Rattle.refusal.specs.declared.Refusal.{Refusal}

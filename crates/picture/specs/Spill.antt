@@ -3,7 +3,7 @@
 --     spill-begins, spill-turn, spill-ends    the loop's proof, where every stretch is d long, and at most twice that is stored
 use Rattle.std.specs.Prelude.{◌≡◌, refl, ℕ, ◌+◌, ◌*◌, ◌-◌, ◌≤◌, ◌<◌, length, take, drop}
 use Rattle.std.proofs.Common.{sym, ap, ◌∙◌, zero-mul, add-mul, one-mul, arith, length-append, length-take, length-drop, take-append-drop, take_at, drop-drop}
-use mathlib.Core.List.{List, [], ◌++◌, append_assoc, append-nil}
+use mathlib.Core.List.{List, ◌++◌, append_assoc, append-nil}
 use Rattle.std.proofs.Math.Nat.{sub-zero}
 use Rattle.std.proofs.Math.Seq.{drop-append-add}
 use Rattle.lists.specs.Fill.{lent}

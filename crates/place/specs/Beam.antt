@@ -13,7 +13,7 @@ use Rattle.raster.specs.Raster.{Carrier, Rows, Pair, pair, Scan, scan, loaded, o
 use Rattle.raster.specs.Cells.{begins}
 use Rattle.raster.specs.Latch.{latched, sets_of}
 use Rattle.raster.specs.Wide.{code_of, again_at, ends_at}
-use Rattle.raster.specs.Beams.{beam, row, beam_carrier, beam_rows}
+use Rattle.raster.specs.Beams.{row, beam_carrier, beam_rows}
 use Rattle.board.specs.declared.Page.{Page}
 use Rattle.board.specs.declared.Place.{Place}
 use Rattle.board.specs.Modes.{field_mode}

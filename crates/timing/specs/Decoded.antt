@@ -1,5 +1,5 @@
 -- What callers read off the decoded counts. Assumes nothing.
-use Rattle.std.specs.Prelude.{ℕ, ◌<◌, ◌≡◌}
+use Rattle.std.specs.Prelude.{◌<◌, ◌≡◌}
 use Rattle.board.specs.declared.Page.{Page}
 use Rattle.std.proofs.Common.{arith}
 use Rattle.timing.specs.declared.Timing.{Timing}

@@ -1,4 +1,3 @@
-use borrow.Author.Rules.{rules}
 use Rattle.board.specs.Range.{address_refused}
 use Rattle.board.proofs.address_refused.Goals as goal
 

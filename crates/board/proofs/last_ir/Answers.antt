@@ -1,6 +1,5 @@
 -- Rests on layout-fits: a page has an IR, and few of them.
 use native.Mathlib.Omega.{arith}
-use borrow.Author.Rules.{rules}
 use Rattle.board.specs.Laws.{layout-fits}
 use Rattle.board.proofs.last_ir.Goals as goal
 

@@ -1,6 +1,5 @@
 -- Rests on layout-fits, which keeps the sum below 2^64.
 use native.Mathlib.Omega.{arith}
-use borrow.Author.Rules.{rules}
 use Rattle.board.specs.Laws.{layout-fits}
 use Rattle.board.proofs.page_length.Goals as goal
 

@@ -1,5 +1,4 @@
 use mathlib.Core.Path.{ap}
-use borrow.Author.Rules.{rules}
 use Rattle.raster.specs.declared.Cell.{Cell}
 use Rattle.catalogue.specs.ToSheet.{sheet_at, as_sheet_page}
 use Rattle.catalogue.proofs.as_sheet_page.Goals as goal

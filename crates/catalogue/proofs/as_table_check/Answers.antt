@@ -1,4 +1,3 @@
-use borrow.Author.Rules.{rules}
 use Rattle.lists.specs.Choice.{stop, pass}
 use Rattle.refusal.specs.Laws.{done-is, checked}
 use Rattle.catalogue.specs.Marks.{sheet_check, own-passed}

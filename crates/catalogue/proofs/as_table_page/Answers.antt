@@ -1,4 +1,3 @@
-use borrow.Author.Rules.{rules}
 use Rattle.catalogue.specs.ToTable.{as_table_page}
 use Rattle.catalogue.proofs.as_table_page.Goals as goal
 

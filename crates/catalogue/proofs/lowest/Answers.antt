@@ -1,9 +1,9 @@
 -- Rests on the invariant: a is the lowest place that is left, and the cells from there to x have no mark.
-use Prim.Native.Nat.{◌+◌, ◌-◌, ◌<◌}
+use Prim.Native.Nat.{◌+◌, ◌<◌}
 use native.Mathlib.Omega.{arith}
 use borrow.Author.Tests.{ltb-true}
 use Rattle.lists.specs.Choice.{both}
-use Rattle.catalogue.specs.Marks.{Searching, search-begins, search-turn, search-found, all-looked-at, search-none}
+use Rattle.catalogue.specs.Marks.{search-turn, search-found, all-looked-at, search-none}
 use Rattle.catalogue.proofs.lowest.Goals as goal
 
 pub loop-x-preserved : goal.loop-x-preserved

@@ -1,9 +1,6 @@
 -- Rests on the invariant: a is the lowest place that is left, and the cells from there to x have no mark.
-use Prim.Native.Nat.{◌+◌, ◌-◌, ◌<◌}
-use native.Mathlib.Omega.{arith}
-use borrow.Author.Tests.{ltb-true}
-use Rattle.lists.specs.Choice.{both}
-use Rattle.catalogue.specs.Marks.{Searching, search-begins, search-turn, search-found, all-looked-at, search-none}
+use Prim.Native.Nat.{◌-◌}
+use Rattle.catalogue.specs.Marks.{Searching}
 use Rattle.catalogue.proofs.lowest.Given as goal
 
 abbrev pub invariant-loop-x : goal.invariant-loop-x

@@ -1,12 +1,10 @@
 -- Rests on the invariant: the cells marked so far, and the one that comes next.
-use Prim.Native.Nat.{◌-◌, ◌≤◌}
-use mathlib.Core.Path.{◌≡◌, refl, sym, ap, ◌∙◌}
+use mathlib.Core.Path.{refl, sym, ap, ◌∙◌}
 use native.Mathlib.Omega.{arith}
-use borrow.Author.Rules.{rules}
-use lib.ListN.{length, length-set}
+use lib.ListN.{length-set}
 use Rattle.raster.specs.declared.Cell.{Cell}
-use Rattle.raster.specs.Moves.{cell, advance_by, advance_by-zero, advance_by-lt}
-use Rattle.catalogue.specs.Marks.{marked_by, marked-none, marked_more, one_on}
+use Rattle.raster.specs.Moves.{cell, advance_by-zero, advance_by-lt}
+use Rattle.catalogue.specs.Marks.{marked-none, marked_more, one_on}
 use Rattle.catalogue.proofs.mark.Goals as goal
 
 pub loop-i-init : goal.loop-i-init
@@ -20,8 +18,7 @@ bounds-marks-cell c =
 
 pub loop-i-preserved : goal.loop-i-preserved
 loop-i-preserved c =
-    let loop = c.loop-i in
-    (
+    let loop = c.loop-i in (
       omega (arith, c.loop-i-test.true),
       simp length-set loop.invariant.1,
       c.advance_one-cell.ensures ∙ one_on _ c.requires.1 _ _ _ c.requires.2 loop.invariant.2,

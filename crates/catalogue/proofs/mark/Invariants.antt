@@ -1,12 +1,9 @@
 -- Rests on the invariant: the cells marked so far, and the one that comes next.
 use Prim.Native.Nat.{◌-◌, ◌≤◌}
-use mathlib.Core.Path.{◌≡◌, refl, sym, ap, ◌∙◌}
-use native.Mathlib.Omega.{arith}
-use borrow.Author.Rules.{rules}
-use lib.ListN.{length, length-set}
-use Rattle.raster.specs.declared.Cell.{Cell}
-use Rattle.raster.specs.Moves.{cell, advance_by, advance_by-zero, advance_by-lt}
-use Rattle.catalogue.specs.Marks.{marked_by, marked-none, marked_more, one_on}
+use mathlib.Core.Path.{◌≡◌}
+use lib.ListN.{length}
+use Rattle.raster.specs.Moves.{cell, advance_by}
+use Rattle.catalogue.specs.Marks.{marked_by}
 use Rattle.catalogue.proofs.mark.Given as goal
 
 abbrev pub invariant-loop-i : goal.invariant-loop-i

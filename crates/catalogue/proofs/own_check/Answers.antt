@@ -1,5 +1,4 @@
 use mathlib.Core.Path.{◌∙◌}
-use borrow.Author.Rules.{rules}
 use Rattle.catalogue.specs.ToTable.{own_check}
 use Rattle.catalogue.proofs.own_check.Goals as goal
 

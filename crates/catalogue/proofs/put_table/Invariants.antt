@@ -1,14 +1,11 @@
 -- Rests on the invariant: the entries put so far, and where the next row starts.
-use Prim.Native.Nat.{ℕ, ◌+◌, ◌-◌, ◌*◌, ◌≤◌, ◌<◌}
-use mathlib.Core.Path.{◌≡◌, refl, sym, ap, ◌∙◌}
+use Prim.Native.Nat.{◌-◌, ◌*◌, ◌≤◌}
+use mathlib.Core.Path.{◌≡◌}
 use mathlib.Core.List.{◌++◌}
-use native.Mathlib.Nat.{zero-mul}
-use native.Mathlib.Omega.{arith}
-use borrow.Author.Rules.{rules}
-use lib.ListN.{length, drop, length-set}
+use lib.ListN.{length, drop}
 use Rattle.lists.specs.Tab.{tab}
-use Rattle.raster.specs.Moves.{cell, advance_by, advance_by-zero, advance_by-lt}
-use Rattle.catalogue.specs.Marks.{entry_byte, entry-put, row_on}
+use Rattle.raster.specs.Moves.{cell, advance_by}
+use Rattle.catalogue.specs.Marks.{entry_byte}
 use Rattle.catalogue.proofs.put_table.Given as goal
 
 abbrev pub invariant-loop-r : goal.invariant-loop-r

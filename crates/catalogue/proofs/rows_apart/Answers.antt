@@ -2,10 +2,9 @@
 use Prim.Native.Nat.{◌-◌, ◌≤◌, ◌<◌}
 use mathlib.Core.Path.{◌≡◌, refl}
 use native.Mathlib.Omega.{arith}
-use borrow.Author.Rules.{rules}
 use Rattle.lists.specs.Search.{any_below}
 use Rattle.timing.specs.Fields.{timing_of, counts_of}
-use Rattle.catalogue.specs.Marks.{apart_by, apart_more, apart-all}
+use Rattle.catalogue.specs.Marks.{apart_more, apart-all}
 use Rattle.catalogue.proofs.rows_apart.Goals as goal
 
 pub overflow_sub-n : goal.overflow_sub-n
@@ -33,11 +32,10 @@ entry-next-requires c =
     (c.requires.1, omega (arith, low))
 
 pub loop-r-preserved : goal.loop-r-preserved
-loop-r-preserved c =
-    (
-      omega (arith, c.loop-r-test.true),
-      apart_more _ _ _ c.timing_of-t.ensures c.buffer_of-buffer.ensures c.entry.ensures (rw c.cells-columns.ensures at c.advance_by-end.ensures) c.entry-next.ensures c.loop-r.invariant.1,
-    )
+loop-r-preserved c = (
+  omega (arith, c.loop-r-test.true),
+  apart_more _ _ _ c.timing_of-t.ensures c.buffer_of-buffer.ensures c.entry.ensures (rw c.cells-columns.ensures at c.advance_by-end.ensures) c.entry-next.ensures c.loop-r.invariant.1,
+)
 
 pub returns : goal.returns
 returns c =

@@ -1,11 +1,8 @@
 -- Rests on the invariant: whether a row so far does not begin where the one before it ended.
-use Prim.Native.Nat.{◌-◌, ◌≤◌, ◌<◌}
-use mathlib.Core.Path.{◌≡◌, refl}
-use native.Mathlib.Omega.{arith}
-use borrow.Author.Rules.{rules}
+use Prim.Native.Nat.{◌-◌, ◌≤◌}
+use mathlib.Core.Path.{◌≡◌}
 use Rattle.lists.specs.Search.{any_below}
-use Rattle.timing.specs.Fields.{timing_of, counts_of}
-use Rattle.catalogue.specs.Marks.{apart_by, apart_more, apart-all}
+use Rattle.catalogue.specs.Marks.{apart_by}
 use Rattle.catalogue.proofs.rows_apart.Given as goal
 
 abbrev pub invariant-loop-r : goal.invariant-loop-r

@@ -1,4 +1,3 @@
-use borrow.Author.Rules.{rules}
 use Rattle.refusal.specs.Laws.{done-is, checked}
 use Rattle.catalogue.specs.Marks.{as-sheet-moved, as-sheet-kept, as-sheet-passed}
 use Rattle.catalogue.proofs.to_sheet.Goals as goal

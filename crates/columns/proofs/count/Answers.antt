@@ -1,5 +1,4 @@
 use mathlib.Core.Path.{sym, ◌∙◌}
-use borrow.Author.Rules.{rules}
 use Rattle.columns.specs.Laws.{records-length}
 use Rattle.columns.proofs.count.Goals as goal
 

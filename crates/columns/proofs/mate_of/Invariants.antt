@@ -1,12 +1,8 @@
 -- Rests on the invariant: s is the mate among the first i records; Laws.mate-all ends it.
 use Prim.Native.Nat.{◌-◌, ◌≤◌, ◌<◌}
-use mathlib.Core.Path.{◌≡◌, refl, ap, ◌∙◌}
-use native.Mathlib.Omega.{arith}
-use borrow.Author.Rules.{rules}
-use Rattle.records.specs.Folds.{mate_start, mate_to}
-use Rattle.phrases.specs.Laws.{mate-begins, mate-all}
+use mathlib.Core.Path.{◌≡◌}
+use Rattle.records.specs.Folds.{mate_to}
 use Rattle.columns.specs.Columns.{records_of}
-use Rattle.columns.specs.Laws.{each-column, mate-more, ended}
 use Rattle.columns.proofs.mate_of.Given as goal
 
 abbrev pub invariant-loop-i : goal.invariant-loop-i

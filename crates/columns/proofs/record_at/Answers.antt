@@ -1,6 +1,5 @@
 use mathlib.Core.Path.{sym}
 use native.Mathlib.Omega.{arith}
-use borrow.Author.Rules.{rules}
 use Rattle.columns.specs.Laws.{records-length, record_is}
 use Rattle.columns.proofs.record_at.Goals as goal
 

@@ -1,5 +1,4 @@
 use mathlib.Core.Path.{ap, ◌∙◌}
-use borrow.Author.Rules.{rules}
 use Rattle.records.specs.Folds.{search_of}
 use Rattle.phrases.specs.Laws.{row-held}
 use Rattle.columns.proofs.record_of_row.Goals as goal

@@ -1,12 +1,8 @@
 -- Rests on the invariant: s is the answer after i records; Laws.pairs-all ends it.
 use Prim.Native.Nat.{◌-◌, ◌≤◌}
-use mathlib.Core.Path.{◌≡◌, ◌∙◌}
-use native.Mathlib.Omega.{arith}
-use borrow.Author.Rules.{rules}
+use mathlib.Core.Path.{◌≡◌}
 use Rattle.records.specs.Folds.{pairs_to}
-use Rattle.phrases.specs.Laws.{pairs-all}
 use Rattle.columns.specs.Columns.{records_of}
-use Rattle.columns.specs.Laws.{pair-more, ended}
 use Rattle.columns.proofs.records_differ.Given as goal
 
 abbrev pub invariant-loop-i : goal.invariant-loop-i

@@ -1,12 +1,9 @@
 -- Rests on the invariant: s is the answer after i records; Laws.search-all ends it.
-use Prim.Native.Nat.{◌-◌, ◌≤◌}
-use mathlib.Core.Path.{◌≡◌, ◌∙◌}
+use mathlib.Core.Path.{◌∙◌}
 use native.Mathlib.Omega.{arith}
-use borrow.Author.Rules.{rules}
 use Rattle.records.specs.Folds.{search_to}
 use Rattle.phrases.specs.Laws.{search-all}
-use Rattle.columns.specs.Columns.{records_of}
-use Rattle.columns.specs.Laws.{each-column, search-more, ended}
+use Rattle.columns.specs.Laws.{each-column, ended}
 use Rattle.columns.proofs.search.Goals as goal
 
 pub record_at-p-requires : goal.record_at-p-requires

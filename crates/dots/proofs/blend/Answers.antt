@@ -1,5 +1,4 @@
 use native.Mathlib.Omega.{arith}
-use borrow.Author.Rules.{rules}
 use Rattle.dots.specs.Inks.{inks-all, inked-in}
 use Rattle.dots.proofs.blend.Goals as goal
 

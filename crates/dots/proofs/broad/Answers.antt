@@ -1,4 +1,3 @@
-use borrow.Author.Rules.{rules}
 use Rattle.dots.specs.Overlap.{overlapped}
 use Rattle.dots.proofs.broad.Goals as goal
 

@@ -1,7 +1,6 @@
 use Prim.Native.Nat.{ℕ}
 use mathlib.Core.Path.{ap, ◌∙◌}
 use mathlib.Core.List.{List, ◌++◌}
-use borrow.Author.Rules.{rules}
 use lib.ListN.{drop}
 use Rattle.dots.specs.Width.{cell-shades}
 use Rattle.dots.proofs.draw_cell.Goals as goal

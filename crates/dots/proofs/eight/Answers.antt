@@ -1,7 +1,4 @@
 -- Rests on stored-eight: eight bytes, one after the other, are those of the number.
-use native.Mathlib.Omega.{arith}
-use borrow.Author.Rules.{rules}
-use lib.ListN.{length-set}
 use Rattle.dots.specs.Overlap.{stored-eight}
 use Rattle.dots.proofs.eight.Goals as goal
 

@@ -1,10 +1,7 @@
 -- Rests on the loop that stores one dot a turn (lists Tab).
-use Prim.Native.Nat.{ℕ, ◌-◌, ◌≤◌}
-use mathlib.Core.Path.{◌≡◌, refl, ap, ◌∙◌}
-use mathlib.Core.List.{◌++◌}
+use mathlib.Core.Path.{refl}
 use native.Mathlib.Omega.{arith}
 use borrow.Author.Rules.{rules}
-use lib.ListN.{length, drop}
 use Rattle.lists.specs.Tab.{tab, tab-turn}
 use Rattle.dots.specs.Half.{half_by}
 use Rattle.dots.proofs.halve.Goals as goal

@@ -1,11 +1,9 @@
 -- Rests on the loop that stores one dot a turn (lists Tab).
-use Prim.Native.Nat.{ℕ, ◌-◌, ◌≤◌}
-use mathlib.Core.Path.{◌≡◌, refl, ap, ◌∙◌}
+use Prim.Native.Nat.{◌-◌, ◌≤◌}
+use mathlib.Core.Path.{◌≡◌}
 use mathlib.Core.List.{◌++◌}
-use native.Mathlib.Omega.{arith}
-use borrow.Author.Rules.{rules}
 use lib.ListN.{length, drop}
-use Rattle.lists.specs.Tab.{tab, tab-turn}
+use Rattle.lists.specs.Tab.{tab}
 use Rattle.dots.specs.Half.{half_by}
 use Rattle.dots.proofs.halve.Given as goal
 

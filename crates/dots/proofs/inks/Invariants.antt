@@ -1,11 +1,9 @@
 -- Rests on the loop that stores one number a turn (lists Tab).
-use Prim.Native.Nat.{ℕ, ◌≤◌, ◌-◌, zero-le}
-use mathlib.Core.Path.{◌≡◌, refl, ap, ◌∙◌}
+use Prim.Native.Nat.{◌≤◌, ◌-◌}
+use mathlib.Core.Path.{◌≡◌}
 use mathlib.Core.List.{◌++◌}
-use native.Mathlib.Omega.{arith}
-use borrow.Author.Rules.{rules}
 use lib.ListN.{length, drop}
-use Rattle.lists.specs.Tab.{tab, tab-turn, tab-ends}
+use Rattle.lists.specs.Tab.{tab}
 use Rattle.dots.specs.Stores.{ink_of}
 use Rattle.dots.proofs.inks.Given as goal
 

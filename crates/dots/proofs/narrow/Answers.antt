@@ -1,5 +1,4 @@
 -- Rests on overlapped: four bytes and the last four, which overlap them.
-use borrow.Author.Rules.{rules}
 use Rattle.dots.specs.Overlap.{overlapped, narrowed}
 use Rattle.dots.proofs.narrow.Goals as goal
 

@@ -1,4 +1,3 @@
-use borrow.Author.Rules.{rules}
 use Rattle.dots.specs.Bytes.{nibble}
 use Rattle.dots.proofs.nibble.Goals as goal
 

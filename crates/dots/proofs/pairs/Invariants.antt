@@ -1,12 +1,10 @@
 -- Rests on the invariant: after i turns 2 i dots stand at the front.
-use Prim.Native.Nat.{ℕ, ◌+◌, ◌-◌, ◌*◌, ◌<◌, ◌≤◌}
-use mathlib.Core.Path.{◌≡◌, refl, ap, ◌∙◌}
+use Prim.Native.Nat.{◌-◌, ◌*◌, ◌≤◌}
+use mathlib.Core.Path.{◌≡◌}
 use mathlib.Core.List.{◌++◌}
-use native.Mathlib.Omega.{arith}
-use borrow.Author.Rules.{rules}
-use lib.ListN.{length, drop, length-set}
+use lib.ListN.{length, drop}
 use Rattle.lists.specs.Tab.{tab}
-use Rattle.dots.specs.Half.{half_by, pair_put}
+use Rattle.dots.specs.Half.{half_by}
 use Rattle.dots.proofs.pairs.Given as goal
 
 abbrev pub invariant-loop-i : goal.invariant-loop-i

@@ -1,6 +1,5 @@
 -- Rests on the three ways to store a cell, chosen by its width and by whether it is stored tight.
 use native.Mathlib.Omega.{arith}
-use borrow.Author.Rules.{rules}
 use Rattle.dots.specs.Inks.{reach-broad, reach-tight, reach-eight, put-broad, put-narrow}
 use Rattle.dots.proofs.put_cell.Goals as goal
 

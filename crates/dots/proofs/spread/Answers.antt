@@ -1,6 +1,5 @@
 use Prim.Native.Nat.{◌+◌, ◌*◌, ◌≤◌}
 use native.Mathlib.Omega.{arith}
-use borrow.Author.Rules.{rules}
 use Rattle.dots.specs.Bytes.{two-nibbles, spread-ones}
 use Rattle.dots.proofs.spread.Goals as goal
 

@@ -1,4 +1,3 @@
-use borrow.Author.Rules.{rules}
 use borrow.Author.Tests.{lt-ltb, le-ltb}
 use Rattle.dots.specs.Stores.{wide_of}
 use Rattle.dots.proofs.wide.Goals as goal

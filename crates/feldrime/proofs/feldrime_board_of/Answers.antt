@@ -1,6 +1,5 @@
 -- Rests on numbers-passed: accepted numbers have a page at their front.
 use mathlib.Core.Path.{◌∙◌}
-use borrow.Author.Rules.{rules}
 use Rattle.refusal.specs.Laws.{done-is, checked}
 use Rattle.feldrime.specs.Pages.{board_for}
 use Rattle.numbers.specs.Laws.{numbers-room, numbers-passed}

@@ -1,6 +1,5 @@
 -- Rests on three and taken: 3 for the numbers, else what draw_line answers.
 use mathlib.Core.Path.{sym, ◌∙◌}
-use borrow.Author.Rules.{rules}
 use Rattle.feldrime.specs.LineDraw.{line_draw_check, line_drawn}
 use Rattle.numbers.specs.Laws.{numbers-room}
 use Rattle.feldrime.specs.Laws.{three, taken}

@@ -1,6 +1,5 @@
 -- Rests on numbers-room: numbers that are not refused have a page at their front.
 use mathlib.Core.Path.{refl, sym, ap, ◌∙◌}
-use borrow.Author.Rules.{rules}
 use Rattle.lists.specs.Choice.{stop, pass}
 use Rattle.refusal.specs.Number.{number_of, beside_of}
 use Rattle.timing.specs.Check.{size_of}

@@ -1,6 +1,5 @@
 -- Rests on three and taken: 3 for the numbers, else what draw_picture answers.
 use mathlib.Core.Path.{sym, ◌∙◌}
-use borrow.Author.Rules.{rules}
 use Rattle.feldrime.specs.PictureDraw.{picture_draw_check, picture_drawn}
 use Rattle.numbers.specs.Laws.{numbers-room}
 use Rattle.feldrime.specs.Laws.{three, taken}

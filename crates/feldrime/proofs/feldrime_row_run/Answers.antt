@@ -1,6 +1,5 @@
 -- Rests on the bounds of the span, for the casts; 3 for the numbers, else the span.
 use mathlib.Core.Path.{refl, sym, ap, ◌∙◌}
-use borrow.Author.Rules.{rules}
 use Rattle.lists.specs.Choice.{stop, pass}
 use Rattle.refusal.specs.Number.{number_of, beside_of}
 use Rattle.board.specs.declared.Board.{Board}

@@ -1,6 +1,5 @@
 -- Rests on three and taken: 3 for the numbers, else what to_sheet answers and put_page leaves.
 use mathlib.Core.Path.{◌≡◌, sym, ap, ◌∙◌}
-use borrow.Author.Rules.{rules}
 use Rattle.board.specs.declared.Board.{Board}
 use Rattle.catalogue.specs.declared.Moved.{Moved}
 use Rattle.catalogue.specs.ToSheet.{as_sheet}

@@ -1,6 +1,5 @@
 -- Rests on the test of the numbers: 3, else what to_table answers and put_page leaves.
 use mathlib.Core.Path.{◌≡◌, refl, sym, ap, ◌∙◌}
-use borrow.Author.Rules.{rules}
 use Rattle.lists.specs.Choice.{stop, pass}
 use Rattle.board.specs.declared.Board.{Board}
 use Rattle.catalogue.specs.declared.Moved.{Moved}

@@ -1,6 +1,5 @@
 -- Rests on numbers-room: numbers that are not refused have a page at their front.
 use mathlib.Core.Path.{refl, sym, ap, ◌∙◌}
-use borrow.Author.Rules.{rules}
 use Rattle.lists.specs.Choice.{stop, pass}
 use Rattle.board.specs.declared.Board.{Board}
 use Rattle.records.specs.Ends.{asked_of}

@@ -1,5 +1,4 @@
 use mathlib.Core.Path.{ap, ◌∙◌}
-use borrow.Author.Rules.{rules}
 use Rattle.raster.specs.Moves.{cell}
 use Rattle.fetch.specs.Rows.{fetch_at}
 use Rattle.fetch.specs.Laws.{cell-moved}

@@ -1,4 +1,3 @@
-use borrow.Author.Rules.{rules}
 use Rattle.fetch.specs.RowCells.{cells_check}
 use Rattle.fetch.proofs.cells_check.Goals as goal
 

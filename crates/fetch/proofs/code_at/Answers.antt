@@ -1,6 +1,5 @@
 -- Rests on the test of IR0[7]: the two bits of the entry, or 0.
 use mathlib.Core.Path.{refl, sym, ◌∙◌}
-use borrow.Author.Rules.{rules}
 use Rattle.lists.specs.Choice.{stop, pass}
 use Rattle.fetch.specs.Rows.{code_at}
 use Rattle.fetch.proofs.code_at.Goals as goal

@@ -1,4 +1,3 @@
-use borrow.Author.Rules.{rules}
 use Rattle.fetch.specs.Rows.{entry_of}
 use Rattle.fetch.proofs.entry.Goals as goal
 

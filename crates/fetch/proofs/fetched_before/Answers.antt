@@ -1,6 +1,5 @@
 -- Rests on begun-by: of a row of double width half the columns have begun a cell, rounded up.
 use mathlib.Core.Path.{sym, ◌∙◌}
-use borrow.Author.Rules.{rules}
 use Rattle.timing.specs.Fields.{timing_of, counts_of}
 use Rattle.fetch.specs.Laws.{wide_is, begun-by}
 use Rattle.fetch.proofs.fetched_before.Goals as goal

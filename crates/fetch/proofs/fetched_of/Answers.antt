@@ -1,6 +1,5 @@
 -- Rests on fetched-by: a row of double width fetches half of HACT, rounded up.
 use mathlib.Core.Path.{sym, ◌∙◌}
-use borrow.Author.Rules.{rules}
 use Rattle.timing.specs.Fields.{timing_of, counts_of}
 use Rattle.fetch.specs.Laws.{wide_is, fetched-by}
 use Rattle.fetch.proofs.fetched_of.Goals as goal

@@ -1,6 +1,5 @@
 -- Rests on moved_by: two columns a move if the row is of double width; moved-past beyond the last column.
 use mathlib.Core.Path.{sym, ◌∙◌}
-use borrow.Author.Rules.{rules}
 use Rattle.timing.specs.Fields.{timing_of, counts_of}
 use Rattle.fetch.specs.Laws.{wide_is, moved_by, moved-past}
 use Rattle.fetch.proofs.moved_of.Goals as goal

@@ -1,5 +1,4 @@
 use mathlib.Core.Path.{refl}
-use borrow.Author.Rules.{rules}
 use Rattle.raster.specs.Moves.{to_last}
 use Rattle.fetch.specs.Run.{one_run}
 use Rattle.fetch.proofs.one_run.Goals as goal

@@ -1,14 +1,10 @@
 -- Rests on the invariant: the addresses put so far, and the cell that comes next.
-use Prim.Native.Nat.{ℕ, ◌≤◌, ◌-◌}
-use mathlib.Core.Path.{◌≡◌, refl, ap, ◌∙◌}
+use Prim.Native.Nat.{◌≤◌, ◌-◌}
+use mathlib.Core.Path.{◌≡◌}
 use mathlib.Core.List.{◌++◌}
-use native.Mathlib.Omega.{arith}
-use borrow.Author.Rules.{rules}
 use lib.ListN.{length, drop}
-use Rattle.lists.specs.Tab.{tab, tab-turn}
-use Rattle.raster.specs.declared.Cell.{Cell}
+use Rattle.lists.specs.Tab.{tab}
 use Rattle.raster.specs.Moves.{advance_by, cell as cell_of}
-use Rattle.raster.specs.Walk.{moved_on, not-moved}
 use Rattle.fetch.specs.RowLaws.{column_by}
 use Rattle.fetch.proofs.put_cells.Given as goal
 

@@ -2,7 +2,6 @@
 use Prim.Native.Nat.{◌≤◌}
 use native.Mathlib.Nat.{le_trans}
 use native.Mathlib.Omega.{arith}
-use borrow.Author.Rules.{rules}
 use lib.ListN.{length}
 use Rattle.refusal.specs.Laws.{done-is, checked}
 use Rattle.timing.specs.Laws.{buffer-bounded}
@@ -12,25 +11,25 @@ use Rattle.fetch.proofs.row_cells.Goals as goal
 
 pub fetched_of-count-requires : goal.fetched_of-count-requires
 fetched_of-count-requires c =
-    let passed : Run c.args.b (length c.args.chars.now) c.args.row × (256 ≤ length c.args.cells.now) = 
-        let p = cells-passed _ _ _ _ (done-is _ (checked c.cells_check-refused.ensures c.is_done.ensures c.if-is_done.true)) in
-        (run-passed _ _ _ p.0, p.1) in
+    let passed : Run c.args.b (length c.args.chars.now) c.args.row × (256 ≤ length c.args.cells.now) =
+    let p = cells-passed _ _ _ _ (done-is _ (checked c.cells_check-refused.ensures c.is_done.ensures c.if-is_done.true)) in
+    (run-passed _ _ _ p.0, p.1) in
     let k = passed.0 in
     (k.whole, omega (arith, k.row_lt))
 
 pub row_start-start-requires : goal.row_start-start-requires
 row_start-start-requires c =
-    let passed : Run c.args.b (length c.args.chars.now) c.args.row × (256 ≤ length c.args.cells.now) = 
-        let p = cells-passed _ _ _ _ (done-is _ (checked c.cells_check-refused.ensures c.is_done.ensures c.if-is_done.true)) in
-        (run-passed _ _ _ p.0, p.1) in
+    let passed : Run c.args.b (length c.args.chars.now) c.args.row × (256 ≤ length c.args.cells.now) =
+    let p = cells-passed _ _ _ _ (done-is _ (checked c.cells_check-refused.ensures c.is_done.ensures c.if-is_done.true)) in
+    (run-passed _ _ _ p.0, p.1) in
     let k = passed.0 in
     (k.whole, omega (arith, k.row_lt))
 
 pub put_cells-requires : goal.put_cells-requires
 put_cells-requires c =
-    let passed : Run c.args.b (length c.args.chars.now) c.args.row × (256 ≤ length c.args.cells.now) = 
-        let p = cells-passed _ _ _ _ (done-is _ (checked c.cells_check-refused.ensures c.is_done.ensures c.if-is_done.true)) in
-        (run-passed _ _ _ p.0, p.1) in
+    let passed : Run c.args.b (length c.args.chars.now) c.args.row × (256 ≤ length c.args.cells.now) =
+    let p = cells-passed _ _ _ _ (done-is _ (checked c.cells_check-refused.ensures c.is_done.ensures c.if-is_done.true)) in
+    (run-passed _ _ _ p.0, p.1) in
     let k = passed in
     let few = (fetched-small _ _ _).1 in
     rw (c.buffer_of.ensures, c.row_start-start.ensures, c.fetched_of-count.ensures)

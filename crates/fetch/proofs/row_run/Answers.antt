@@ -3,7 +3,6 @@ use native.Mathlib.Nat.{add_comm}
 use Prim.Native.Nat.{◌+◌}
 use Rattle.fetch.specs.declared.Span.{Span}
 use mathlib.Core.Path.{refl, ap, ◌∙◌}
-use borrow.Author.Rules.{rules}
 use Rattle.refusal.specs.Number.{number_of}
 use Rattle.fetch.specs.Laws.{run-part, span-number}
 use Rattle.fetch.proofs.row_run.Goals as goal

@@ -4,7 +4,6 @@ use native.Mathlib.Omega.{arith}
 use Rattle.raster.specs.Moves.{cell}
 use Rattle.timing.specs.Fields.{timing_of, counts_of}
 use Rattle.fetch.specs.Laws.{moves-fit, start-table, start-sheet}
-use borrow.Author.Rules.{rules}
 use Rattle.fetch.proofs.row_start.Goals as goal
 
 pub returns-then-table_of : goal.returns-then-table_of

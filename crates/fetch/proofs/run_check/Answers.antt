@@ -1,4 +1,3 @@
-use borrow.Author.Rules.{rules}
 use Rattle.fetch.specs.Run.{run_check}
 use Rattle.fetch.proofs.run_check.Goals as goal
 

@@ -1,5 +1,4 @@
 -- Rests on the callee that takes the smaller of two counts, twice.
-use borrow.Author.Rules.{rules}
 use Rattle.raster.specs.Moves.{to_last}
 use Rattle.fetch.specs.Run.{run_count}
 use Rattle.fetch.proofs.run_count.Goals as goal

@@ -1,6 +1,5 @@
 -- Rests on the tests in their order: 1, 2, 3.
 use mathlib.Core.Path.{refl, sym, ◌∙◌}
-use borrow.Author.Rules.{rules}
 use Rattle.lists.specs.Choice.{stop, pass}
 use Rattle.files.specs.File.{file_check}
 use Rattle.files.proofs.file_check.Goals as goal

@@ -1,6 +1,5 @@
 -- Rests on layout-fits, which keeps the sum below 2^64.
 use native.Mathlib.Omega.{arith}
-use borrow.Author.Rules.{rules}
 use Rattle.board.specs.Laws.{layout-fits}
 use Rattle.files.proofs.file_size.Goals as goal
 

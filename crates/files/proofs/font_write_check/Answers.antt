@@ -1,6 +1,5 @@
 -- Rests on the tests in their order, 3 before 12.
 use mathlib.Core.Path.{refl, ap, ◌∙◌}
-use borrow.Author.Rules.{rules}
 use Rattle.lists.specs.Choice.{stop, pass}
 use Rattle.files.specs.FontFile.{font_size, font_write_check}
 use Rattle.files.proofs.font_write_check.Goals as goal

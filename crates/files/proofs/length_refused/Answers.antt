@@ -1,5 +1,4 @@
 use borrow.Author.Tests.{eq-eqb, ne_eqb}
-use borrow.Author.Rules.{rules}
 use Rattle.files.specs.File.{length_refused}
 use Rattle.files.proofs.length_refused.Goals as goal
 

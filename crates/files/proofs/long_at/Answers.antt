@@ -1,4 +1,3 @@
-use borrow.Author.Rules.{rules}
 use Rattle.files.specs.File.{long_at}
 use Rattle.files.proofs.long_at.Goals as goal
 

@@ -1,8 +1,7 @@
 -- Rests on the definition: each field is read at its place, behind the IRs that the version has.
 use Prim.Native.Nat.{ℕ, ◌+◌}
-use mathlib.Core.Path.{◌≡◌, ap, ◌∙◌}
+use mathlib.Core.Path.{ap, ◌∙◌}
 use native.Mathlib.Omega.{arith}
-use borrow.Author.Rules.{rules}
 use lib.ListN.{get_or}
 use Rattle.board.specs.Laws.{layout-fits}
 use Rattle.files.specs.Page.{starts_at, video_of, version_in, irs_at, chip_at, page_at}

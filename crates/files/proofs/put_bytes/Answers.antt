@@ -1,12 +1,10 @@
 -- Rests on bytes-put: the IRs, then what stands behind them.
 use Prim.Native.Nat.{◌≤◌}
-use mathlib.Core.Path.{◌≡◌, sym, ap}
+use mathlib.Core.Path.{◌≡◌, sym}
 use native.Mathlib.Omega.{arith}
 use borrow.Author.Rules.{rules}
-use lib.ListN.{length, take}
+use lib.ListN.{length}
 use lib.Seq.{length-take-le}
-use Rattle.board.specs.declared.Layout.{Layout}
-use Rattle.board.specs.Layout.{layout_of}
 use Rattle.board.specs.Laws.{layout-fits}
 use Rattle.files.specs.Laws.{tail-long, bytes-put}
 use Rattle.files.proofs.put_bytes.Goals as goal

@@ -1,10 +1,8 @@
 -- Rests on font-put: the parts one behind the other.
-use native.Mathlib.Omega.{arith}
-use borrow.Author.Rules.{rules}
 use Rattle.shape.specs.Font.{Font, font_of}
 use mathlib.Core.Path.{ap, ◌∙◌}
 use Rattle.files.specs.FontFile.{font_head}
-use Rattle.files.specs.FontLaws.{groups-sized, font-put}
+use Rattle.files.specs.FontLaws.{font-put}
 use Rattle.files.proofs.put_font.Goals as goal
 
 pub returns : goal.returns

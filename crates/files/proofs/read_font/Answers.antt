@@ -3,7 +3,6 @@ use Prim.Native.Nat.{ℕ, ◌≤◌}
 use mathlib.Core.Path.{◌≡◌, ap, ap₂, ◌∙◌}
 use mathlib.Core.Bool.{Bool, ◌&&◌, ◌||◌}
 use native.Mathlib.Omega.{arith}
-use borrow.Author.Rules.{rules}
 use lib.Dec.{eqb}
 use lib.ListN.{length, take, drop}
 use Rattle.refusal.specs.Laws.{done-is, checked}
@@ -16,10 +15,10 @@ use Rattle.files.proofs.read_font.Goals as goal
 pub slice_bounds-read_words-end : goal.slice_bounds-read_words-end
 slice_bounds-read_words-end c =
     let lent : Font = font_of c.args.words.now c.args.flags.now c.args.unshifted.now c.args.shifted.now c.args.groups.now in
-    let check-is : c.font_check-refused.result ≡ font_check c.args.file.now (font_short c.args.file.now lent) = 
-        let file = c.args.file.now in
-        c.font_check-refused.ensures
-        ∙ ap₂ (λ (t : Bool) (v : ℕ). font_check file (t || (eqb v 2 && eqb (length c.args.groups.now) 0))) c.font_refused.ensures c.version_in.ensures in
+    let check-is : c.font_check-refused.result ≡ font_check c.args.file.now (font_short c.args.file.now lent) =
+    let file = c.args.file.now in
+    c.font_check-refused.ensures
+    ∙ ap₂ (λ (t : Bool) (v : ℕ). font_check file (t || (eqb v 2 && eqb (length c.args.groups.now) 0))) c.font_refused.ensures c.version_in.ensures in
     let fits : FontTaken c.args.file.now lent = font-passed _ lent (done-is _ (checked check-is c.is_done.ensures c.if-is_done.true)) in
     let least : 2455 ≤ length c.args.file.now = font-least c.args.file.now fits.file-all in
     omega (arith, least)
@@ -27,10 +26,10 @@ slice_bounds-read_words-end c =
 pub read_words-requires : goal.read_words-requires
 read_words-requires c =
     let lent : Font = font_of c.args.words.now c.args.flags.now c.args.unshifted.now c.args.shifted.now c.args.groups.now in
-    let check-is : c.font_check-refused.result ≡ font_check c.args.file.now (font_short c.args.file.now lent) = 
-        let file = c.args.file.now in
-        c.font_check-refused.ensures
-        ∙ ap₂ (λ (t : Bool) (v : ℕ). font_check file (t || (eqb v 2 && eqb (length c.args.groups.now) 0))) c.font_refused.ensures c.version_in.ensures in
+    let check-is : c.font_check-refused.result ≡ font_check c.args.file.now (font_short c.args.file.now lent) =
+    let file = c.args.file.now in
+    c.font_check-refused.ensures
+    ∙ ap₂ (λ (t : Bool) (v : ℕ). font_check file (t || (eqb v 2 && eqb (length c.args.groups.now) 0))) c.font_refused.ensures c.version_in.ensures in
     let fits : FontTaken c.args.file.now lent = font-passed _ lent (done-is _ (checked check-is c.is_done.ensures c.if-is_done.true)) in
     let least : 2455 ≤ length c.args.file.now = font-least c.args.file.now fits.file-all in
     omega (arith, length_part c.args.file.now 5 2304 (omega (arith, least)), fits.whole.words-all)
@@ -38,10 +37,10 @@ read_words-requires c =
 pub take_from-requires : goal.take_from-requires
 take_from-requires c =
     let lent : Font = font_of c.args.words.now c.args.flags.now c.args.unshifted.now c.args.shifted.now c.args.groups.now in
-    let check-is : c.font_check-refused.result ≡ font_check c.args.file.now (font_short c.args.file.now lent) = 
-        let file = c.args.file.now in
-        c.font_check-refused.ensures
-        ∙ ap₂ (λ (t : Bool) (v : ℕ). font_check file (t || (eqb v 2 && eqb (length c.args.groups.now) 0))) c.font_refused.ensures c.version_in.ensures in
+    let check-is : c.font_check-refused.result ≡ font_check c.args.file.now (font_short c.args.file.now lent) =
+    let file = c.args.file.now in
+    c.font_check-refused.ensures
+    ∙ ap₂ (λ (t : Bool) (v : ℕ). font_check file (t || (eqb v 2 && eqb (length c.args.groups.now) 0))) c.font_refused.ensures c.version_in.ensures in
     let fits : FontTaken c.args.file.now lent = font-passed _ lent (done-is _ (checked check-is c.is_done.ensures c.if-is_done.true)) in
     let least : 2455 ≤ length c.args.file.now = font-least c.args.file.now fits.file-all in
     omega (arith, least, fits.whole.flags-all)
@@ -49,10 +48,10 @@ take_from-requires c =
 pub take_from-requires-then-is_done : goal.take_from-requires-then-is_done
 take_from-requires-then-is_done c =
     let lent : Font = font_of c.args.words.now c.args.flags.now c.args.unshifted.now c.args.shifted.now c.args.groups.now in
-    let check-is : c.font_check-refused.result ≡ font_check c.args.file.now (font_short c.args.file.now lent) = 
-        let file = c.args.file.now in
-        c.font_check-refused.ensures
-        ∙ ap₂ (λ (t : Bool) (v : ℕ). font_check file (t || (eqb v 2 && eqb (length c.args.groups.now) 0))) c.font_refused.ensures c.version_in.ensures in
+    let check-is : c.font_check-refused.result ≡ font_check c.args.file.now (font_short c.args.file.now lent) =
+    let file = c.args.file.now in
+    c.font_check-refused.ensures
+    ∙ ap₂ (λ (t : Bool) (v : ℕ). font_check file (t || (eqb v 2 && eqb (length c.args.groups.now) 0))) c.font_refused.ensures c.version_in.ensures in
     let fits : FontTaken c.args.file.now lent = font-passed _ lent (done-is _ (checked check-is c.is_done.ensures c.if-is_done.true)) in
     let least : 2455 ≤ length c.args.file.now = font-least c.args.file.now fits.file-all in
     omega (arith, least, fits.whole.unshifted-all)
@@ -60,10 +59,10 @@ take_from-requires-then-is_done c =
 pub take_from-requires-then-is_done-2 : goal.take_from-requires-then-is_done-2
 take_from-requires-then-is_done-2 c =
     let lent : Font = font_of c.args.words.now c.args.flags.now c.args.unshifted.now c.args.shifted.now c.args.groups.now in
-    let check-is : c.font_check-refused.result ≡ font_check c.args.file.now (font_short c.args.file.now lent) = 
-        let file = c.args.file.now in
-        c.font_check-refused.ensures
-        ∙ ap₂ (λ (t : Bool) (v : ℕ). font_check file (t || (eqb v 2 && eqb (length c.args.groups.now) 0))) c.font_refused.ensures c.version_in.ensures in
+    let check-is : c.font_check-refused.result ≡ font_check c.args.file.now (font_short c.args.file.now lent) =
+    let file = c.args.file.now in
+    c.font_check-refused.ensures
+    ∙ ap₂ (λ (t : Bool) (v : ℕ). font_check file (t || (eqb v 2 && eqb (length c.args.groups.now) 0))) c.font_refused.ensures c.version_in.ensures in
     let fits : FontTaken c.args.file.now lent = font-passed _ lent (done-is _ (checked check-is c.is_done.ensures c.if-is_done.true)) in
     let least : 2455 ≤ length c.args.file.now = font-least c.args.file.now fits.file-all in
     omega (arith, least, fits.whole.shifted-all)
@@ -71,20 +70,20 @@ take_from-requires-then-is_done-2 c =
 pub read_groups-requires : goal.read_groups-requires
 read_groups-requires c v =
     let lent : Font = font_of c.args.words.now c.args.flags.now c.args.unshifted.now c.args.shifted.now c.args.groups.now in
-    let check-is : c.font_check-refused.result ≡ font_check c.args.file.now (font_short c.args.file.now lent) = 
-        let file = c.args.file.now in
-        c.font_check-refused.ensures
-        ∙ ap₂ (λ (t : Bool) (v : ℕ). font_check file (t || (eqb v 2 && eqb (length c.args.groups.now) 0))) c.font_refused.ensures c.version_in.ensures in
+    let check-is : c.font_check-refused.result ≡ font_check c.args.file.now (font_short c.args.file.now lent) =
+    let file = c.args.file.now in
+    c.font_check-refused.ensures
+    ∙ ap₂ (λ (t : Bool) (v : ℕ). font_check file (t || (eqb v 2 && eqb (length c.args.groups.now) 0))) c.font_refused.ensures c.version_in.ensures in
     let fits : FontTaken c.args.file.now lent = font-passed _ lent (done-is _ (checked check-is c.is_done.ensures c.if-is_done.true)) in
     (omega (arith, rw v at fits.file-all), fits.groups-room v)
 
 pub returns-then-is_done : goal.returns-then-is_done
 returns-then-is_done c =
     let lent : Font = font_of c.args.words.now c.args.flags.now c.args.unshifted.now c.args.shifted.now c.args.groups.now in
-    let check-is : c.font_check-refused.result ≡ font_check c.args.file.now (font_short c.args.file.now lent) = 
-        let file = c.args.file.now in
-        c.font_check-refused.ensures
-        ∙ ap₂ (λ (t : Bool) (v : ℕ). font_check file (t || (eqb v 2 && eqb (length c.args.groups.now) 0))) c.font_refused.ensures c.version_in.ensures in
+    let check-is : c.font_check-refused.result ≡ font_check c.args.file.now (font_short c.args.file.now lent) =
+    let file = c.args.file.now in
+    c.font_check-refused.ensures
+    ∙ ap₂ (λ (t : Bool) (v : ℕ). font_check file (t || (eqb v 2 && eqb (length c.args.groups.now) 0))) c.font_refused.ensures c.version_in.ensures in
     let fits : FontTaken c.args.file.now lent = font-passed _ lent (done-is _ (checked check-is c.is_done.ensures c.if-is_done.true)) in
     let check = check-is in
     let k = fits.whole in
@@ -100,9 +99,9 @@ returns-then-is_done c =
 pub returns-else-is_done : goal.returns-else-is_done
 returns-else-is_done c =
     let lent : Font = font_of c.args.words.now c.args.flags.now c.args.unshifted.now c.args.shifted.now c.args.groups.now in
-    let check-is : c.font_check-refused.result ≡ font_check c.args.file.now (font_short c.args.file.now lent) = 
-        let file = c.args.file.now in
-        c.font_check-refused.ensures
-        ∙ ap₂ (λ (t : Bool) (v : ℕ). font_check file (t || (eqb v 2 && eqb (length c.args.groups.now) 0))) c.font_refused.ensures c.version_in.ensures in
+    let check-is : c.font_check-refused.result ≡ font_check c.args.file.now (font_short c.args.file.now lent) =
+    let file = c.args.file.now in
+    c.font_check-refused.ensures
+    ∙ ap₂ (λ (t : Bool) (v : ℕ). font_check file (t || (eqb v 2 && eqb (length c.args.groups.now) 0))) c.font_refused.ensures c.version_in.ensures in
     let check = check-is in
     (check, font-kept _ lent (checked check c.is_done.ensures c.if-is_done.false))

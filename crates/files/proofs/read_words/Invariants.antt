@@ -1,11 +1,9 @@
 -- Rests on the loop that stores one word a turn (lists Tab).
-use Prim.Native.Nat.{ℕ, ◌≤◌, ◌-◌, ◌*◌, zero-le}
-use mathlib.Core.Path.{◌≡◌, refl}
+use Prim.Native.Nat.{ℕ, ◌≤◌, ◌-◌, ◌*◌}
+use mathlib.Core.Path.{◌≡◌}
 use mathlib.Core.List.{◌++◌}
-use native.Mathlib.Omega.{arith}
-use borrow.Author.Rules.{rules}
 use lib.ListN.{length, drop}
-use Rattle.lists.specs.Tab.{tab, tab-turn, tab-ends}
+use Rattle.lists.specs.Tab.{tab}
 use Rattle.files.specs.Page.{word_at}
 use Rattle.files.proofs.read_words.Given as goal
 

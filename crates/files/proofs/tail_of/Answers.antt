@@ -1,6 +1,5 @@
 -- Rests on the definition: each byte stands at its place.
 use mathlib.Core.List.{[], ◌∷◌}
-use borrow.Author.Rules.{rules}
 use Rattle.files.specs.Page.{tail_of}
 use Rattle.files.proofs.tail_of.Goals as goal
 

@@ -1,4 +1,3 @@
-use borrow.Author.Rules.{rules}
 use Rattle.files.specs.Page.{word_at}
 use Rattle.files.proofs.word_at.Goals as goal
 

@@ -1,5 +1,4 @@
 use mathlib.Core.Path.{◌∙◌}
-use borrow.Author.Rules.{rules}
 use Rattle.files.specs.File.{write_check}
 use Rattle.files.proofs.write_check.Goals as goal
 

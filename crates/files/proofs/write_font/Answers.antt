@@ -1,5 +1,4 @@
 -- Rests on font-write-passed for what the callee asks, on font-write-done and font-write-kept for the answer.
-use borrow.Author.Rules.{rules}
 use Rattle.refusal.specs.Laws.{done-is, checked}
 use Rattle.shape.specs.Font.{Font, font_of}
 use Rattle.files.specs.FontLaws.{font-write-passed, font-write-done, font-write-kept}

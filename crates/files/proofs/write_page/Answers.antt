@@ -1,5 +1,4 @@
 -- Rests on write-passed for what the callee asks, on write_done and write-refused for the answer.
-use borrow.Author.Rules.{rules}
 use Rattle.refusal.specs.Laws.{done-is, checked}
 use Rattle.files.specs.Laws.{write-passed, write_done, write-refused}
 use Rattle.files.proofs.write_page.Goals as goal

@@ -1,11 +1,9 @@
 -- Rests on the loop that stores one byte a turn (lists Tab).
-use Prim.Native.Nat.{◌≤◌, ◌-◌, zero-le}
-use mathlib.Core.Path.{◌≡◌, refl}
+use Prim.Native.Nat.{◌≤◌, ◌-◌}
+use mathlib.Core.Path.{◌≡◌}
 use mathlib.Core.List.{◌++◌}
-use native.Mathlib.Omega.{arith}
-use borrow.Author.Rules.{rules}
 use lib.ListN.{length, drop}
-use Rattle.lists.specs.Tab.{tab, tab-turn, tab-ends}
+use Rattle.lists.specs.Tab.{tab}
 use Rattle.files.specs.FontFile.{byte_of}
 use Rattle.files.proofs.write_words.Given as goal
 

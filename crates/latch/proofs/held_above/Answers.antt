@@ -1,9 +1,8 @@
 -- Rests on the invariant: what is valid before the row left is what is valid before the row asked for.
-use Prim.Native.Nat.{ℕ, ◌-◌, ◌≤◌}
-use mathlib.Core.Path.{◌≡◌, refl, sym, ◌∙◌}
+use Prim.Native.Nat.{ℕ, ◌-◌}
+use mathlib.Core.Path.{◌≡◌, sym, ◌∙◌}
 use mathlib.Core.List.{List}
 use native.Mathlib.Omega.{arith}
-use borrow.Author.Rules.{rules}
 use Rattle.raster.specs.Latch.{last_set}
 use Rattle.board.specs.declared.Page.{Page}
 use Rattle.timing.specs.Fields.{buffer_of}

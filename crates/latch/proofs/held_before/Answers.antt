@@ -1,6 +1,4 @@
 use mathlib.Core.Path.{sym, ◌∙◌}
-use borrow.Author.Rules.{rules}
-use borrow.Author.Tests.{not-true, not-false}
 use Rattle.latch.specs.Laws.{held_plain}
 use Rattle.latch.proofs.held_before.Goals as goal
 

@@ -1,7 +1,6 @@
 -- Rests on run-part: in one run the row is a part of attribute memory; else the loop goes round.
 use mathlib.Core.Path.{sym, ◌∙◌}
 use native.Mathlib.Omega.{arith}
-use borrow.Author.Rules.{rules}
 use Rattle.fetch.specs.Run.{run_fits}
 use Rattle.latch.specs.Laws.{run-part}
 use Rattle.latch.proofs.last_in_row.Goals as goal

@@ -1,10 +1,9 @@
 -- Rests on search-on and search-over, one turn of a search from the end.
-use Prim.Native.Nat.{ℕ, ◌-◌, ◌≤◌, ◌<◌}
-use mathlib.Core.Path.{◌≡◌, refl, sym}
+use Prim.Native.Nat.{ℕ}
+use mathlib.Core.Path.{refl, sym}
 use native.Mathlib.Omega.{arith}
-use borrow.Author.Rules.{rules}
 use lib.ListN.{length, get_or}
-use Rattle.raster.specs.Latch.{last_set, last_none, search-over, search-on, search-none}
+use Rattle.raster.specs.Latch.{last_none, search-over, search-on, search-none}
 use Rattle.latch.proofs.last_set.Goals as goal
 
 pub returns-then-highest-lt128 : goal.returns-then-highest-lt128

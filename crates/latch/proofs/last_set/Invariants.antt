@@ -1,10 +1,8 @@
 -- Rests on search-on and search-over, one turn of a search from the end.
-use Prim.Native.Nat.{ℕ, ◌-◌, ◌≤◌, ◌<◌}
-use mathlib.Core.Path.{◌≡◌, refl, sym}
-use native.Mathlib.Omega.{arith}
-use borrow.Author.Rules.{rules}
+use Prim.Native.Nat.{ℕ, ◌≤◌}
+use mathlib.Core.Path.{◌≡◌}
 use lib.ListN.{length, get_or}
-use Rattle.raster.specs.Latch.{last_set, last_none, search-over, search-on, search-none}
+use Rattle.raster.specs.Latch.{last_set}
 use Rattle.latch.proofs.last_set.Given as goal
 
 abbrev pub invariant-loop-left : goal.invariant-loop-left

@@ -1,21 +1,17 @@
 -- Rests on the loop that lends each turn its own stretch (lists Join), one cell a turn.
-use Prim.Native.Nat.{ℕ, ◌+◌, ◌≤◌, ◌-◌, ◌*◌}
+use Prim.Native.Nat.{ℕ, ◌≤◌, ◌*◌}
 use mathlib.Core.Path.{◌≡◌, sym, ap, ◌∙◌}
-use mathlib.Core.List.{◌++◌}
 use native.Mathlib.Omega.{arith}
-use borrow.Author.Rules.{rules}
-use lib.ListN.{drop, length, length-take, length-drop}
-use Rattle.lists.specs.Fill.{Filling}
-use Rattle.lists.specs.Join.{joined, stretch-inside, join-begins, join-turn, join-ends}
+use lib.ListN.{length}
+use Rattle.lists.specs.Join.{join-turn, join-ends}
 use Rattle.line.specs.Walk.{column_for, length-column, as-column}
 use Rattle.line.proofs.cells.Goals as goal
 
 pub loop-c-preserved : goal.loop-c-preserved
 loop-c-preserved c =
     let wide : (i : ℕ)
-        → length (column_for c.args.w c.args.row.now c.args.looks.now c.args.words.now c.args.flags.now i) ≡ c.places-d.result = λ i. length-column _ _ _ _ _ i ∙ sym c.places-d.ensures in
-    let whole : c.args.n * c.places-d.result ≤ length c.args.out.now = omega (arith, ap (λ (d : ℕ). c.args.n * d) c.places-d.ensures, c.requires.width_in_bounds) in
-    (
+    → length (column_for c.args.w c.args.row.now c.args.looks.now c.args.words.now c.args.flags.now i) ≡ c.places-d.result = λ i. length-column _ _ _ _ _ i ∙ sym c.places-d.ensures in
+    let whole : c.args.n * c.places-d.result ≤ length c.args.out.now = omega (arith, ap (λ (d : ℕ). c.args.n * d) c.places-d.ensures, c.requires.width_in_bounds) in (
       omega (arith, c.loop-c-test.true),
       join-turn _ _ wide _ _ _ c.loop-c.invariant.1 c.loop-c-test.true whole (as-column _ _ _ _ _ _ _ _ c.places-d.ensures c.put.ensures),
     )
@@ -23,5 +19,5 @@ loop-c-preserved c =
 pub returns : goal.returns
 returns c =
     let wide : (i : ℕ)
-        → length (column_for c.args.w c.args.row.now c.args.looks.now c.args.words.now c.args.flags.now i) ≡ c.places-d.result = λ i. length-column _ _ _ _ _ i ∙ sym c.places-d.ensures in
+    → length (column_for c.args.w c.args.row.now c.args.looks.now c.args.words.now c.args.flags.now i) ≡ c.places-d.result = λ i. length-column _ _ _ _ _ i ∙ sym c.places-d.ensures in
     rw c.places-d.ensures at (join-ends _ _ wide _ _ c.loop-c.invariant.1 (omega arith) (omega arith))

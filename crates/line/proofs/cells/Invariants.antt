@@ -1,13 +1,10 @@
 -- Rests on the loop that lends each turn its own stretch (lists Join), one cell a turn.
-use Prim.Native.Nat.{ℕ, ◌+◌, ◌≤◌, ◌-◌, ◌*◌}
-use mathlib.Core.Path.{◌≡◌, sym, ap, ◌∙◌}
+use Prim.Native.Nat.{◌≤◌, ◌-◌, ◌*◌}
 use mathlib.Core.List.{◌++◌}
-use native.Mathlib.Omega.{arith}
-use borrow.Author.Rules.{rules}
-use lib.ListN.{drop, length, length-take, length-drop}
+use lib.ListN.{drop}
 use Rattle.lists.specs.Fill.{Filling}
-use Rattle.lists.specs.Join.{joined, stretch-inside, join-begins, join-turn, join-ends}
-use Rattle.line.specs.Walk.{column_for, length-column, as-column}
+use Rattle.lists.specs.Join.{joined}
+use Rattle.line.specs.Walk.{column_for}
 use Rattle.line.proofs.cells.Given as goal
 
 abbrev pub invariant-loop-c : goal.invariant-loop-c

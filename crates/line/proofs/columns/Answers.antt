@@ -1,11 +1,9 @@
 -- Rests on drawn-wide, the cells with each dot twice, or on drawn_plain, the cells as they are.
-use Prim.Native.Nat.{◌+◌, ◌*◌, ◌/◌, ◌≤◌}
+use Prim.Native.Nat.{◌+◌, ◌/◌}
 use mathlib.Core.Path.{refl}
-use native.Mathlib.Nat.{mul-le-mul}
 use native.Mathlib.Omega.{arith}
-use borrow.Author.Rules.{rules}
 use Rattle.dots.specs.Half.{drawn_plain, drawn-wide}
-use Rattle.line.specs.Walk.{Ready, length-column, ready-plain, ready-wide}
+use Rattle.line.specs.Walk.{Ready, length-column, ready-wide}
 use Rattle.line.proofs.columns.Goals as goal
 
 pub returns-then-wide : goal.returns-then-wide

@@ -4,7 +4,6 @@ use Rattle.line.specs.Line.{draw_check}
 use Rattle.timing.specs.Laws.{call-passed}
 use Rattle.refusal.specs.Laws.{done-is, checked}
 use mathlib.Core.Path.{◌∙◌}
-use borrow.Author.Rules.{rules}
 use Rattle.line.proofs.draw_check.Goals as goal
 
 pub line_check-requires : goal.line_check-requires

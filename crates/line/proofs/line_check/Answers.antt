@@ -5,7 +5,6 @@ use Rattle.lists.specs.Choice.{stop, pass}
 use borrow.Author.Tests.{lt-ltb, le-ltb}
 use native.Mathlib.Omega.{arith}
 use mathlib.Core.Path.{refl, sym, ◌∙◌}
-use borrow.Author.Rules.{rules}
 use Rattle.line.proofs.line_check.Goals as goal
 
 pub dots_of-requires : goal.dots_of-requires

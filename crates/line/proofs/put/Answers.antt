@@ -1,5 +1,4 @@
 -- Rests on write_cell, and on by-small: a word has ten bits.
-use borrow.Author.Rules.{rules}
 use Rattle.shape.specs.Laws.{by-small}
 use Rattle.tables.specs.Tables.{shown_word}
 use Rattle.line.specs.Walk.{dots_for}

@@ -1,4 +1,3 @@
-use borrow.Author.Rules.{rules}
 use Rattle.listing.specs.Decimal.{spelled}
 use Rattle.listing.proofs.digits_of.Goals as goal
 

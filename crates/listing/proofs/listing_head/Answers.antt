@@ -1,10 +1,5 @@
 -- Rests on head-refused and head-short for the refusals, on head-put for the two numbers.
-use Prim.Native.Nat.{◌≤◌}
 use mathlib.Core.Path.{◌≡◌, ap, ◌∙◌}
-use native.Mathlib.Omega.{arith}
-use borrow.Author.Rules.{rules}
-use borrow.Author.Tests.{not-true, not-false}
-use lib.ListN.{length, length-take, length-drop}
 use Rattle.refusal.specs.Laws.{done-is, checked}
 use Rattle.timing.specs.declared.PageSize.{PageSize}
 use Rattle.timing.specs.Check.{page_check}
@@ -21,23 +16,23 @@ returns-then-not-is_done c =
 pub returns-then-out-count : goal.returns-then-out-count
 returns-then-out-count c =
     let check : c.page_size-size.result.refusal ≡ page_check c.args.p = ap (λ (s : PageSize). s.refusal) c.page_size-size.ensures ∙ size-refusal c.args.p in
-    let measured : Measured c.args.p c.page_size-size.result c.digits_of-lines.result c.digits_of-dots.result = 
-        record {
-          page = done-is _ (checked check c.is_done.ensures c.if-not-is_done.false);
-          whole = c.page_size-size.ensures;
-          lines = c.digits_of-lines.ensures;
-          dots = c.digits_of-dots.ensures;
-        } in
+    let measured : Measured c.args.p c.page_size-size.result c.digits_of-lines.result c.digits_of-dots.result =
+    record {
+      page = done-is _ (checked check c.is_done.ensures c.if-not-is_done.false);
+      whole = c.page_size-size.ensures;
+      lines = c.digits_of-lines.ensures;
+      dots = c.digits_of-dots.ensures;
+    } in
     head-short _ _ _ _ _ measured c.if-out-count.true _ c.nothing-then-out-count.ensures
 
 pub returns : goal.returns
 returns c =
     let check : c.page_size-size.result.refusal ≡ page_check c.args.p = ap (λ (s : PageSize). s.refusal) c.page_size-size.ensures ∙ size-refusal c.args.p in
-    let measured : Measured c.args.p c.page_size-size.result c.digits_of-lines.result c.digits_of-dots.result = 
-        record {
-          page = done-is _ (checked check c.is_done.ensures c.if-not-is_done.false);
-          whole = c.page_size-size.ensures;
-          lines = c.digits_of-lines.ensures;
-          dots = c.digits_of-dots.ensures;
-        } in
+    let measured : Measured c.args.p c.page_size-size.result c.digits_of-lines.result c.digits_of-dots.result =
+    record {
+      page = done-is _ (checked check c.is_done.ensures c.if-not-is_done.false);
+      whole = c.page_size-size.ensures;
+      lines = c.digits_of-lines.ensures;
+      dots = c.digits_of-dots.ensures;
+    } in
     head-put _ _ _ _ _ measured _ _ _ check c.if-out-count.false c.put_number.ensures c.put_number-2.ensures

@@ -1,9 +1,5 @@
 -- Rests on line_refused for the refusals, on line-put for the line drawn and marked.
 use mathlib.Core.Path.{sym, ◌∙◌}
-use native.Mathlib.Omega.{arith}
-use borrow.Author.Rules.{rules}
-use borrow.Author.Tests.{not-true, not-false}
-use lib.ListN.{length-take}
 use Rattle.shape.specs.Font.{Font, font_of}
 use Rattle.listing.specs.Line.{line_refused, line-fits, line-put}
 use Rattle.listing.proofs.listing_line.Goals as goal

@@ -1,10 +1,8 @@
 -- Rests on the loop that turns one byte a turn where it stands (Bytes Turning).
-use Prim.Native.Nat.{◌≤◌, ◌-◌, zero-le}
-use native.Mathlib.Omega.{arith}
-use borrow.Author.Rules.{rules}
+use Prim.Native.Nat.{◌≤◌, ◌-◌}
 use lib.ListN.{length}
 use Rattle.listing.specs.Listing.{letter_of}
-use Rattle.listing.specs.Bytes.{Turning, turn-begins, turn-goes, turn-ends}
+use Rattle.listing.specs.Bytes.{Turning}
 use Rattle.listing.proofs.mark_all.Given as goal
 
 abbrev pub invariant-loop-i : goal.invariant-loop-i

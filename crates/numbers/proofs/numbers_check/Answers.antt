@@ -1,5 +1,4 @@
 use mathlib.Core.Path.{refl, sym, ◌∙◌}
-use borrow.Author.Rules.{rules}
 use Rattle.lists.specs.Choice.{stop, pass}
 use Rattle.numbers.specs.Numbers.{numbers_check}
 use Rattle.numbers.specs.Laws.{numbers-room}

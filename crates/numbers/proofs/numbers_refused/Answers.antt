@@ -1,4 +1,3 @@
-use borrow.Author.Rules.{rules}
 use Rattle.numbers.specs.Numbers.{numbers_refused}
 use Rattle.numbers.proofs.numbers_refused.Goals as goal
 

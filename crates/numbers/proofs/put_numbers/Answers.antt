@@ -1,5 +1,4 @@
 use native.Mathlib.Omega.{arith}
-use borrow.Author.Rules.{rules}
 use Rattle.board.specs.Laws.{layout-fits}
 use Rattle.numbers.specs.Laws.{numbers-put}
 use Rattle.numbers.proofs.put_numbers.Goals as goal

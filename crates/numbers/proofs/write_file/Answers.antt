@@ -1,6 +1,5 @@
 -- Rests on numbers-room: numbers that are not refused have a page at their front.
 use mathlib.Core.Path.{refl, sym, ◌∙◌}
-use borrow.Author.Rules.{rules}
 use Rattle.lists.specs.Choice.{stop, pass}
 use Rattle.numbers.specs.Files.{page_write_check, page_written}
 use Rattle.numbers.specs.Laws.{numbers-room}

@@ -10,9 +10,9 @@ loop-i-init c =
 
 pub loop-i-preserved : goal.loop-i-preserved
 loop-i-preserved c = (
-      omega arith,
-      omega arith,
-      c.visit_mate-s.ensures
-          ∙ rw (c.loop-i.invariant.2, c.phrase_at.ensures, c.phrase_at-o.ensures, add-one c.loop-i.i)
-          (mate-turn c.args.phrases.now c.args.after c.loop-i.i c.loop-i.invariant.0),
-    )
+  omega arith,
+  omega arith,
+  c.visit_mate-s.ensures
+      ∙ rw (c.loop-i.invariant.2, c.phrase_at.ensures, c.phrase_at-o.ensures, add-one c.loop-i.i)
+      (mate-turn c.args.phrases.now c.args.after c.loop-i.i c.loop-i.invariant.0),
+)

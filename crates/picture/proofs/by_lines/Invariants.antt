@@ -1,15 +1,10 @@
 -- Rests on the loop that lends each turn its own stretch (lists Join), one line a turn.
-use Prim.Native.Nat.{ℕ, ◌+◌, ◌*◌, ◌-◌, ◌≤◌, ◌<◌}
-use mathlib.Core.Path.{◌≡◌, ap}
-use mathlib.Core.List.{List, ◌++◌}
-use native.Mathlib.Omega.{arith}
-use borrow.Author.Rules.{rules}
-use lib.ListN.{drop, length, length-take, length-drop}
+use Prim.Native.Nat.{◌*◌, ◌-◌, ◌≤◌}
+use mathlib.Core.List.{◌++◌}
+use lib.ListN.{drop}
 use Rattle.lists.specs.Fill.{Filling}
-use Rattle.lists.specs.Join.{joined, stretch-inside, join-begins, join-turn, join-ends}
-use Rattle.timing.specs.Fields.{rows_of}
-use Rattle.line.specs.Line.{row_for}
-use Rattle.picture.specs.Agree.{scan-few, shaped_at, plan-visible, plan-small, line_row, line-room, line-width, as-line-at, lined}
+use Rattle.lists.specs.Join.{joined}
+use Rattle.picture.specs.Agree.{shaped_at}
 use Rattle.picture.proofs.by_lines.Given as goal
 
 abbrev pub invariant-loop-l : goal.invariant-loop-l

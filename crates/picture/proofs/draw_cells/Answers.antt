@@ -1,13 +1,11 @@
 -- Rests on the loop whose stores run past the stretch of their turn (Spill); the last cell is stored tight.
-use Prim.Native.Nat.{ℕ, max, ◌+◌, ◌*◌, ◌-◌, ◌≤◌, ◌<◌}
+use Prim.Native.Nat.{ℕ, max, ◌+◌, ◌*◌, ◌-◌, ◌≤◌}
 use mathlib.Core.Path.{◌≡◌, refl, sym, ap, ap₂, ◌∙◌}
 use mathlib.Core.List.{◌++◌}
-use native.Mathlib.Nat.{add-mul, one-mul}
 use native.Mathlib.Omega.{arith}
-use borrow.Author.Rules.{rules}
-use lib.ListN.{drop, length, get_or, length-take, length-drop}
-use Rattle.lists.specs.Join.{joined, stretch-inside}
-use Rattle.picture.specs.Spill.{Spilling, spill-begins, spill-turn, spill-ends}
+use lib.ListN.{drop, length}
+use Rattle.lists.specs.Join.{joined}
+use Rattle.picture.specs.Spill.{spill-turn, spill-ends}
 use Rattle.picture.specs.Plan.{cell_from, length-cell, front-cell, length-stored, as-cell}
 use Rattle.picture.proofs.draw_cells.Goals as goal
 

@@ -1,9 +1,6 @@
 -- Rests on drawn-wide, the cells with each dot twice, or on plain-line, the cells as they are.
-use Prim.Native.Nat.{◌+◌, ◌*◌, ◌/◌, ◌≤◌}
-use native.Mathlib.Nat.{mul-le-mul}
 use native.Mathlib.Omega.{arith}
-use borrow.Author.Rules.{rules}
-use Rattle.dots.specs.Half.{cells_wide, cells-plain, drawn-wide}
+use Rattle.dots.specs.Half.{drawn-wide}
 use Rattle.picture.specs.Plan.{length-cell, plain-line}
 use Rattle.picture.proofs.draw_columns.Goals as goal
 

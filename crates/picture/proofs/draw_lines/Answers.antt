@@ -1,14 +1,10 @@
 -- Rests on the loop that lends each turn its own stretch (lists Join), one line a turn.
-use Prim.Native.Nat.{ℕ, ◌+◌, ◌*◌, ◌-◌, ◌≤◌, ◌<◌}
+use Prim.Native.Nat.{ℕ, ◌*◌, ◌≤◌}
 use mathlib.Core.Path.{ap}
-use mathlib.Core.List.{◌++◌}
 use native.Mathlib.Omega.{arith}
-use borrow.Author.Rules.{rules}
-use lib.ListN.{drop, length, length-take, length-drop}
-use Rattle.lists.specs.Fill.{Filling}
-use Rattle.lists.specs.Join.{joined, stretch-inside, join-begins, join-turn, join-ends}
-use Rattle.dots.specs.Half.{cells_same}
-use Rattle.picture.specs.Plan.{line_from, length-line, as_line}
+use lib.ListN.{length}
+use Rattle.lists.specs.Join.{join-turn, join-ends}
+use Rattle.picture.specs.Plan.{length-line, as_line}
 use Rattle.picture.proofs.draw_lines.Goals as goal
 
 pub loop-s-preserved : goal.loop-s-preserved

@@ -3,9 +3,7 @@ use Prim.Native.Nat.{ℕ, ◌<◌}
 use native.Mathlib.Omega.{arith}
 use borrow.Author.Rules.{rules}
 use lib.ListN.{get_or}
-use Rattle.raster.specs.Wide.{is_wide}
 use Rattle.tables.specs.Laws.{gathered-lt}
-use Rattle.dots.specs.Half.{cells-few}
 use Rattle.picture.specs.Plan.{as_row, held_after}
 use Rattle.picture.proofs.draw_row.Goals as goal
 

@@ -1,16 +1,12 @@
 -- Rests on the loop that lends each turn its own stretch (lists Join), and on what is valid before each row.
-use Prim.Native.Nat.{◌+◌, ◌*◌, ◌-◌, ◌≤◌, ◌<◌}
+use Prim.Native.Nat.{◌+◌, ◌*◌, ◌≤◌, ◌<◌}
 use mathlib.Core.Path.{◌≡◌, sym}
-use mathlib.Core.List.{◌++◌}
 use native.Mathlib.Omega.{arith}
-use borrow.Author.Rules.{rules}
-use lib.ListN.{drop, length, length-take, length-drop}
-use Rattle.lists.specs.Fill.{Filling}
-use Rattle.lists.specs.Join.{joined, stretch-inside, join-begins, join-turn, join-ends}
+use lib.ListN.{length, length-take, length-drop}
+use Rattle.lists.specs.Join.{stretch-inside, join-begins, join-turn, join-ends}
 use Rattle.fetch.specs.Laws.{row-start-lt}
-use Rattle.latch.specs.Held.{held_at}
 use Rattle.latch.specs.Laws.{held_first}
-use Rattle.picture.specs.Plan.{row_drawn, length-row, as-row-at, counted, carried_on}
+use Rattle.picture.specs.Plan.{length-row, as-row-at, counted, carried_on}
 use Rattle.picture.specs.Agree.{plan-rows}
 use Rattle.picture.proofs.draw_rows.Goals as goal
 
@@ -38,11 +34,14 @@ pub draw_row-held-requires : goal.draw_row-held-requires
 draw_row-held-requires c =
     let room : c.loop-r.r * c.args.p.size + c.args.p.size ≤ length c.loop-r.out = omega (arith, c.loop-r.invariant.1.same, stretch-inside c.loop-r.r c.args.p.rows c.args.p.size _ c.loop-r-test.true c.requires.accepted.2) in
     let pre = c.requires in
-    let a = c.args in record { tables_fit = pre.tables_fit; n_value = (
+    let a = c.args in record {
+      tables_fit = pre.tables_fit;
+      n_value = (
         counted a.p a.page a.chars.now a.attrs.now _ c.code_at.ensures c.code_of-code.ensures c.loop-r.invariant.2 c.row_start-start.ensures pre.accepted.1 _ c.fetched_of.ensures,
         rw c.row_start-start.ensures (row-start-lt _ _ pre.accepted.0 _),
         simp (length-take, length-drop) (omega (arith, room, pre.tables_fit.0.size_is)),
-      ) }
+      );
+    }
 
 pub loop-r-preserved : goal.loop-r-preserved
 loop-r-preserved c =

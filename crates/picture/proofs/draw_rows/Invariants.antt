@@ -1,17 +1,12 @@
 -- Rests on the loop that lends each turn its own stretch (lists Join), and on what is valid before each row.
-use Prim.Native.Nat.{◌+◌, ◌*◌, ◌-◌, ◌≤◌, ◌<◌}
-use mathlib.Core.Path.{◌≡◌, sym}
+use Prim.Native.Nat.{◌*◌, ◌-◌, ◌≤◌}
+use mathlib.Core.Path.{◌≡◌}
 use mathlib.Core.List.{◌++◌}
-use native.Mathlib.Omega.{arith}
-use borrow.Author.Rules.{rules}
-use lib.ListN.{drop, length, length-take, length-drop}
+use lib.ListN.{drop}
 use Rattle.lists.specs.Fill.{Filling}
-use Rattle.lists.specs.Join.{joined, stretch-inside, join-begins, join-turn, join-ends}
-use Rattle.fetch.specs.Laws.{row-start-lt}
+use Rattle.lists.specs.Join.{joined}
 use Rattle.latch.specs.Held.{held_at}
-use Rattle.latch.specs.Laws.{held_first}
-use Rattle.picture.specs.Plan.{row_drawn, length-row, as-row-at, counted, carried_on}
-use Rattle.picture.specs.Agree.{plan-rows}
+use Rattle.picture.specs.Plan.{row_drawn}
 use Rattle.picture.proofs.draw_rows.Given as goal
 
 abbrev pub invariant-loop-r : goal.invariant-loop-r

@@ -1,6 +1,5 @@
 -- Rests on check-last and check-first: 8 stands at the end of the list.
 use mathlib.Core.Path.{◌∙◌}
-use borrow.Author.Rules.{rules}
 use Rattle.refusal.specs.Laws.{done-is, checked}
 use Rattle.timing.specs.Laws.{call-passed}
 use Rattle.line.specs.Walk.{check-last, check-first}

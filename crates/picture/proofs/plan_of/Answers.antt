@@ -1,10 +1,8 @@
 -- Rests on dots-bound: an accepted page has few enough dots in a line.
 use Prim.Native.Nat.{◌*◌, ◌≤◌}
-use native.Mathlib.Nat.{mul-le-mul}
 use native.Mathlib.Omega.{arith}
-use borrow.Author.Rules.{rules}
 use Rattle.timing.specs.Fields.{timing_of, counts_of}
-use Rattle.timing.specs.Laws.{lines-le, dots-bound}
+use Rattle.timing.specs.Laws.{dots-bound}
 use Rattle.picture.specs.Plan.{plan_of}
 use Rattle.picture.proofs.plan_of.Goals as goal
 

@@ -1,6 +1,4 @@
 -- Rests on put_cell, for the word and the look of the cell.
-use native.Mathlib.Omega.{arith}
-use borrow.Author.Rules.{rules}
 use Rattle.picture.specs.Plan.{cell_dots_of}
 use Rattle.picture.proofs.put.Goals as goal
 

@@ -1,5 +1,4 @@
 use native.Mathlib.Omega.{arith}
-use borrow.Author.Rules.{rules}
 use borrow.Author.Tests.{lt-ltb, le-ltb}
 use Rattle.picture.specs.Agree.{plan-size, plan-small}
 use Rattle.picture.proofs.room_check.Goals as goal

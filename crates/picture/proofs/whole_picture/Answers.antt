@@ -1,6 +1,5 @@
 -- Rests on plan-small; both ways to draw meet the contract.
 use native.Mathlib.Omega.{arith}
-use borrow.Author.Rules.{rules}
 use Rattle.picture.specs.Agree.{plan-small}
 use Rattle.picture.proofs.whole_picture.Goals as goal
 

@@ -1,5 +1,4 @@
 use Rattle.timing.specs.Fields.{timing_of, counts_of}
-use Rattle.std.proofs.Common.{rules}
 use Rattle.place.proofs.active_at.Goals as goal
 
 pub returns : goal.returns

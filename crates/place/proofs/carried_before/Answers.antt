@@ -1,5 +1,5 @@
 use Rattle.place.specs.Laws.{spot-row, at_zero, past-zero}
-use Rattle.std.proofs.Common.{sym, ◌∙◌, rules}
+use Rattle.std.proofs.Common.{sym, ◌∙◌}
 use Rattle.place.proofs.carried_before.Goals as goal
 
 pub row_at-carried-requires : goal.row_at-carried-requires

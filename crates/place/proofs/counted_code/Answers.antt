@@ -1,4 +1,4 @@
-use Rattle.std.proofs.Common.{sym, refl, ◌∙◌, rules}
+use Rattle.std.proofs.Common.{sym, refl, ◌∙◌}
 use Rattle.lists.specs.Choice.{stop, pass}
 use Rattle.place.specs.Place.{counted_code}
 use Rattle.place.proofs.counted_code.Goals as goal

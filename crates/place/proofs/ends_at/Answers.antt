@@ -1,4 +1,3 @@
-use Rattle.std.proofs.Common.{rules}
 use Rattle.timing.specs.Fields.{timing_of}
 use Rattle.place.proofs.ends_at.Goals as goal
 

@@ -1,5 +1,5 @@
 use Rattle.timing.specs.Fields.{timing_of, counts_of}
-use Rattle.std.proofs.Common.{arith, rules}
+use Rattle.std.proofs.Common.{arith}
 use Rattle.place.proofs.last_spot.Goals as goal
 
 pub overflow_sub-result : goal.overflow_sub-result

@@ -1,14 +1,13 @@
 -- Rests on loaded-first, loaded-again and loaded_on: a row begins, a line of it begins, or neither.
 use Rattle.place.specs.Laws.{loads-row, loaded-first, loaded-again, loaded_on}
-use Rattle.std.proofs.Common.{sym, ◌∙◌, rules}
+use Rattle.std.proofs.Common.{sym, ◌∙◌}
 use Rattle.place.proofs.loaded_at.Goals as goal
 
 pub begun-first-requires : goal.begun-first-requires
-begun-first-requires c =
-    (
-      c.requires,
-      rw c.row_of.ensures (loads-row c.args.p c.args.chars.now c.args.q (sym c.loads_at.ensures ∙ c.if-loads_at.true)),
-    )
+begun-first-requires c = (
+  c.requires,
+  rw c.row_of.ensures (loads-row c.args.p c.args.chars.now c.args.q (sym c.loads_at.ensures ∙ c.if-loads_at.true)),
+)
 
 pub returns-then-same : goal.returns-then-same
 returns-then-same c =

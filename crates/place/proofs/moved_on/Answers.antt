@@ -1,5 +1,5 @@
 use Rattle.place.specs.Laws.{moved-active, moved-held}
-use Rattle.std.proofs.Common.{sym, ◌∙◌, rules}
+use Rattle.std.proofs.Common.{sym, ◌∙◌}
 use Rattle.place.proofs.moved_on.Goals as goal
 
 pub returns-then-active_at : goal.returns-then-active_at

@@ -1,7 +1,6 @@
 -- Rests on place_at: clock, line and frame are the quotients and remainders of n.
 use Rattle.place.specs.Laws.{place_at_lem}
 use Rattle.timing.specs.Decoded.{ht-pos, vt-pos}
-use Rattle.std.proofs.Common.{rules}
 use Rattle.place.proofs.place_at.Goals as goal
 
 pub remainder-clock-requires : goal.remainder-clock-requires

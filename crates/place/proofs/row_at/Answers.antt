@@ -1,5 +1,4 @@
 use Rattle.place.specs.Laws.{row-at}
-use Rattle.std.proofs.Common.{rules}
 use Rattle.place.proofs.row_at.Goals as goal
 
 pub returns : goal.returns

@@ -1,5 +1,4 @@
 use Rattle.place.specs.Place.{counted_latch}
-use Rattle.std.proofs.Common.{rules}
 use Rattle.place.proofs.settled.Goals as goal
 
 pub returns : goal.returns

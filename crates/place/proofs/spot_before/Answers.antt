@@ -2,7 +2,7 @@
 use Rattle.place.specs.Spot.{spot_before}
 use Rattle.timing.specs.Fields.{timing_of, counts_of}
 use Rattle.lists.specs.Choice.{stop, pass}
-use Rattle.std.proofs.Common.{sym, ◌∙◌, rules}
+use Rattle.std.proofs.Common.{sym, ◌∙◌}
 use Rattle.place.proofs.spot_before.Goals as goal
 
 pub returns-then-below : goal.returns-then-below

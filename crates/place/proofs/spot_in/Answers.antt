@@ -1,7 +1,7 @@
 -- Rests on the test of the line: a visible one has its own spot, any other that of the last row.
 use Rattle.place.specs.Spot.{spot_in}
 use Rattle.lists.specs.Choice.{stop, pass}
-use Rattle.std.proofs.Common.{sym, ◌∙◌, rules}
+use Rattle.std.proofs.Common.{sym, ◌∙◌}
 use Rattle.place.proofs.spot_in.Goals as goal
 
 pub returns-then-below : goal.returns-then-below

@@ -1,5 +1,5 @@
 -- Rests on state-whole: what place_at asks follows from the check.
-use Rattle.std.proofs.Common.{◌≡◌, false, ap, ◌∙◌, rules}
+use Rattle.std.proofs.Common.{◌≡◌, false, ap, ◌∙◌}
 use Rattle.refusal.specs.declared.Refusal.{Refusal}
 use Rattle.refusal.specs.Number.{wrong_size}
 use Rattle.refusal.specs.Laws.{done-is, checked}

@@ -1,6 +1,6 @@
 -- Rests on turned-clock, turned-line and turned-frame, one for each way to move on.
 use Rattle.place.specs.Laws.{turned-clock, turned-line, turned-frame}
-use Rattle.std.proofs.Common.{sym, ◌∙◌, rules}
+use Rattle.std.proofs.Common.{sym, ◌∙◌}
 use Rattle.place.proofs.turned.Goals as goal
 
 pub returns-then-below : goal.returns-then-below

@@ -1,5 +1,4 @@
 use mathlib.Core.Path.{refl}
-use borrow.Author.Rules.{rules}
 use Rattle.lists.specs.Choice.{stop, pass}
 use Rattle.records.specs.Folds.{first_four}
 use Rattle.records.proofs.first_four.Goals as goal

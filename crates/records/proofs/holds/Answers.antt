@@ -1,5 +1,4 @@
 use mathlib.Core.Path.{refl}
-use borrow.Author.Rules.{rules}
 use Rattle.records.specs.Ends.{holds_ends}
 use Rattle.records.proofs.holds.Goals as goal
 

@@ -1,5 +1,4 @@
 use mathlib.Core.Path.{refl}
-use borrow.Author.Rules.{rules}
 use Rattle.records.specs.Records.{bad_record}
 use Rattle.records.proofs.is_bad.Goals as goal
 

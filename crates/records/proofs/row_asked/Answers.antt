@@ -1,7 +1,6 @@
 -- Rests on run-passed for what the callees ask, on asked-row and asked-refused for the answer.
 use mathlib.Core.Path.{ap, ◌∙◌}
 use native.Mathlib.Omega.{arith}
-use borrow.Author.Rules.{rules}
 use lib.ListN.{length}
 use Rattle.refusal.specs.Number.{number_of, beside_of}
 use Rattle.refusal.specs.Laws.{done-is, checked}
@@ -22,8 +21,7 @@ row_start-start-requires c =
 
 pub row_ends-e-requires : goal.row_ends-e-requires
 row_ends-e-requires c =
-    let passed : Run c.args.b (length c.args.chars.now) c.args.row = run-passed _ _ _ (done-is _ (checked (span-number _ _ _ _ c.span_of-span.ensures.0) c.is_done.ensures c.if-is_done.true)) in
-    (
+    let passed : Run c.args.b (length c.args.chars.now) c.args.row = run-passed _ _ _ (done-is _ (checked (span-number _ _ _ _ c.span_of-span.ensures.0) c.is_done.ensures c.if-is_done.true)) in (
       rw c.buffer_of.ensures (buffer-bounded _),
       rw c.row_start-start.ensures (row-start-lt _ _ passed.page _),
     )

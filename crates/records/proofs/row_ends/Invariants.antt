@@ -1,12 +1,8 @@
 -- Rests on the invariant: the lowest and the highest cell so far, and the one that comes next.
 use Prim.Native.Nat.{◌-◌, ◌≤◌}
-use mathlib.Core.Path.{◌≡◌, sym, ap, ◌∙◌}
-use native.Mathlib.Omega.{arith}
-use borrow.Author.Rules.{rules}
-use Rattle.raster.specs.declared.Cell.{Cell}
-use Rattle.raster.specs.Moves.{advance_by, advance_by-zero, cell as cell_of}
-use Rattle.raster.specs.Walk.{moved_on, not-moved}
-use Rattle.records.specs.Ends.{low_to, high_to, ends_of, ends_by, low-more, high-more}
+use mathlib.Core.Path.{◌≡◌}
+use Rattle.raster.specs.Moves.{advance_by, cell as cell_of}
+use Rattle.records.specs.Ends.{low_to, high_to}
 use Rattle.records.proofs.row_ends.Given as goal
 
 abbrev pub invariant-loop-i : goal.invariant-loop-i

@@ -1,4 +1,3 @@
-use borrow.Author.Rules.{rules}
 use Rattle.records.specs.Folds.{mate_start}
 use Rattle.records.proofs.start_mate.Goals as goal
 

@@ -1,8 +1,6 @@
 -- Rests on the tests in their order; visit-on for a record that alters nothing.
 use mathlib.Core.Path.{◌≡◌, refl, sym, ap, ◌∙◌}
 use mathlib.Core.Bool.{Bool, ◌&&◌}
-use borrow.Author.Rules.{rules}
-use borrow.Author.Tests.{not-true}
 use lib.Dec.{eqb}
 use Rattle.lists.specs.Choice.{stop, pass, neither}
 use Rattle.records.specs.Folds.{visit_of, visit-on}

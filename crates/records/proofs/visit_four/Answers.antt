@@ -1,8 +1,6 @@
 -- Rests on four-on for records that alter nothing; four_is for the first that disagrees.
 use mathlib.Core.Path.{refl, ap, ◌∙◌}
 use mathlib.Core.Bool.{true}
-use borrow.Author.Rules.{rules}
-use borrow.Author.Tests.{not-true}
 use Rattle.lists.specs.Choice.{stop, pass}
 use Rattle.records.specs.Folds.{mate_on, both-parts, four-on, four_is}
 use Rattle.records.proofs.visit_four.Goals as goal

@@ -1,5 +1,4 @@
 use mathlib.Core.Path.{refl}
-use borrow.Author.Rules.{rules}
 use Rattle.lists.specs.Choice.{stop, pass}
 use Rattle.records.specs.Folds.{pair_visit}
 use Rattle.records.proofs.visit_pair.Goals as goal

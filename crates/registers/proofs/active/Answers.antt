@@ -1,9 +1,7 @@
 -- Rests on the match over addresses: each arm is one case of active_of.
-use Prim.Native.Nat.{◌≤◌}
 use mathlib.Core.Path.{refl, ap, ◌∙◌}
 use native.Mathlib.Omega.{arith}
 use borrow.Author.Tests.{eq-eqb, ne_eqb}
-use borrow.Author.Rules.{rules}
 use Rattle.lists.specs.Choice.{stop, pass, inside, over}
 use Rattle.refusal.specs.declared.Refusal.TheVariants.{Done}
 use Rattle.registers.specs.Answers.{answer}

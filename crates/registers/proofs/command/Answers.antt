@@ -2,7 +2,6 @@
 use mathlib.Core.Path.{refl, ap, ◌∙◌}
 use native.Mathlib.Omega.{arith}
 use borrow.Author.Tests.{eq-eqb, ne_eqb}
-use borrow.Author.Rules.{rules}
 use Rattle.lists.specs.Choice.{stop, pass, inside, under, over}
 use Rattle.refusal.specs.declared.Refusal.TheVariants.{Done}
 use Rattle.registers.specs.Answers.{answer}

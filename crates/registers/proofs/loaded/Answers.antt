@@ -1,7 +1,5 @@
 -- Rests on layout-fits: the record has room for every IR of its page.
-use mathlib.Core.Path.{refl}
 use native.Mathlib.Omega.{arith}
-use borrow.Author.Rules.{rules}
 use Rattle.board.specs.Laws.{layout-fits}
 use Rattle.registers.proofs.loaded.Goals as goal
 

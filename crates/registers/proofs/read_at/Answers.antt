@@ -1,7 +1,6 @@
 -- Rests on the ranges of addresses: each arm is one case of read_at.
 use mathlib.Core.Path.{refl, ap, ◌∙◌}
 use native.Mathlib.Omega.{arith}
-use borrow.Author.Rules.{rules}
 use Rattle.lists.specs.Choice.{stop, pass, inside, over}
 use Rattle.refusal.specs.declared.Refusal.TheVariants.{Done}
 use Rattle.registers.specs.Answers.{byte_read}

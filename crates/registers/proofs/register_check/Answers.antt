@@ -1,5 +1,4 @@
 use mathlib.Core.Path.{refl}
-use borrow.Author.Rules.{rules}
 use Rattle.registers.specs.Write.{register_check}
 use Rattle.registers.proofs.register_check.Goals as goal
 

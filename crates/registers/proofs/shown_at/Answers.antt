@@ -1,5 +1,4 @@
 -- Rests on the match: each arm is one case of shown_at.
-use borrow.Author.Tests.{ne_eqb}
 use borrow.Author.Rules.{rules}
 use Rattle.registers.specs.Read.{shown_at}
 use Rattle.registers.proofs.shown_at.Goals as goal

@@ -1,5 +1,4 @@
 -- Rests on the match: each arm is one case of starts_after.
-use borrow.Author.Tests.{ne_eqb}
 use borrow.Author.Rules.{rules}
 use Rattle.registers.specs.Write.{starts_after}
 use Rattle.registers.proofs.starts_after.Goals as goal

@@ -1,6 +1,5 @@
 -- Rests on the tests in their order, 12 before 6.
 use mathlib.Core.Path.{refl, sym, ◌∙◌}
-use borrow.Author.Rules.{rules}
 use Rattle.lists.specs.Choice.{stop, pass}
 use Rattle.registers.specs.Video.{video_check}
 use Rattle.registers.proofs.video_check.Goals as goal

@@ -1,7 +1,6 @@
 -- Rests on the check, and on whether the board is active; pointer_in gives the range that a load asks for.
 use mathlib.Core.Path.{ap}
 use borrow.Author.Tests.{le-leb, lt-leb}
-use borrow.Author.Rules.{rules}
 use Rattle.lists.specs.Choice.{stop, pass}
 use Rattle.refusal.specs.declared.Refusal.{Refusal}
 use Rattle.refusal.specs.Laws.{checked, done-is}

@@ -1,4 +1,3 @@
-use borrow.Author.Rules.{rules}
 use Rattle.shape.specs.Font.{font_line_of}
 use Rattle.shape.proofs.font_line.Goals as goal
 

@@ -1,4 +1,3 @@
-use borrow.Author.Rules.{rules}
 use Rattle.shape.specs.Font.{font_lines_of}
 use Rattle.shape.proofs.font_lines.Goals as goal
 

@@ -1,5 +1,4 @@
 use borrow.Author.Tests.{lt-ltb, le-ltb}
-use borrow.Author.Rules.{rules}
 use Rattle.shape.specs.Font.{font_word}
 use Rattle.shape.proofs.font_word.Goals as goal
 

@@ -1,5 +1,3 @@
-use native.Mathlib.Omega.{arith}
-use borrow.Author.Rules.{rules}
 use Rattle.shape.specs.Font.{graphics_word}
 use Rattle.shape.proofs.graphics_word.Goals as goal
 

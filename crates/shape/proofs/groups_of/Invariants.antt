@@ -1,11 +1,9 @@
 -- Rests on the loop that stores one element a turn (lists Tab).
-use Prim.Native.Nat.{◌≤◌, ◌-◌, zero-le}
-use mathlib.Core.Path.{◌≡◌, refl}
+use Prim.Native.Nat.{◌≤◌, ◌-◌}
+use mathlib.Core.Path.{◌≡◌}
 use mathlib.Core.List.{◌++◌}
-use native.Mathlib.Omega.{arith}
-use borrow.Author.Rules.{rules}
 use lib.ListN.{length, drop, replicate}
-use Rattle.lists.specs.Tab.{tab, tab-turn, tab-ends}
+use Rattle.lists.specs.Tab.{tab}
 use Rattle.shape.specs.Font.{group_in}
 use Rattle.shape.proofs.groups_of.Given as goal
 

@@ -1,5 +1,4 @@
 use Rattle.step.specs.Shown.{blank_shown}
-use borrow.Author.Rules.{rules}
 use Rattle.step.proofs.blank_shown.Goals as goal
 
 pub returns : goal.returns

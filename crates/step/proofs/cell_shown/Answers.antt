@@ -1,6 +1,5 @@
 -- Rests on the callees: what is valid, the code that is shown, its mode, its word and its look.
 use Rattle.step.specs.Shown.{cell_shown}
-use borrow.Author.Rules.{rules}
 use Rattle.step.proofs.cell_shown.Goals as goal
 
 pub returns : goal.returns

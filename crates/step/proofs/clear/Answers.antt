@@ -1,6 +1,5 @@
 -- Rests on not-clear and clear-but, by whether all but the groups is fine.
 use mathlib.Core.Path.{ap, ◌∙◌}
-use borrow.Author.Rules.{rules}
 use Rattle.refusal.specs.Number.{done_of}
 use Rattle.step.specs.Laws.{not-clear, clear-but}
 use Rattle.step.proofs.clear.Goals as goal

@@ -10,7 +10,6 @@ use Rattle.shape.specs.Font.{Font, font_of}
 use Rattle.video.specs.At.{lent_by}
 use Rattle.video.specs.Lent.{Lent, lent}
 use Rattle.step.specs.Laws.{clock-done, clock-refused}
-use borrow.Author.Rules.{rules}
 use Rattle.step.proofs.clock_of.Goals as goal
 
 pub loaded_at-c-requires : goal.loaded_at-c-requires
@@ -20,7 +19,7 @@ loaded_at-c-requires c =
     let check : call_check c.args.b (lent_by c.lent_refused-size.result c.args.groups.now) false false ≡ asked = ap (λ (size : Bool). call_check c.args.b (lent_by size c.args.groups.now) false false) c.lent_refused-size.ensures in
     let done : done_of asked ≡ c.clear.result = ap done_of (sym check) ∙ sym c.clear.ensures in
     let whole : c.clear.result ≡ true
-        → Lent c.args.b c.args.chars.now c.args.attrs.now c.args.words.now c.args.flags.now = λ t. lent _ _ _ font false false (done-is _ (done ∙ t)) in
+    → Lent c.args.b c.args.chars.now c.args.attrs.now c.args.words.now c.args.flags.now = λ t. lent _ _ _ font false false (done-is _ (done ∙ t)) in
     (whole c.if-clear.true).chars-all
 
 pub one_clock-requires : goal.one_clock-requires
@@ -30,7 +29,7 @@ one_clock-requires c =
     let check : call_check c.args.b (lent_by c.lent_refused-size.result c.args.groups.now) false false ≡ asked = ap (λ (size : Bool). call_check c.args.b (lent_by size c.args.groups.now) false false) c.lent_refused-size.ensures in
     let done : done_of asked ≡ c.clear.result = ap done_of (sym check) ∙ sym c.clear.ensures in
     let whole : c.clear.result ≡ true
-        → Lent c.args.b c.args.chars.now c.args.attrs.now c.args.words.now c.args.flags.now = λ t. lent _ _ _ font false false (done-is _ (done ∙ t)) in
+    → Lent c.args.b c.args.chars.now c.args.attrs.now c.args.words.now c.args.flags.now = λ t. lent _ _ _ font false false (done-is _ (done ∙ t)) in
     record { lent = whole c.if-clear.true; c_value = (c.loaded_at-c.ensures, c.active_at-active.ensures) }
 
 pub returns-then-clear : goal.returns-then-clear
@@ -40,7 +39,7 @@ returns-then-clear c =
     let check : call_check c.args.b (lent_by c.lent_refused-size.result c.args.groups.now) false false ≡ asked = ap (λ (size : Bool). call_check c.args.b (lent_by size c.args.groups.now) false false) c.lent_refused-size.ensures in
     let done : done_of asked ≡ c.clear.result = ap done_of (sym check) ∙ sym c.clear.ensures in
     let whole : c.clear.result ≡ true
-        → Lent c.args.b c.args.chars.now c.args.attrs.now c.args.words.now c.args.flags.now = λ t. lent _ _ _ font false false (done-is _ (done ∙ t)) in
+    → Lent c.args.b c.args.chars.now c.args.attrs.now c.args.words.now c.args.flags.now = λ t. lent _ _ _ font false false (done-is _ (done ∙ t)) in
     clock-done _ _ _ font (done ∙ c.if-clear.true) (whole c.if-clear.true).page.most _ c.loaded_at-c.ensures
     _ c.active_at-active.ensures _ c.line_in-line.ensures _ c.one_clock.ensures
 

@@ -6,7 +6,6 @@ use native.Mathlib.Omega.{arith}
 use Rattle.lists.specs.Choice.{pick}
 use Rattle.step.specs.Signals.{odd_in}
 use Rattle.step.specs.Laws.{column-wide, column-not-wide}
-use borrow.Author.Rules.{rules}
 use Rattle.step.proofs.column_dots.Goals as goal
 
 half_le : (t : Bool) (d n : ℕ) → n ≡ pick t d 0 → n ≤ d

@@ -1,7 +1,6 @@
 use Rattle.timing.specs.Fields.{timing_of, counts_of}
 use native.Mathlib.Omega.{arith}
 use mathlib.Core.Path.{◌∙◌}
-use borrow.Author.Rules.{rules}
 use Rattle.step.proofs.hsync_in.Goals as goal
 
 pub plus-requires : goal.plus-requires

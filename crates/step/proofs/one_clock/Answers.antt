@@ -1,6 +1,5 @@
 -- Rests on in_frame: the counts of the place are in range, so each callee is asked for what it takes.
 use Rattle.step.specs.Laws.{in_frame, address-lt, shown-small, clock-parts}
-use borrow.Author.Rules.{rules}
 use Rattle.step.proofs.one_clock.Goals as goal
 
 pub place_after-next-requires : goal.place_after-next-requires

@@ -1,14 +1,12 @@
 -- Rests on the tests in their order: what was lent, the page, the place.
-use mathlib.Core.Path.{◌≡◌, refl, sym, ap, ◌∙◌}
+use mathlib.Core.Path.{◌≡◌, sym, ap, ◌∙◌}
 use mathlib.Core.Bool.{not}
 use Rattle.lists.specs.Choice.{stop, pass}
-use Rattle.refusal.specs.declared.Refusal.{Refusal}
 use Rattle.refusal.specs.Number.{done_of}
 use Rattle.refusal.specs.Laws.{checked}
 use Rattle.timing.specs.Check.{call_check}
 use Rattle.video.specs.At.{lent_by}
 use Rattle.step.specs.Laws.{range-left}
-use borrow.Author.Rules.{rules}
 use Rattle.step.proofs.refused_by.Goals as goal
 
 pub returns-then-not-is_done : goal.returns-then-not-is_done

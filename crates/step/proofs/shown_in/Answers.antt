@@ -1,7 +1,5 @@
 -- Rests on the callees: an active clock shows its cell, any other the blank level.
 use mathlib.Core.Path.{sym, ◌∙◌}
-use native.Mathlib.Omega.{arith}
-use borrow.Author.Rules.{rules}
 use Rattle.lists.specs.Choice.{stop, pass}
 use Rattle.step.specs.Shown.{shown_in}
 use Rattle.step.proofs.shown_in.Goals as goal

@@ -1,6 +1,5 @@
 use Rattle.video.specs.Scene.{scene_of}
 use Rattle.step.specs.Shown.{signals_with}
-use borrow.Author.Rules.{rules}
 use Rattle.step.proofs.signals_of.Goals as goal
 
 pub returns : goal.returns

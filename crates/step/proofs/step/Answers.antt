@@ -1,5 +1,4 @@
 use Rattle.step.specs.Laws.{stepped}
-use borrow.Author.Rules.{rules}
 use Rattle.step.proofs.step.Goals as goal
 
 pub returns : goal.returns

@@ -3,7 +3,6 @@ use Rattle.timing.specs.Laws.{vt-bound}
 use Rattle.timing.specs.Fields.{timing_of, counts_of}
 use native.Mathlib.Omega.{arith}
 use mathlib.Core.Path.{◌∙◌}
-use borrow.Author.Rules.{rules}
 use Rattle.step.proofs.vsync_in.Goals as goal
 
 pub plus-first-requires : goal.plus-first-requires

@@ -1,11 +1,8 @@
 -- Rests on the loop that lends each turn its own stretch (lists Join), one scan line a turn.
-use Prim.Native.Nat.{◌≤◌, ◌-◌, ◌*◌}
-use mathlib.Core.List.{◌++◌}
+use Prim.Native.Nat.{◌≤◌, ◌*◌}
 use native.Mathlib.Omega.{arith}
-use borrow.Author.Rules.{rules}
-use lib.ListN.{length, drop, length-take, length-drop}
-use Rattle.lists.specs.Fill.{Filling}
-use Rattle.lists.specs.Join.{joined, join-begins, join-turn, join-ends}
+use lib.ListN.{length, length-take, length-drop}
+use Rattle.lists.specs.Join.{join-turn, join-ends}
 use Rattle.tables.specs.Tables.{levels_at}
 use Rattle.tables.specs.Marks.{blank-lt}
 use Rattle.tables.specs.Laws.{length-levels}
@@ -13,18 +10,17 @@ use Rattle.tables.proofs.fill_looks.Goals as goal
 
 pub looks-requires : goal.looks-requires
 looks-requires c =
-    let few : (c.places-count.result ≤ 16) × (c.places-count.result * 128 ≤ length c.args.table.now) = 
-        let same = c.places-count.ensures in
-        (omega (arith, same, c.requires.0), omega (arith, same, c.requires.1)) in
+    let few : (c.places-count.result ≤ 16) × (c.places-count.result * 128 ≤ length c.args.table.now) =
+    let same = c.places-count.ensures in
+    (omega (arith, same, c.requires.0), omega (arith, same, c.requires.1)) in
     (simp (length-take, length-drop) (omega (arith, c.loop-s.invariant.1.same, few, c.loop-s-test.true)), rw c.scene_of-scene.ensures (blank-lt _ _ _))
 
 pub loop-s-preserved : goal.loop-s-preserved
 unfolding levels_at
 loop-s-preserved c =
-    let few : (c.places-count.result ≤ 16) × (c.places-count.result * 128 ≤ length c.args.table.now) = 
-        let same = c.places-count.ensures in
-        (omega (arith, same, c.requires.0), omega (arith, same, c.requires.1)) in
-    (
+    let few : (c.places-count.result ≤ 16) × (c.places-count.result * 128 ≤ length c.args.table.now) =
+    let same = c.places-count.ensures in
+    (omega (arith, same, c.requires.0), omega (arith, same, c.requires.1)) in (
       omega (arith, c.loop-s-test.true),
       join-turn _ _ (length-levels _ _) _ _ _ c.loop-s.invariant.1 c.loop-s-test.true few.1 (rw c.scene_of-scene.ensures at c.looks.ensures),
     )

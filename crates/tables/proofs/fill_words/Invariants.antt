@@ -1,13 +1,10 @@
 -- Rests on the loop that lends each turn its own stretch (lists Join), one scan line a turn.
 use Prim.Native.Nat.{◌≤◌, ◌-◌, ◌*◌}
 use mathlib.Core.List.{◌++◌}
-use native.Mathlib.Omega.{arith}
-use borrow.Author.Rules.{rules}
-use lib.ListN.{length, drop, length-take, length-drop}
+use lib.ListN.{drop}
 use Rattle.lists.specs.Fill.{Filling}
-use Rattle.lists.specs.Join.{joined, join-begins, join-turn, join-ends}
+use Rattle.lists.specs.Join.{joined}
 use Rattle.tables.specs.Tables.{words_at}
-use Rattle.tables.specs.Laws.{length-words}
 use Rattle.tables.proofs.fill_words.Given as goal
 
 abbrev pub invariant-loop-s : goal.invariant-loop-s

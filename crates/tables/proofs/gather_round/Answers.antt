@@ -1,15 +1,12 @@
 -- Rests on the invariant: cells put, the cell that comes next, and what is valid before it.
-use Prim.Native.Nat.{◌≤◌, ◌<◌, ◌-◌, zero-le}
-use mathlib.Core.Path.{◌≡◌, refl, ap, ◌∙◌}
-use mathlib.Core.List.{◌++◌}
+use Prim.Native.Nat.{◌<◌, zero-le}
+use mathlib.Core.Path.{refl}
 use native.Mathlib.Omega.{arith}
 use borrow.Author.Rules.{rules}
-use lib.ListN.{length, get_or, drop}
-use Rattle.lists.specs.Choice.{pick-le}
-use Rattle.lists.specs.Tab.{tab, tab-turn, tab-upto}
-use Rattle.raster.specs.Moves.{advance_by, cell as cell_of}
+use lib.ListN.{get_or}
+use Rattle.lists.specs.Tab.{tab, tab-turn}
 use Rattle.raster.specs.Walk.{at_lt, moved_on, not-moved}
-use Rattle.tables.specs.Tables.{held_by, cell_by}
+use Rattle.tables.specs.Tables.{cell_by}
 use Rattle.tables.specs.Laws.{sign-by, as-cell, runs_on, not-run}
 use Rattle.tables.proofs.gather_round.Goals as goal
 

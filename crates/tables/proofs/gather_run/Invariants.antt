@@ -1,16 +1,11 @@
 -- Rests on the invariant: cells put, and what is valid before the next one.
-use Prim.Native.Nat.{◌+◌, ◌-◌, ◌≤◌, ◌<◌, zero-le}
-use mathlib.Core.Path.{◌≡◌, refl, ap, sym, ◌∙◌}
+use Prim.Native.Nat.{◌-◌, ◌≤◌}
+use mathlib.Core.Path.{◌≡◌}
 use mathlib.Core.List.{◌++◌}
-use native.Mathlib.Omega.{arith}
-use borrow.Author.Rules.{rules}
 use lib.ListN.{length, drop}
-use Rattle.lists.specs.Choice.{pick-le}
-use Rattle.lists.specs.Tab.{tab, tab-turn, tab-upto}
-use Rattle.raster.specs.Moves.{cell as cell_of}
+use Rattle.lists.specs.Tab.{tab}
 use Rattle.tables.specs.Tables.{held_by, cell_by}
-use Rattle.tables.specs.Laws.{sign-by, as-cell, runs_on, not-run}
-use Rattle.tables.specs.Run.{whole, whole-at}
+use Rattle.tables.specs.Run.{whole}
 use Rattle.tables.proofs.gather_run.Given as goal
 
 abbrev pub invariant-loop-c : goal.invariant-loop-c

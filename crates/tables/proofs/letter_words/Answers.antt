@@ -1,12 +1,10 @@
 -- Rests on the loop that stores one number a turn (lists Tab), begun behind the codes that show nothing.
-use Prim.Native.Nat.{◌≤◌, ◌-◌, ◌%◌}
+use Prim.Native.Nat.{◌%◌}
 use mathlib.Core.Path.{◌≡◌, refl}
-use mathlib.Core.List.{◌++◌}
 use native.Mathlib.Omega.{arith}
 use borrow.Author.Tests.{lt-leb}
 use borrow.Author.Rules.{rules}
-use lib.ListN.{length, drop}
-use Rattle.lists.specs.Tab.{tab, tab-turn, tab-upto}
+use Rattle.lists.specs.Tab.{tab-turn, tab-upto}
 use Rattle.shape.specs.Laws.{by-small}
 use Rattle.tables.specs.Tables.{shown_word}
 use Rattle.tables.specs.Laws.{begun-room, begun, ended}

@@ -1,6 +1,5 @@
 use Prim.Native.Nat.{◌<◌}
 use native.Mathlib.Omega.{arith}
-use borrow.Author.Rules.{rules}
 use Rattle.tables.specs.Tables.{levels_for}
 use Rattle.tables.specs.Marks.{look-few}
 use Rattle.tables.proofs.levels.Goals as goal

@@ -1,4 +1,3 @@
-use borrow.Author.Rules.{rules}
 use Rattle.tables.specs.Halves.{halves}
 use Rattle.tables.proofs.looks.Goals as goal
 

@@ -1,11 +1,9 @@
 -- Rests on the loop that stores one number a turn (lists Tab).
-use Prim.Native.Nat.{◌≤◌, ◌-◌, zero-le}
-use mathlib.Core.Path.{◌≡◌, refl}
-use mathlib.Core.List.{◌++◌}
+use Prim.Native.Nat.{zero-le}
+use mathlib.Core.Path.{refl}
 use native.Mathlib.Omega.{arith}
 use borrow.Author.Rules.{rules}
-use lib.ListN.{length, drop}
-use Rattle.lists.specs.Tab.{tab, tab-turn, tab-upto}
+use Rattle.lists.specs.Tab.{tab, tab-turn}
 use Rattle.tables.specs.Tables.{no_word}
 use Rattle.tables.proofs.no_words.Goals as goal
 

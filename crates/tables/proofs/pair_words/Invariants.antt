@@ -1,12 +1,9 @@
 -- Rests on the loop that stores one element a turn (lists Tab).
-use Prim.Native.Nat.{◌≤◌, ◌-◌, zero-le}
-use mathlib.Core.Path.{◌≡◌, refl}
+use Prim.Native.Nat.{◌≤◌, ◌-◌}
+use mathlib.Core.Path.{◌≡◌}
 use mathlib.Core.List.{◌++◌}
-use native.Mathlib.Omega.{arith}
-use borrow.Author.Rules.{rules}
 use lib.ListN.{length, drop}
-use Rattle.lists.specs.Tab.{tab, tab-turn, tab-upto}
-use Rattle.shape.specs.Laws.{graphics-small}
+use Rattle.lists.specs.Tab.{tab}
 use Rattle.tables.specs.Tables.{pair_word}
 use Rattle.tables.proofs.pair_words.Given as goal
 

@@ -1,5 +1,4 @@
 -- Rests on signs: the letters, then graphics.
-use borrow.Author.Rules.{rules}
 use Rattle.tables.specs.Halves.{signs}
 use Rattle.tables.proofs.shown_words.Goals as goal
 

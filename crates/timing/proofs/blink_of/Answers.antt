@@ -1,5 +1,4 @@
 use mathlib.Core.Path.{refl}
-use borrow.Author.Rules.{rules}
 use Rattle.timing.specs.Fields.{blink_of}
 use Rattle.timing.proofs.blink_of.Goals as goal
 

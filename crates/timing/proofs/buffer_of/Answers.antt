@@ -1,6 +1,5 @@
 -- Rests on the definition alone: the code spells it out.
 use mathlib.Core.Path.{refl}
-use borrow.Author.Rules.{rules}
 use Rattle.timing.specs.Fields.{buffer_of}
 use Rattle.timing.proofs.buffer_of.Goals as goal
 

@@ -1,6 +1,5 @@
 -- Rests on call-order: what is lent comes first, then the page, the state and what is asked, the room.
 use mathlib.Core.Path.{refl}
-use borrow.Author.Rules.{rules}
 use Rattle.timing.specs.Check.{call_check}
 use Rattle.timing.proofs.call_check.Goals as goal
 

@@ -1,5 +1,4 @@
 use Rattle.timing.specs.Fields.{counts_of}
-use borrow.Author.Rules.{rules}
 use Rattle.timing.proofs.counts_of.Goals as goal
 
 pub returns : goal.returns

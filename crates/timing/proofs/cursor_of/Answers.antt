@@ -1,5 +1,4 @@
 use mathlib.Core.Path.{refl}
-use borrow.Author.Rules.{rules}
 use Rattle.timing.specs.Fields.{cursor_of}
 use Rattle.timing.proofs.cursor_of.Goals as goal
 

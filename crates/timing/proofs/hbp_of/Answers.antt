@@ -1,4 +1,3 @@
-use borrow.Author.Rules.{rules}
 use Rattle.timing.specs.Fields.{hbp_of}
 use Rattle.timing.proofs.hbp_of.Goals as goal
 

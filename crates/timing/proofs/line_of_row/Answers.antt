@@ -1,4 +1,3 @@
-use borrow.Author.Rules.{rules}
 use Rattle.timing.specs.Laws.{lines-some}
 use Rattle.timing.proofs.line_of_row.Goals as goal
 

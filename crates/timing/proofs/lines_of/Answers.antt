@@ -1,4 +1,3 @@
-use borrow.Author.Rules.{rules}
 use Rattle.timing.specs.Fields.{lines_of}
 use Rattle.timing.proofs.lines_of.Goals as goal
 

@@ -1,5 +1,4 @@
 use native.Mathlib.Omega.{arith}
-use borrow.Author.Rules.{rules}
 use Rattle.timing.specs.Laws.{hbp-le}
 use Rattle.timing.proofs.missing.Goals as goal
 

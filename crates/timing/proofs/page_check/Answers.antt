@@ -1,6 +1,5 @@
 -- Rests on the callees: each test of the list is one of their answers.
 use mathlib.Core.Path.{refl}
-use borrow.Author.Rules.{rules}
 use Rattle.timing.specs.Check.{page_check}
 use Rattle.timing.proofs.page_check.Goals as goal
 

@@ -1,6 +1,5 @@
 -- Rests on the ranges of HACT, HSYNC and HBP, which keep the sum below 2^32.
 use native.Mathlib.Omega.{arith}
-use borrow.Author.Rules.{rules}
 use Rattle.timing.specs.Laws.{hbp-le}
 use Rattle.timing.proofs.rest_of.Goals as goal
 

@@ -1,4 +1,3 @@
-use borrow.Author.Rules.{rules}
 use Rattle.timing.specs.Laws.{lines-some}
 use Rattle.timing.proofs.row_of.Goals as goal
 

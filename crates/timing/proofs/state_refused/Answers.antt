@@ -1,6 +1,5 @@
 -- Rests on the callees: each test of the definition is one of their answers.
 use Rattle.timing.specs.Check.{state_refused}
-use borrow.Author.Rules.{rules}
 use Rattle.timing.proofs.state_refused.Goals as goal
 
 pub returns : goal.returns

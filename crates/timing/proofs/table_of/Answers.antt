@@ -1,5 +1,4 @@
 use mathlib.Core.Path.{refl}
-use borrow.Author.Rules.{rules}
 use Rattle.timing.specs.Fields.{table_of}
 use Rattle.timing.proofs.table_of.Goals as goal
 

@@ -1,6 +1,5 @@
 use Rattle.timing.specs.Laws.{visible-bound}
 use native.Mathlib.Omega.{arith}
-use borrow.Author.Rules.{rules}
 use Rattle.timing.proofs.visible_of.Goals as goal
 
 pub times-requires : goal.times-requires

@@ -1,4 +1,3 @@
-use borrow.Author.Tests.{ne_eqb}
 use borrow.Author.Rules.{rules}
 use Rattle.timing.specs.Fields.{vsync_of}
 use Rattle.timing.proofs.vsync_of.Goals as goal

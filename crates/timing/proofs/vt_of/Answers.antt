@@ -1,9 +1,6 @@
 -- Rests on visible-bound and vsync-bound, which keep the sum below 2^32.
-use Prim.Native.Nat.{◌/◌, ◌%◌}
-use Rattle.timing.specs.Fields.{ir}
 use Rattle.timing.specs.Laws.{visible-bound, vsync-bound}
 use native.Mathlib.Omega.{arith}
-use borrow.Author.Rules.{rules}
 use Rattle.timing.proofs.vt_of.Goals as goal
 
 pub plus-to_sync-requires : goal.plus-to_sync-requires

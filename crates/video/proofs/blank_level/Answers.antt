@@ -1,5 +1,4 @@
 use mathlib.Core.Path.{ap, ◌∙◌}
-use borrow.Author.Rules.{rules}
 use Rattle.video.specs.declared.TableLine.{TableLine}
 use Rattle.video.specs.Table.{by-rule}
 use Rattle.video.proofs.blank_level.Goals as goal

@@ -3,7 +3,6 @@ use Prim.Native.Nat.{ℕ}
 use mathlib.Core.Path.{◌≡◌, ap, ◌∙◌}
 use mathlib.Core.Bool.{Bool, true, false, xor}
 use borrow.Author.Tests.{not-true, not-false}
-use borrow.Author.Rules.{rules}
 use Rattle.lists.specs.Choice.{has_bit}
 use Rattle.video.specs.declared.Scene.{Scene}
 use Rattle.video.specs.declared.TableLine.{TableLine}

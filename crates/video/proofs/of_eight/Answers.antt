@@ -1,5 +1,4 @@
 -- Rests on the callee, seven times: a pair, then pairs of pairs.
-use borrow.Author.Rules.{rules}
 use Rattle.video.specs.Table.{of_eight}
 use Rattle.video.proofs.of_eight.Goals as goal
 

@@ -1,7 +1,6 @@
 use mathlib.Core.Path.{◌∙◌}
 use native.Mathlib.Nat.{mod-lt}
 use native.Mathlib.Omega.{arith}
-use borrow.Author.Rules.{rules}
 use Rattle.timing.specs.Fields.{timing_of, counts_of}
 use Rattle.timing.specs.Laws.{lines-some, lines-le}
 use Rattle.video.proofs.scan_at.Goals as goal

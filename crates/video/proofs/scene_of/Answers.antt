@@ -1,7 +1,6 @@
 -- Rests on the callees: each field of the scene is one of their answers.
 use Rattle.video.specs.Scene.{scene_of}
 use Rattle.timing.specs.Laws.{blink-range, period-some}
-use borrow.Author.Rules.{rules}
 use Rattle.video.proofs.scene_of.Goals as goal
 
 pub blink_at-requires : goal.blink_at-requires

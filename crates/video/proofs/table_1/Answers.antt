@@ -1,5 +1,4 @@
 -- Rests on read: the nineteen lines, column by column, come to the line decided (by-columns).
-use borrow.Author.Rules.{rules}
 use Rattle.video.specs.Table.{table1, read}
 use Rattle.video.proofs.table_1.Goals as goal
 

@@ -1,11 +1,6 @@
 -- Rests on font-refused and font-wrote.
-use mathlib.Core.Path.{refl, sym}
-use native.Mathlib.Omega.{arith}
-use borrow.Author.Rules.{rules}
-use lib.Seq.{length-take-le}
-use Rattle.files.specs.Page.{version_in}
-use Rattle.files.specs.FontLaws.{groups-most}
-use Rattle.callers.specs.Again.{font-refused, groups-are, font-wrote}
+use mathlib.Core.Path.{refl}
+use Rattle.callers.specs.Again.{font-refused, font-wrote}
 use Rattle.callers.proofs.again.font_again.Goals as goal
 
 pub returns-then-read-ne0 : goal.returns-then-read-ne0

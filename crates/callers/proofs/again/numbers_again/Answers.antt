@@ -1,7 +1,6 @@
 -- Rests on not_made, not_written and numbers-read, one for each way out.
 use mathlib.Core.Path.{sym}
 use native.Mathlib.Omega.{arith}
-use borrow.Author.Rules.{rules}
 use lib.Seq.{length-take-le}
 use Rattle.files.specs.Laws.{file-most}
 use Rattle.callers.specs.Numbers.{not_made, not_written, numbers-read}

@@ -1,5 +1,4 @@
 -- Rests on page-refused and page-wrote.
-use borrow.Author.Rules.{rules}
 use Rattle.callers.specs.Again.{page-refused, page-wrote}
 use Rattle.callers.proofs.again.page_again.Goals as goal
 

@@ -1,5 +1,4 @@
 use mathlib.Core.Path.{◌∙◌}
-use borrow.Author.Rules.{rules}
 use Rattle.callers.specs.Index.{all_held_lem}
 use Rattle.callers.proofs.index.all_held.Goals as goal
 

@@ -2,20 +2,19 @@
 use Prim.Native.Nat.{◌<◌}
 use mathlib.Core.Path.{◌∙◌}
 use native.Mathlib.Omega.{arith}
-use borrow.Author.Rules.{rules}
 use Rattle.callers.specs.Index.{columns-there, column-lt, covered}
 use Rattle.callers.proofs.index.found_holds.Goals as goal
 
 pub offset_bounds-cells-column : goal.offset_bounds-cells-column
 offset_bounds-cells-column c =
-    let column : c.args.column < 256 = 
-        column-lt _ _ _ _ _ _ _ c.record_of_row-answer.ensures c.row_cells-given.ensures _ c.if-answer-given.false in
+    let column : c.args.column < 256 =
+    column-lt _ _ _ _ _ _ _ c.record_of_row-answer.ensures c.row_cells-given.ensures _ c.if-answer-given.false in
     record { fits = omega (arith, column) }
 
 pub bounds-cells-column : goal.bounds-cells-column
 bounds-cells-column c =
-    let column : c.args.column < 256 = 
-        column-lt _ _ _ _ _ _ _ c.record_of_row-answer.ensures c.row_cells-given.ensures _ c.if-answer-given.false in
+    let column : c.args.column < 256 =
+    column-lt _ _ _ _ _ _ _ c.record_of_row-answer.ensures c.row_cells-given.ensures _ c.if-answer-given.false in
     column
 
 pub covers_at-requires : goal.covers_at-requires

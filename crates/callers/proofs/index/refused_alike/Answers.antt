@@ -1,6 +1,5 @@
 -- Rests on Index.own-number where the row is refused, and on Index.same-bad where it is not.
 use mathlib.Core.Path.{sym, ap, ◌∙◌}
-use borrow.Author.Rules.{rules}
 use Rattle.refusal.specs.Number.{number_of, beside_of}
 use Rattle.fetch.specs.Laws.{span-number}
 use Rattle.callers.specs.Index.{own-number, same-bad}

@@ -1,5 +1,4 @@
 use mathlib.Core.Path.{◌∙◌}
-use borrow.Author.Rules.{rules}
 use Rattle.callers.specs.Index.{two-told}
 use Rattle.callers.proofs.index.two_compared.Goals as goal
 

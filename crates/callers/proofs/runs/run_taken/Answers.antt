@@ -2,7 +2,6 @@
 use mathlib.Core.Path.{refl}
 use native.Mathlib.Nat.{add_comm}
 use native.Mathlib.Omega.{arith}
-use borrow.Author.Rules.{rules}
 use Rattle.callers.specs.Runs.{run_inside, run_is, start_is}
 use Rattle.callers.proofs.runs.run_taken.Goals as goal
 

@@ -1,4 +1,3 @@
-use borrow.Author.Rules.{rules}
 use Rattle.callers.specs.Runs.{runs_same}
 use Rattle.callers.proofs.runs.runs_agree.Goals as goal
 

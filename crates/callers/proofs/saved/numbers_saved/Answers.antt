@@ -1,5 +1,4 @@
 -- Rests on not_made and numbers-again.
-use borrow.Author.Rules.{rules}
 use Rattle.callers.specs.Saved.{not_made, numbers-again}
 use Rattle.callers.proofs.saved.numbers_saved.Goals as goal
 

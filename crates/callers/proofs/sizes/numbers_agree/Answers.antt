@@ -1,4 +1,3 @@
-use borrow.Author.Rules.{rules}
 use Rattle.callers.specs.Sizes.{calls-agree}
 use Rattle.callers.proofs.sizes.numbers_agree.Goals as goal
 

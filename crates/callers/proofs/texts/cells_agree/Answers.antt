@@ -1,4 +1,3 @@
-use borrow.Author.Rules.{rules}
 use Rattle.callers.specs.Texts.{calls-agree}
 use Rattle.callers.proofs.texts.cells_agree.Goals as goal
 

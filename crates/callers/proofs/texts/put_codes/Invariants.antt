@@ -1,11 +1,9 @@
 -- Rests on the loop that stores one code a turn (lists Tab).
-use Prim.Native.Nat.{ℕ, ◌≤◌, ◌<◌, ◌-◌}
-use mathlib.Core.Path.{◌≡◌, refl, ap, ◌∙◌}
+use Prim.Native.Nat.{◌≤◌, ◌-◌}
+use mathlib.Core.Path.{◌≡◌}
 use mathlib.Core.List.{◌++◌}
-use native.Mathlib.Omega.{arith}
-use borrow.Author.Rules.{rules}
-use lib.ListN.{length, get_or, drop}
-use Rattle.lists.specs.Tab.{tab, tab-turn}
+use lib.ListN.{length, drop}
+use Rattle.lists.specs.Tab.{tab}
 use Rattle.callers.specs.Texts.{code_by}
 use Rattle.callers.proofs.texts.put_codes.Given as goal
 

@@ -1,4 +1,3 @@
-use borrow.Author.Rules.{rules}
 use Rattle.callers.specs.Texts.{text-begins}
 use Rattle.callers.proofs.texts.text_begins.Goals as goal
 

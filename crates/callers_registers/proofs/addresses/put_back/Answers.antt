@@ -1,6 +1,5 @@
 -- Rests on the contracts of the three calls, by `put_back`; that the byte read is a byte, by `read-lt`.
 use native.Mathlib.Omega.{arith}
-use borrow.Author.Rules.{rules}
 use Rattle.callers_registers.specs.Addresses.{read-lt, put_back}
 use Rattle.callers_registers.proofs.addresses.put_back.Goals as goal
 

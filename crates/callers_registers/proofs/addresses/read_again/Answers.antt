@@ -1,5 +1,4 @@
 -- Rests on the contracts of the two calls, by `read_again`.
-use borrow.Author.Rules.{rules}
 use Rattle.callers_registers.specs.Addresses.{read_again}
 use Rattle.callers_registers.proofs.addresses.read_again.Goals as goal
 

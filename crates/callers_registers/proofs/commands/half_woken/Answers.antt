@@ -1,4 +1,3 @@
-use borrow.Author.Rules.{rules}
 use Rattle.callers_registers.specs.Commands.{wakes-not}
 use Rattle.callers_registers.proofs.commands.half_woken.Goals as goal
 

@@ -1,5 +1,4 @@
 -- Rests on the contract of the write, by `refused`.
-use borrow.Author.Rules.{rules}
 use Rattle.callers_registers.specs.Commands.{refused}
 use Rattle.callers_registers.proofs.commands.not_carried.Goals as goal
 

@@ -1,5 +1,4 @@
 -- Rests on the contracts of both writes, by `loaded`.
-use borrow.Author.Rules.{rules}
 use Rattle.callers_registers.specs.Commands.{loaded}
 use Rattle.callers_registers.proofs.commands.pointed_load.Goals as goal
 

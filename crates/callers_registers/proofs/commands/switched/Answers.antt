@@ -1,5 +1,4 @@
 -- Rests on the contracts of both writes, by `switched`.
-use borrow.Author.Rules.{rules}
 use Rattle.callers_registers.specs.Commands.{switched}
 use Rattle.callers_registers.proofs.commands.switched.Goals as goal
 

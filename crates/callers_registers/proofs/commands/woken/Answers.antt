@@ -1,4 +1,3 @@
-use borrow.Author.Rules.{rules}
 use Rattle.callers_registers.specs.Commands.{wakes}
 use Rattle.callers_registers.proofs.commands.woken.Goals as goal
 

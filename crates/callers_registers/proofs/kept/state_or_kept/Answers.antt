@@ -1,4 +1,3 @@
-use borrow.Author.Rules.{rules}
 use Rattle.callers_registers.specs.Kept.{state-kept}
 use Rattle.callers_registers.proofs.kept.state_or_kept.Goals as goal
 

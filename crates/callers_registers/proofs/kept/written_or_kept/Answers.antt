@@ -1,4 +1,3 @@
-use borrow.Author.Rules.{rules}
 use Rattle.callers_registers.specs.Kept.{write_kept}
 use Rattle.callers_registers.proofs.kept.written_or_kept.Goals as goal
 

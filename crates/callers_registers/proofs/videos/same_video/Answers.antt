@@ -1,4 +1,3 @@
-use borrow.Author.Rules.{rules}
 use Rattle.callers_registers.specs.Videos.{same-video}
 use Rattle.callers_registers.proofs.videos.same_video.Goals as goal
 

@@ -1,5 +1,4 @@
 -- Rests on the contracts of both calls, by `set_last`.
-use borrow.Author.Rules.{rules}
 use Rattle.callers_registers.specs.Videos.{set_last}
 use Rattle.callers_registers.proofs.videos.set_twice.Goals as goal
 

@@ -1,6 +1,5 @@
 -- Rests on frames-fit and clocks-fit, which keep the clock below 2^32.
 use native.Mathlib.Omega.{arith}
-use borrow.Author.Rules.{rules}
 use Rattle.callers_stepped.specs.Lines.{frames-fit, frames-line, clocks-fit, clock-is}
 use Rattle.callers_stepped.proofs.lines.clock_of.Goals as goal
 

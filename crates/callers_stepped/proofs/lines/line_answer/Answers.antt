@@ -1,7 +1,6 @@
 -- Rests on the order of refusals: the numbers, what is lent, the page, the line, the room.
 use mathlib.Core.Path.{◌∙◌}
 use native.Mathlib.Omega.{arith}
-use borrow.Author.Rules.{rules}
 use Rattle.callers_stepped.specs.Asked.{numbers-three, lent-three, lent-twelve, pages-own, hidden, no_room, nothing}
 use Rattle.callers_stepped.proofs.lines.line_answer.Goals as goal
 

@@ -1,5 +1,4 @@
 -- Rests on line_answer for the refusals and on step_line for the dots.
-use borrow.Author.Rules.{rules}
 use Rattle.callers_stepped.specs.Asked.{kept, steppable, stepped}
 use Rattle.callers_stepped.proofs.lines.line_by_steps.Goals as goal
 

@@ -2,21 +2,15 @@
 use Prim.Native.Nat.{ℕ, ◌+◌, ◌≤◌, ◌<◌, ◌-◌, ◌*◌}
 use mathlib.Core.Path.{◌≡◌}
 use mathlib.Core.List.{List, ◌++◌, append-nil}
-use mathlib.Core.Path.{◌∙◌}
 use Rattle.std.proofs.Common.{take_all}
 use Rattle.std.proofs.Math.Seq.{take-length}
 use native.Mathlib.Omega.{arith}
-use borrow.Author.Rules.{rules}
 use lib.ListN.{take, drop, length, length-take, length-drop, drop_of_length-le}
-use Rattle.lists.specs.Fill.{Filling}
-use Rattle.lists.specs.Join.{joined, stretch-inside, join-begins, join-turn, join-ends}
-use Rattle.shape.specs.Font.{font_of}
-use Rattle.line.specs.Line.{column_dots, line_dots}
-use Rattle.step.specs.After.{after}
+use Rattle.lists.specs.Join.{stretch-inside, join-begins, join-turn, join-ends}
+use Rattle.line.specs.Line.{line_dots}
 use Rattle.timing.specs.Fields.{hact_of}
-use Rattle.agreement.specs.Lines.{clock_of}
 use Rattle.timing.specs.Decoded.{hact-is}
-use Rattle.callers_stepped.specs.Lines.{width, turns_fit, each, line-begins, goes_on, wide, enough, copied}
+use Rattle.callers_stepped.specs.Lines.{turns_fit, each, line-begins, goes_on, wide, enough, copied}
 use Rattle.callers_stepped.proofs.lines.step_line.Goals as goal
 
 -- a part that was put, with what stood behind it up to the end of the buffer
@@ -25,10 +19,10 @@ put new rest d n h = rw (take_all n rest h, drop_of_length-le rest {i = n} h, ap
 
 pub loop-c-init : goal.loop-c-init
 loop-c-init c = (
-      omega arith,
-      line-begins c.requires _ c.ranges.field.fits c.clock_of-first.ensures c.feldrime_state_at-asked.ensures,
-      join-begins _ _ (each c.requires _ c.ranges.field.fits) _ _,
-    )
+  omega arith,
+  line-begins c.requires _ c.ranges.field.fits c.clock_of-first.ensures c.feldrime_state_at-asked.ensures,
+  join-begins _ _ (each c.requires _ c.ranges.field.fits) _ _,
+)
 
 pub slice_bounds-copy_from_slice-end : goal.slice_bounds-copy_from_slice-end
 slice_bounds-copy_from_slice-end c =
@@ -76,7 +70,7 @@ loop-c-preserved c =
     let part = take (length c.loop-c.out - at) rest in
     let wide' : d ≡ length (take d c.step_numbers-s.result.answer.dots) = wide c.requires _ c.ranges.field.fits _ inv.1 step shown in
     let turn = join-turn _ _ (each c.requires _ c.ranges.field.fits) (c.copy_from_slice.new.self ++ drop d part) _ _ inv.2 c.loop-c-test.true roomy
-        (copied c.requires _ c.ranges.field.fits _ inv.1 step shown part (rw (c.copy_from_slice.ensures.after, take-length (take d c.step_numbers-s.result.answer.dots), ← wide'))) in (
+    (copied c.requires _ c.ranges.field.fits _ inv.1 step shown part (rw (c.copy_from_slice.ensures.after, take-length (take d c.step_numbers-s.result.answer.dots), ← wide'))) in (
       omega (arith, c.loop-c-test.true),
       goes_on c.requires _ c.ranges.field.fits _ inv.1 step,
       rw k (rw (put c.copy_from_slice.new.self rest d (length c.loop-c.out - at) all) at turn),

@@ -1,19 +1,14 @@
 -- Rests on the loop that lends each turn its own stretch (lists Join), one step a turn from the state.
-use Prim.Native.Nat.{ℕ, ◌+◌, ◌≤◌, ◌<◌, ◌-◌, ◌*◌}
+use Prim.Native.Nat.{◌≤◌, ◌-◌, ◌*◌}
 use mathlib.Core.Path.{◌≡◌}
 use mathlib.Core.List.{◌++◌}
-use native.Mathlib.Omega.{arith}
-use borrow.Author.Rules.{rules}
-use lib.ListN.{drop, length, length-take, length-drop}
+use lib.ListN.{drop}
 use Rattle.lists.specs.Fill.{Filling}
-use Rattle.lists.specs.Join.{joined, stretch-inside, join-begins, join-turn, join-ends}
+use Rattle.lists.specs.Join.{joined}
 use Rattle.shape.specs.Font.{font_of}
-use Rattle.line.specs.Line.{column_dots, line_dots}
+use Rattle.line.specs.Line.{column_dots}
 use Rattle.step.specs.After.{after}
-use Rattle.timing.specs.Fields.{hact_of}
 use Rattle.agreement.specs.Lines.{clock_of}
-use Rattle.timing.specs.Decoded.{hact-is}
-use Rattle.callers_stepped.specs.Lines.{width, turns_fit, each, line-begins, goes_on, wide, enough, copied}
 use Rattle.callers_stepped.proofs.lines.step_line.Given as goal
 
 abbrev pub invariant-loop-c : goal.invariant-loop-c

@@ -1,5 +1,4 @@
 -- Rests on moved-drawn: a move, refused or not, leaves the picture.
-use borrow.Author.Rules.{rules}
 use Rattle.callers_stepped.specs.Moved.{moved-drawn}
 use Rattle.callers_stepped.proofs.moved.moved_over_picture.Goals as goal
 

@@ -1,5 +1,4 @@
 -- Rests on table-stepped and sheet-stepped.
-use borrow.Author.Rules.{rules}
 use Rattle.callers_stepped.specs.Moved.{table-stepped, sheet-stepped}
 use Rattle.callers_stepped.proofs.moved.moved_step.Goals as goal
 

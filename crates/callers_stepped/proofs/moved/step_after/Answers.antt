@@ -1,4 +1,3 @@
-use borrow.Author.Rules.{rules}
 use Rattle.callers_stepped.specs.Moved.{stepped-after}
 use Rattle.callers_stepped.proofs.moved.step_after.Goals as goal
 

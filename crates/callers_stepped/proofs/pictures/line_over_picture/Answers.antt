@@ -2,7 +2,6 @@
 use Prim.Native.Nat.{◌+◌, ◌*◌, ◌≤◌}
 use mathlib.Core.Path.{◌≡◌, sym, ap, ◌∙◌}
 use native.Mathlib.Omega.{arith}
-use borrow.Author.Rules.{rules}
 use lib.ListN.{length}
 use Rattle.shape.specs.Font.{Font, font_of}
 use Rattle.line.specs.Line.{line_length}
@@ -10,7 +9,7 @@ use Rattle.numbers.specs.Numbers.{numbers_board}
 use Rattle.feldrime.specs.declared.Answer.{Answer}
 use Rattle.feldrime.specs.Answers.{answer_of}
 use Rattle.feldrime.specs.PictureDraw.{picture_draw_check}
-use Rattle.callers_stepped.specs.Pictures.{place-small, place_in, stays}
+use Rattle.callers_stepped.specs.Pictures.{place_in, stays}
 use Rattle.callers_stepped.proofs.pictures.line_over_picture.Goals as goal
 
 pub slice_bounds-feldrime_line_draw-count : goal.slice_bounds-feldrime_line_draw-count

@@ -1,9 +1,6 @@
 -- Rests on the contracts of the step and of `feldrime_state_at`: a loop over `goes`, ended by `stepped`.
-use Prim.Native.Nat.{◌≤◌, ◌-◌}
-use mathlib.Core.Path.{◌≡◌, refl}
+use mathlib.Core.Path.{refl}
 use native.Mathlib.Omega.{arith}
-use borrow.Author.Rules.{rules}
-use Rattle.shape.specs.Font.{font_of}
 use Rattle.callers_stepped.specs.States.{on, not-stepped, stepped, goes}
 use Rattle.callers_stepped.proofs.states.stepped_to.Goals as goal
 
