@@ -7,7 +7,6 @@ use Rattle.std.proofs.Math.Path.{refl, ap}
 use Rattle.std.proofs.Common.{sym, ◌∙◌, eq-eqb}
 use Rattle.std.proofs.Math.Bool.{true, false}
 use mathlib.Core.List.{List, ◌++◌}
-use Rattle.std.proofs.Math.Arith.{digits_lt}
 use Rattle.std.proofs.Math.Dec.{ltb, leb}
 use Rattle.std.proofs.Math.ListN.{take, drop}
 use Rattle.lists.specs.Choice.{pick}
@@ -20,10 +19,10 @@ use Rattle.refusal.specs.Laws.{done-is, passed}
 use Rattle.raster.specs.Moves.{Inside}
 use Rattle.board.specs.declared.Board.{Board}
 use Rattle.board.specs.State.{clock_zero, power_of}
-use Rattle.timing.specs.Fields.{hact_of, lines_of, rows_of, visible_of, table_of, buffer_of}
+use Rattle.timing.specs.Fields.{hact_of, lines_of, rows_of, visible_of, buffer_of}
 use Rattle.timing.specs.Check.{page_check, size_of}
 use Rattle.timing.specs.Laws.{call-passed, call_ok, call-page}
-use Rattle.fetch.specs.Rows.{entry_of, fetched_of}
+use Rattle.fetch.specs.Rows.{fetched_of}
 use Rattle.fetch.specs.Run.{span_of}
 use Rattle.fetch.specs.RowCells.{cells_put}
 use Rattle.fetch.specs.Laws.{span-number}
@@ -51,9 +50,9 @@ use Rattle.feldrime.specs.Step.{numbered, step_numbers}
 use Rattle.agreement.specs.Steps.{at-once-anywhere}
 use Rattle.agreement.specs.Files.{zero_ok}
 use Rattle.agreement.specs.Lines.{clock_of, shown_at, DrawnFrom, draw-answers, same_line}
-use Rattle.agreement.specs.Frames.{frame_clocks, every-frame, frame-at-most, stays-inside}
+use Rattle.agreement.specs.Frames.{frame_clocks}
 use Rattle.agreement.specs.Pictures.{picture-answers, picture-by-lines, picture-by-steps, picture-from-cells}
-use Rattle.agreement.specs.Rows.{line_of, follows, nth_cell, nth_column, Shown, row-from-table, row-from-start, run-answers, run-shown, cells-shown}
+use Rattle.agreement.specs.Rows.{line_of, follows, nth_cell, nth_column, run-answers, run-shown, cells-shown}
 
 -- a refusal whose number is 0 is none
 pub zero-done : (r : Refusal) → number_of r ≡ 0 → r ≡ Done
@@ -149,7 +148,7 @@ module _ (numbers chars attrs words flags unshifted shifted groups : List ℕ) w
     unfolding board_for
     board-is = rw check-ok
 
-    step_ok : step_check b chars attrs f ≡ Done
+    pub step_ok : step_check b chars attrs f ≡ Done
     unfolding after_c numbered
     step_ok = step-taken b chars attrs f (zero-done (step_of b chars attrs f).refusal (rw board-is at first_step))
 
@@ -174,10 +173,10 @@ module _ (numbers chars attrs words flags unshifted shifted groups : List ℕ) w
     unfolding size_for size_of numbers_check
     size-from-c = rw (numbers-passed numbers check-ok, page-fine)
 
-    line-in : (l : ℕ) → l < (size_for numbers).lines → l < (visible_of b.page).0
+    pub line-in : (l : ℕ) → l < (size_for numbers).lines → l < (visible_of b.page).0
     line-in l h = rw size-from-c at h
 
-    room_in : (room : ℕ) → (size_for numbers).dots ≤ room → line_length b ≤ room
+    pub room_in : (room : ℕ) → (size_for numbers).dots ≤ room → line_length b ≤ room
     room_in room h = rw size-from-c at h
 
     -- and where these do, feldrime_line_draw does, for every visible line and any buffer with room for it
@@ -185,7 +184,7 @@ module _ (numbers chars attrs words flags unshifted shifted groups : List ℕ) w
     unfolding line_draw_check
     draw-answers-from-c l hl room h = rw (numbers-passed numbers check-ok, draw-answers b chars attrs f step_ok l (line-in l hl) room (room_in room h))
 
-    drawn-is : (l field : ℕ) (out : List ℕ) → drawn_c l field out ≡ drawn_of b chars attrs f l field out
+    pub drawn-is : (l field : ℕ) (out : List ℕ) → drawn_c l field out ≡ drawn_of b chars attrs f l field out
     unfolding line_drawn
     drawn-is l field out = rw (numbers-passed numbers check-ok)
 
@@ -254,22 +253,6 @@ module _ (numbers chars attrs words flags unshifted shifted groups : List ℕ) w
       pub nowhere-else : (after_c n).place.line.0 ≡ 0 → (after_c n).place.clock.0 ≡ 0 → n % frame_clocks b ≡ 0
       pub counted : (after_c n).place.field ≡ n / frame_clocks b % 256
 
-    -- [demand frame]
-    -- so every frame takes exactly its clocks
-    pub every-frame-from-c : (n : ℕ) → FramedC n
-    every-frame-from-c n =
-        let framed = every-frame b chars attrs f step_ok n in
-        record {
-          ends = λ e. rw (steps-from-c n) (framed.ends e);
-          nowhere-else = λ p q. framed.nowhere-else (rw (steps-from-c n) at p) (rw (steps-from-c n) at q);
-          counted = rw (steps-from-c n) framed.counted;
-        }
-
-    -- [demand frame]
-    -- at most 826,752
-    pub frame-at-most-from-c : frame_clocks b ≤ 826752
-    frame-at-most-from-c = frame-at-most b chars attrs f step_ok
-
     -- ---- the cells of a row
 
     -- what feldrime_line_draw puts of a line, in every field and into any buffer that has room, is the dots of the cells at these addresses, end to end
@@ -279,7 +262,7 @@ module _ (numbers chars attrs words flags unshifted shifted groups : List ℕ) w
         ≡ joined 0 (hact_of b.page) (λ c. shown_at b chars attrs f line field c (attributes_at b.page chars attrs (row_for b line) c) (address c))
         ++ drop (size_for numbers).dots out
 
-    drawn-from-c : (line : ℕ) (address : ℕ → ℕ) → DrawnFrom b chars attrs f line address → DrawnFromC line address
+    pub drawn-from-c : (line : ℕ) (address : ℕ → ℕ) → DrawnFrom b chars attrs f line address → DrawnFromC line address
     drawn-from-c line address d field out room = drawn-is line field out ∙ rw size-from-c (d field out (room_in (length out) room))
 
     -- table off, first ≤ screen start 1 ≤ last: every address that feldrime_step answers on an active clock of line l of
@@ -287,22 +270,6 @@ module _ (numbers chars attrs words flags unshifted shifted groups : List ℕ) w
     pub record StaysC (k l : ℕ) : Type 0 where
       pub stepped : (c : ℕ) → c < hact_of b.page → Inside (buffer_of b.page) (step_c (clock_of b k l c)).address
       pub drawn : DrawnFromC l (λ c. (step_c (clock_of b k l c)).address)
-
-    -- [demand inside]
-    -- so no fetch leaves the buffer
-    pub stays-inside-from-c : table_of b.page ≡ false → Inside (buffer_of b.page) b.page.starts.start1
-        → (k l : ℕ) → l < (size_for numbers).lines → StaysC k l
-    unfolding numbered
-    stays-inside-from-c t i k l hl =
-        let s = stays-inside b chars attrs f step_ok t i k l (line-in l hl) in
-        record {
-          stepped = λ c hc. rw (steps-from-c (clock_of b k l c)) (s.stepped c hc);
-          drawn = λ field out room.
-              drawn-from-c l _ s.drawn field out room
-              ∙ ap (λ (d : List ℕ). d ++ drop (size_for numbers).dots out)
-              (same-joined 0 (hact_of b.page) _ _ (λ c _ h.
-              ap (λ (x : Board). shown_at b chars attrs f l field c (attributes_at b.page chars attrs (row_for b l) c) (step_of x chars attrs f).address) (sym (steps-from-c (clock_of b k l c)))));
-        }
 
     -- line l of row r, where the row's cells follow from an address: the addresses that feldrime_step answers in every frame, and the cells whose dots
     -- feldrime_line_draw puts
@@ -312,24 +279,6 @@ module _ (numbers chars attrs words flags unshifted shifted groups : List ℕ) w
       pub drawn : DrawnFromC (line_of b r l) (λ c. follows b start (nth_cell b chars r c))
 
     module _ (r l : ℕ) (hr : r < rows_of b.page) (hl : l < lines_of b.page) where
-      shown-from-c : (start : ℕ) → Shown b chars attrs f step_ok r l hr hl start → ShownC r l start
-      unfolding numbered
-      shown-from-c start s = record {
-        stepped = λ k c h. rw (steps-from-c (clock_of b k (line_of b r l) c)) (s.stepped k c h);
-        draw-done = draw-answers-from-c (line_of b r l) (rw size-from-c (digits_lt hr hl));
-        drawn = drawn-from-c (line_of b r l) _ s.drawn;
-      }
-
-      -- [fetch start]
-      -- with the row table on they follow from the row's own entry, whatever the rest of memory holds
-      pub row-from-table-from-c : table_of b.page ≡ true → ShownC r l (entry_of b.page chars r)
-      row-from-table-from-c t = shown-from-c (entry_of b.page chars r) (row-from-table b chars attrs f step_ok r l hr hl t)
-
-      -- [fetch start]
-      -- with it off, from the cell r x HACT moves after screen start 1
-      pub row-from-start-from-c : table_of b.page ≡ false → ShownC r l (follows b b.page.starts.start1 (r * hact_of b.page))
-      row-from-start-from-c t = shown-from-c _ (row-from-start b chars attrs f step_ok r l hr hl t)
-
       run_is : run_for numbers chars r ≡ run_answer Done (span_of b chars r).start (span_of b chars r).count
       unfolding run_for
       run_is =

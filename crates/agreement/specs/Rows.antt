@@ -19,12 +19,12 @@ use Rattle.raster.specs.Wide.{code_of, is_wide}
 use Rattle.board.specs.declared.Board.{Board}
 use Rattle.board.specs.Modes.{field_mode}
 use Rattle.board.specs.Range.{memory_refused}
-use Rattle.timing.specs.Fields.{hact_of, lines_of, rows_of, visible_of, table_of, buffer_of}
+use Rattle.timing.specs.Fields.{hact_of, lines_of, rows_of, visible_of, buffer_of}
 use Rattle.timing.specs.Laws.{range-ok, call_ok}
-use Rattle.fetch.specs.Rows.{entry_of, code_at, row_start, cell_at, fetched_of, fetch_at}
+use Rattle.fetch.specs.Rows.{code_at, cell_at, fetched_of, fetch_at}
 use Rattle.fetch.specs.Run.{run_check, span_of}
 use Rattle.fetch.specs.RowCells.{cells_of, cells_check, row_of, cells_given, cells_put}
-use Rattle.fetch.specs.Laws.{cell-shown, start-table, start-sheet}
+use Rattle.fetch.specs.Laws.{cell-shown}
 use Rattle.fetch.specs.RowLaws.{cells-as-run, cells_at, run_at}
 use Rattle.raster.specs.Latch.{latched}
 use Rattle.latch.specs.Held.{attributes_at}
@@ -68,41 +68,20 @@ cell_in b chars r c h = go (is_wide (code_of (code_at b.page chars r)))
 
 module _ (b : Board) (chars attrs : List ℕ) (f : Font) (ok : step_check b chars attrs f ≡ Done) (r l : ℕ)
     (hr : r < rows_of b.page) (hl : l < lines_of b.page) where
-  row_is : line_of b r l / lines_of b.page ≡ r
+  pub row_is : line_of b r l / lines_of b.page ≡ r
   row_is = digits_div r hl
 
-  line-visible : line_of b r l < (visible_of b.page).0
+  pub line-visible : line_of b r l < (visible_of b.page).0
   line-visible = digits_lt hr hl
 
   -- what `step` puts out on line l of row r
-  fetched : (k c : ℕ) → c < hact_of b.page → address_at b chars attrs f k (line_of b r l) c ≡ cell_at b.page chars r c
+  pub fetched : (k c : ℕ) → c < hact_of b.page → address_at b chars attrs f k (line_of b r l) c ≡ cell_at b.page chars r c
   fetched k c h = address_is b chars attrs f ok k (line_of b r l) c line-visible h ∙ rw row_is
 
   -- what `step` puts out and what `draw_line` writes on line l of row r, where the row's cells follow from an address
   pub record Shown (start : ℕ) : Type 0 where
     pub stepped : (k c : ℕ) → c < hact_of b.page → address_at b chars attrs f k (line_of b r l) c ≡ follows b start (nth_cell b chars r c)
     pub drawn : DrawnFrom b chars attrs f (line_of b r l) (λ c. follows b start (nth_cell b chars r c))
-
-  -- what column c shows, from the row's start
-  from_start : (start : ℕ) → start ≡ row_start b.page chars r → (c : ℕ) → c < hact_of b.page → follows b start (nth_cell b chars r c) ≡ cell_at b.page chars r c
-  unfolding fetch_at
-  from_start start begins c h = rw begins (cell-shown b.page chars r c h)
-
-  shown : (start : ℕ) → start ≡ row_start b.page chars r → Shown start
-  shown start begins = record {
-    stepped = λ k c h. fetched k c h ∙ sym (from_start start begins c h);
-    drawn = drawn-from b chars attrs f ok (line_of b r l) line-visible _ (λ c h. rw row_is (from_start start begins c h));
-  }
-
-  -- [fetch start]
-  -- with the table on: they follow from the row's entry
-  pub row-from-table : table_of b.page ≡ true → Shown (entry_of b.page chars r)
-  row-from-table t = shown (entry_of b.page chars r) (start-table b.page chars r t)
-
-  -- [fetch start]
-  -- with it off: from the cell r x HACT moves after screen start 1
-  pub row-from-start : table_of b.page ≡ false → Shown (follows b b.page.starts.start1 (r * hact_of b.page))
-  row-from-start t = shown (follows b b.page.starts.start1 (r * hact_of b.page)) (start-sheet b.page chars r t)
 
   -- in character mode a cell's own byte gives its attributes, and nothing that stands before it plays a part in its dots
   pub plain_row : field_mode b.page ≡ false → (start : ℕ) → Shown start → (field : ℕ) (out : List ℕ) → line_length b ≤ length out

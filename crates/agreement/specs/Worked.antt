@@ -3,7 +3,7 @@ use Rattle.std.specs.Prelude.{ℕ, ◌+◌, ◌*◌, ◌-◌, ◌<◌, ◌≡◌
 use Rattle.std.proofs.Common.{arith, ne_eqb}
 use Rattle.lists.specs.Search.{any_below, any_some, first-lt}
 use Rattle.refusal.specs.declared.Refusal.TheVariants.{Done}
-use Rattle.raster.specs.Moves.{Inside, advance_by, to_last}
+use Rattle.raster.specs.Moves.{advance_by, to_last}
 use Rattle.raster.specs.Latch.{last_set}
 use Rattle.board.specs.declared.Page.{Page}
 use Rattle.board.specs.declared.Board.{Board}
@@ -18,7 +18,6 @@ use Rattle.shape.specs.Font.{Font, font_of, groups_refused}
 use Rattle.catalogue.specs.ToTable.{own_check, fetches_cell, table_places, unfetched_at, table_place, as_table_check}
 use Rattle.catalogue.specs.ToSheet.{follows_row, rows_apart, as_sheet_check}
 use Rattle.step.specs.Step.{step_check}
-use Rattle.step.specs.After.{after}
 use Rattle.files.specs.File.{read_check, file_check, length_refused, long_at, head_of, file_of}
 use Rattle.files.specs.Page.{word_at, page_at, tail_of}
 use Rattle.files.specs.FontFile.{font_length, font_check, font_head}
@@ -27,19 +26,16 @@ use Rattle.numbers.specs.Numbers.{numbers_of_check}
 use Rattle.numbers.specs.Files.{page_read_size}
 use Rattle.feldrime.specs.Answers.{answer_of}
 use Rattle.agreement.specs.Cases.{page}
-use Rattle.agreement.specs.Frames.{frame_clocks, every-frame}
-use Rattle.agreement.specs.Lines.{address_at}
-use Rattle.agreement.specs.Rows.{row-from-table, row-from-start}
 use Rattle.agreement.specs.FilesFromC.{answer_c, accepted-steps}
 
 -- A1's page, memories and font of zeros
-pub sheet : Board
+unfoldable pub sheet : Board
 sheet = board_of (page 35 80 0 16383 0 0)
 
-pub memory : List ℕ
+unfoldable pub memory : List ℕ
 memory = replicate 16384 0
 
-pub font : Font
+unfoldable pub font : Font
 font = font_of (replicate 1152 0) (replicate 128 0) (replicate 9 0) (replicate 9 0) []
 
 pub sheet-taken : step_check sheet memory memory font ≡ Done
@@ -51,34 +47,13 @@ pub sheet-saved : numbers_of_check sheet 32 ≡ Done
 unfolding sheet page numbers_of_check page_check address_refused coded_of table_of hbp_of
 sheet-saved = refl
 
--- a frame's clocks on, by single steps of the board, frame 1 begins
-pub after-a-frame : ((after sheet memory memory font (frame_clocks sheet)).place.line.0 ≡ 0)
-    × ((after sheet memory memory font (frame_clocks sheet)).place.clock.0 ≡ 0)
-    × ((after sheet memory memory font (frame_clocks sheet)).place.field ≡ 1)
-unfolding sheet page lines_of vsync_of counts_of
-after-a-frame =
-    let framed = every-frame sheet memory memory font sheet-taken (frame_clocks sheet) in
-    ((framed.ends refl).0, (framed.ends refl).1, framed.counted)
-
--- 256 frames on the field counter is back at 0
-pub after-256-frames : (after sheet memory memory font (256 * frame_clocks sheet)).place.field ≡ 0
-unfolding sheet page lines_of vsync_of counts_of
-after-256-frames = (every-frame sheet memory memory font sheet-taken (256 * frame_clocks sheet)).counted
-
 -- A7, by a single step of the board: with screen start 1 below the buffer a cell outside it is fetched, so `stays-inside` has to ask
-pub low : Board
+unfoldable pub low : Board
 low = board_of (page 35 80 2048 3071 0 0)
 
 pub low-taken : step_check low memory memory font ≡ Done
 unfolding low memory font groups_refused page call_check page_check address_refused coded_of lines_of table_of hbp_of vsync_of state_refused layout_of
 low-taken = refl
-
-pub outside : Inside (buffer_of low.page) (address_at low memory memory font 0 0 0) → ⊥
-unfolding low page coded_of lines_of table_of code_at buffer_of advance_by to_last
-outside i =
-    let shown = row-from-start low memory memory font low-taken 0 0 (omega arith) (omega arith) refl in
-    let a : address_at low memory memory font 0 0 0 ≡ 0 = shown.stepped 0 0 (omega arith) in
-    absurd (omega (arith, a, i.above))
 
 -- A1's page and the font as files, and buffers of zeros to read them into: neither is refused, so neither is a step
 abbrev pub file : List ℕ
@@ -114,26 +89,19 @@ catalogued rows hact codes table version switches = record {
   video = record { dots = record { 0 = 8 }; strike = 0; chip = 0 };
 }
 
-pub coded : Board
+unfoldable pub coded : Board
 coded = board_of (catalogued 24 80 1 1 2 17)
 
 -- every entry is 4040 hex: cell 64, double width; every cell sets reverse
-pub entries : List ℕ
+unfoldable pub entries : List ℕ
 entries = replicate 16384 64
 
-pub reversed : List ℕ
+unfoldable pub reversed : List ℕ
 reversed = replicate 16384 129
 
 pub coded-taken : step_check coded entries reversed font ≡ Done
 unfolding coded entries reversed font groups_refused call_check page_check address_refused coded_of lines_of table_of hbp_of vsync_of state_refused layout_of
 coded-taken = refl
-
--- so the promise on rows speaks of cell 64 and of double width in row 5, and attributes run on
-pub coded-row : (address_at coded entries reversed font 0 50 0 ≡ 64) × (code_at coded.page entries 5 ≡ 1)
-unfolding coded entries coded_of lines_of table_of code_at entry_of advance_by to_last buffer_of
-coded-row =
-    let shown = row-from-table coded entries reversed font coded-taken 5 0 (omega arith) (omega arith) refl in
-    (shown.stepped 0 0 (omega arith), refl)
 
 pub coded-held : held_at coded.page entries reversed 0 1 ≡ 129
 unfolding coded entries reversed held_at last_set cell_at fetch_at moved_of fetched_of row_start lines_of vsync_of counts_of coded_of table_of code_at entry_of advance_by to_last buffer_of
