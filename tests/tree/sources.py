@@ -103,8 +103,8 @@ def tags_in(line):  # the tags, and the words behind them
     return [m[1] for m in found], line[found[-1].end():].strip() if found else ''
 
 
-def declarations(sentences, complaints):  # those of specs; a tag's words go into sentences
-    for path in in_order('specs/*.antt'):
+def declarations(sentences, complaints):  # those of specs, and theorems in proofs; a tag's words go into sentences
+    for path in in_order('specs/*.antt') + in_order('proofs/*.antt'):
         tags, comment = [], []
         for number, line in enumerate(path.read_text().splitlines(), 1):
             found, words = tags_in(line) if line.lstrip().startswith('--') else ([], '')

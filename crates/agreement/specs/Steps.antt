@@ -21,13 +21,13 @@ module _ (b : Board) (chars attrs : List ℕ) (f : Font) (ok : step_check b char
   state-ok-at : (n : ℕ) → state_check (at_clock b chars attrs f ok n) chars attrs ≡ Done
   state-ok-at n = call_ok (at_clock b chars attrs f ok n) (wrong_size (memories_refused (length chars) (length attrs))) memories-ok (page-ok b chars attrs f ok) (range-ok (at_clock b chars attrs f ok n) (clock-in-range b chars attrs f ok n))
 
-  -- [demand at_once] the state for clock n is the state after n single steps
+  -- [demand at-once] the state for clock n is the state after n single steps
   -- the state for clock n answers 0 and is the board after n single steps from clock 0
   pub at_once : (n : ℕ) → ((state_of b chars attrs n).refusal ≡ Done) × ((state_of b chars attrs n).board ≡ after b chars attrs f n)
   unfolding state_of
   at_once n = (state-ok, rw state-ok (sym (steps-are b chars attrs f ok n)))
 
-  -- [demand at_once]
+  -- [demand at-once]
   -- the board that is asked may itself stand at any clock m
   pub at-once-anywhere : (m n : ℕ) → ((state_of (after b chars attrs f m) chars attrs n).refusal ≡ Done)
       × ((state_of (after b chars attrs f m) chars attrs n).board ≡ after b chars attrs f n)
