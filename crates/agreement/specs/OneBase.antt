@@ -259,7 +259,7 @@ pub state-refused-one : (b : Board) → OneAnswer (λ r. r ≡ state_refused b)
 state-refused-one b = only _
 
 pub call-check-one : (b : Board) (lent : Refusal) (asked room : Bool) → OneAnswer (λ r. r ≡ call_check b lent asked room)
-call-check-one b size asked room = only _
+call-check-one b lent asked room = only _
 
 -- ---- `registers`
 
