@@ -10,8 +10,8 @@
 
 #include "feldrime.h"
 
-/* Of crates/listing_program: writes what it makes of the input, and says how that ended. `unread` is not 0 where reading
- * failed before the input ended or was full. */
+/* Of crates/listing_program: writes what it makes of the input, and says how that ended. `unread` is not 0 where
+ * reading failed before the input ended or was full. */
 uint32_t feldrime_listing(const uint8_t *input, size_t count, uint8_t unread);
 enum { WRITTEN, UNREAD };
 

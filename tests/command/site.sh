@@ -152,7 +152,8 @@ ends 1 "the library must be built first, and Rattle's command rt is missing" "${
 cat > "$work/bin/rt" << 'END'
 #!/bin/sh
 [ "$1" = lib ] || exit 2
-printf '%s\n' "rt: chose --jobs 2 for one" "logic=proved functions=1" "rt: chose --jobs 2 for two" "logic=$verdict functions=2"
+printf '%s\n' "rt: chose --jobs 2 for one" "logic=proved functions=1"
+printf '%s\n' "rt: chose --jobs 2 for two" "logic=$verdict functions=2"
 [ "$verdict" = proved ] || exit 1
 printf '%s\n' "rt: chose --jobs 2 for feldrime_c" "logic=proved functions=3"
 mkdir -p out

@@ -1,9 +1,9 @@
 """refused.py [CRATE..]: tries each wrong program of crates/CRATE/must-fail by a check of its own, reads why the prover
 refused it, and says which were refused for another reason than a false fact. Run by tests/refused.
 
-`rt ci` says of an edit no more than that the crate is not proved with it. Here each edit is put into a copy of its crate
-and of those below, and the log of `rt check` there is kept as target/must-fail/CRATE/LABEL.log. Only what an edit changes
-is proved again. FELDRIME_CHECKS says how many crates are tried at a time.
+`rt ci` says of an edit no more than that the crate is not proved with it. Here each edit is put into a copy of its
+crate and of those below, and the log of `rt check` there is kept as target/must-fail/CRATE/LABEL.log. Only what an edit
+changes is proved again. FELDRIME_CHECKS says how many crates are tried at a time.
 
 An edit is one wrong program, LABEL.edit, or several in together.edit, which are tried by one check. There each has
 a line `# LABEL, FUNCTION: ..`, and a function stands there once.
@@ -12,8 +12,8 @@ The first error counts, of several programs the first in the proof of each one's
 more than its consequence. Where a function has no answer in proofs/ to the goal that is now false, the first note about
 a goal counts. Where that error or note is a limit of the prover, or says that the old proof no longer fits the edited
 code, the log does not show that the contract rules the slip out, unless a note on the function says that the prover has
-values at which a goal is false. REASONS has the prover's words for these. An error or note of any other kind counts as a
-fact, so that a new way of failing has to be added here.
+values at which a goal is false. REASONS has the prover's words for these. An error or note of any other kind counts as
+a fact, so that a new way of failing has to be added here.
 
 tests/tree/refused.samples has the prover's own words, each under the reason that has to be found in them. So this
 program is tried each time it runs, and each pattern has a sample."""
@@ -144,7 +144,8 @@ def try_crate(crate, edits, lines):  # leaves the log of each edit, and returns 
             for path, text in texts.items():
                 path.write_text(text)
             with log.open('w') as out:
-                subprocess.run(['rt', 'check'], cwd=folder, stdout=out, stderr=subprocess.STDOUT, stdin=subprocess.DEVNULL)
+                how = {'cwd': folder, 'stdin': subprocess.DEVNULL, 'stdout': out, 'stderr': subprocess.STDOUT}
+                subprocess.run(['rt', 'check'], **how)
             for path, text in kept.items():
                 path.write_text(text)
     return wrong
@@ -162,8 +163,8 @@ for reason, pattern in sorted(wanted - seen, key=str):
     wrong.append(f'{SAMPLES}: no sample of {reason}' + (f', {pattern}' if pattern else ''))
 
 lines = below()
-edits = {name: sorted(Path('crates', name, 'must-fail').glob('*.edit')) for name in lines if sys.argv[1:] in ([], [name])
-         or name in sys.argv[1:]}
+asked = sys.argv[1:] or list(lines)
+edits = {name: sorted(Path('crates', name, 'must-fail').glob('*.edit')) for name in lines if name in asked}
 edits = {name: found for name, found in edits.items() if found}
 with ThreadPoolExecutor(int(os.environ.get('FELDRIME_CHECKS', 1))) as pool:
     for found in pool.map(lambda name: try_crate(name, edits[name], lines), edits):

@@ -84,7 +84,7 @@ def comment_above(text, start, mark):  # the lines of a comment, without attribu
     return ' '.join(lines)
 
 
-def in_order(pattern, kind=''):  # the files of all crates of a kind, libraries or ' staticlib', in the order of crates.txt
+def in_order(pattern, kind=''):  # the files of all libraries, or ' staticlib', in the order of crates.txt
     crates = re.findall(rf'^(\w+){kind}:', Path('crates.txt').read_text(), re.M)
     return [path for crate in crates for path in sorted(Path('crates', crate).glob(pattern))]
 
@@ -115,7 +115,8 @@ def declarations(sentences, complaints):  # those of specs, and theorems in proo
                 comment.append(line.strip()[2:].strip())
             elif (m := DECLARED.match(line)) and not line.startswith('use ') and not line.lstrip().startswith('module'):
                 name = m[2] or m[3]
-                yield Declared(path.parts[1], path.stem, name, 'definition' if m[1] or m[2] else 'law', ' '.join(comment), tags, number)
+                kind = 'definition' if m[1] or m[2] else 'law'
+                yield Declared(path.parts[1], path.stem, name, kind, ' '.join(comment), tags, number)
                 tags, comment = [], []
             else:
                 comment = []

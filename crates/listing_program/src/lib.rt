@@ -1,6 +1,6 @@
 #![tactic(auto)]
-// The listing program but for C's `main` (programs/listing). That hands over what standard input holds: a page file, then
-// a font file. The listing or the refusal is written to standard output.
+// The listing program but for C's `main` (programs/listing). That hands over what standard input holds: a page file,
+// then a font file. The listing or the refusal is written to standard output.
 ghost use Rattle.std.specs.Prelude.{◌≡◌, ◌≤◌, length, min};
 
 use listing::{Listed, listing_head, listing_line};
