@@ -1,4 +1,4 @@
-/* feldrime-listing: C's main. It reads the input; all else of the program is proved, in crates/listing_program. */
+/* feldrime-listing: C's main, which reads the input. All else of the program is proved, in crates/listing_program. */
 #define _POSIX_C_SOURCE 200809L
 #include <errno.h>
 #include <getopt.h>
@@ -10,13 +10,13 @@
 
 #include "feldrime.h"
 
-/* Of crates/listing_program: writes what it makes of the input, and says how that ended. `unread` is not 0 where
- * reading failed before the input ended or was full. */
-uint32_t feldrime_listing(const uint8_t *input, size_t count, uint8_t unread);
-enum { WRITTEN, UNREAD };
+/* Of crates/listing_program: each writes, and says how that ended. The first does so if the page file is refused. */
+uint32_t feldrime_listing_page(const uint8_t *page, size_t page_count);
+uint32_t feldrime_listing(const uint8_t *page, size_t page_count, const uint8_t *font, size_t font_count);
+enum { WRITTEN, UNREAD, UNWRITTEN, ACCEPTED };
 
-/* Full, it has a byte more than the longest page file and the longest font file, so that a longer one shows. */
-static uint8_t input[FELDRIME_PAGE_FILE + FELDRIME_FONT_FILE + 1];
+/* One byte more than the longest font file has, so that a longer one shows. */
+static uint8_t page[FELDRIME_PAGE_FILE], font[FELDRIME_FONT_FILE + 1];
 
 static const char help[] =
     "Usage: cat PAGE FONT | feldrime-listing [OPTION]\n"
@@ -52,36 +52,62 @@ static int hint_at_help(void)
     return 2;
 }
 
-/* Reads until the input is full or ends, or reading fails: then `why` is its errno, else 0. */
-static size_t read_input(int *why)
+/* Reads until the buffer is full or the input ends. 0 if reading fails. */
+static int read_input(uint8_t *buffer, size_t size, size_t *count)
 {
-    size_t count = 0;
-
-    *why = 0;
-    while (count < sizeof input) {
-        ssize_t got = read(STDIN_FILENO, input + count, sizeof input - count);
-
+    *count = 0;
+    while (*count < size) {
+        ssize_t got = read(STDIN_FILENO, buffer + *count, size - *count);
         if (got < 0)
-            *why = errno;
-        if (got <= 0)
+            return 0;
+        if (got == 0)
             break;
-        count += (size_t)got;
+        *count += (size_t)got;
     }
-    return count;
+    return 1;
+}
+
+/* The page file, which is as long as its version byte says; one of an unknown version is read as version 1. */
+static int read_page(size_t *count)
+{
+    size_t size, rest;
+
+    if (!read_input(page, 1, count))
+        return 0;
+    if (*count == 0)
+        return 1;
+    size = feldrime_page_bytes(page[0]);
+    if (size == 0)
+        size = feldrime_page_bytes(1);
+    if (!read_input(page + 1, size - 1, &rest))
+        return 0;
+    *count += rest;
+    return 1;
+}
+
+/* A page that is refused is reported before the font is read. */
+static uint32_t listed(void)
+{
+    size_t page_count, font_count;
+    uint32_t ending;
+
+    if (!read_page(&page_count))
+        return UNREAD;
+    ending = feldrime_listing_page(page, page_count);
+    if (ending != ACCEPTED)
+        return ending;
+    if (!read_input(font, sizeof font, &font_count))
+        return UNREAD;
+    return feldrime_listing(page, page_count, font, font_count);
 }
 
 static int list(void)
 {
-    int why;
-    size_t count = read_input(&why);
-
     /* A file that would exceed the limit on its size is then reported like any other that cannot be written. */
     signal(SIGXFSZ, SIG_IGN);
-    uint32_t ending = feldrime_listing(input, count, why != 0);
-    if (ending == UNREAD) {
-        errno = why;
+    uint32_t ending = listed();
+    if (ending == UNREAD)
         return failed("standard input");
-    }
     /* Some file systems report only now that a write has failed. */
     if (ending != WRITTEN || close(STDOUT_FILENO) != 0)
         return failed("standard output");

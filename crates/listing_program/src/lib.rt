@@ -7,39 +7,6 @@ use listing::{Listed, listing_head, listing_line};
 
 const STDOUT: i32 = 1;
 
-// What the input has of a part of it, and whether that is less than was wanted because reading failed.
-#[derive(Clone, Copy)]
-struct Part {
-    failed: bool,
-    count: usize,
-}
-
-// The part at the front of what is left of the input.
-fn part_of(left: &[u8], wanted: usize, failed: bool) -> Part
-    ensures { result.count ≡ min wanted (length left.now) }
-{
-    if left.len() < wanted {
-        return Part {
-            failed,
-            count: left.len(),
-        };
-    }
-    Part {
-        failed: false,
-        count: wanted,
-    }
-}
-
-// The page file, which is as long as its version byte says.
-fn page_part(input: &[u8], failed: bool) -> Part
-    ensures { result.count ≤ length input.now }
-{
-    if input.len() == 0 {
-        return Part { failed, count: 0 };
-    }
-    part_of(input, files::file_size(input[0]), failed)
-}
-
 fn print_refusal(r: refusal::Refusal) -> bool {
     io::write_all(STDOUT, b"refused ")
         && io::print_decimal(STDOUT, refusal::number(r) as u64)
@@ -85,32 +52,27 @@ fn print_listing(
     true
 }
 
-// What C's `main` is told: all was written, or which of the two failed.
+// What C's `main` is told: all was written, or writing failed, or the page was accepted and nothing is written yet. 1 is
+// its own, for input that cannot be read.
 const WRITTEN: u32 = 0;
 
-const UNREAD: u32 = 1;
-
 const UNWRITTEN: u32 = 2;
+
+const ACCEPTED: u32 = 3;
 
 fn ending(written: bool) -> u32 {
     if written { WRITTEN } else { UNWRITTEN }
 }
 
-// The page was accepted; now the font. One byte more than the longest font file has is looked at, so that a longer one
-// shows.
-fn list_page(b: board::Board, chars: &[u8], attrs: &[u8], left: &[u8], failed: bool) -> u32 {
-    let part = part_of(left, files::LONGEST_FONT + 1, failed);
-    if part.failed {
-        return UNREAD;
-    }
-    let file = &left[..part.count];
+// The page was accepted; now the font.
+fn list_page(b: board::Board, chars: &[u8], attrs: &[u8], font: &[u8]) -> u32 {
     let mut words = [0u16; 1152];
     let mut flags = [0u8; 128];
     let mut unshifted = [0u8; 9];
     let mut shifted = [0u8; 9];
     let mut groups = [0u8; 16];
     let refused = files::read_font(
-        file,
+        font,
         &mut words,
         &mut flags,
         &mut unshifted,
@@ -120,27 +82,35 @@ fn list_page(b: board::Board, chars: &[u8], attrs: &[u8], left: &[u8], failed: b
     if !refusal::is_done(refused) {
         return ending(print_refusal(refused));
     }
-    let k = files::groups_in(file);
+    let k = files::groups_in(font);
     let lent = &groups[..k];
     ending(print_listing(b, chars, attrs, &words, &flags, &unshifted, &shifted, lent))
 }
 
-// `failed` is not 0 where reading the input failed before it ended or was full, which is at a byte more than the longest
-// page file and the longest font file have together.
+// Writes why the page file is refused, before the font file is read.
 // No law of one answer: what it prints no contract of the kit can say. It is proved to end and to index nothing out of
 // range, given that each `write` of C returns.
-pub fn feldrime_listing(input: &[u8], failed: u8) -> u32 {
-    let part = page_part(input, failed != 0);
-    if part.failed {
-        return UNREAD;
-    }
-    let n = part.count;
+pub fn feldrime_listing_page(page: &[u8]) -> u32 {
     let mut chars = [0u8; 16384];
     let mut attrs = [0u8; 16384];
-    let read = files::read_page(&input[..n], &mut chars, &mut attrs);
+    let read = files::read_page(page, &mut chars, &mut attrs);
+    let refused = read.refusal;
+    if refusal::is_done(refused) {
+        return ACCEPTED;
+    }
+    ending(print_refusal(refused))
+}
+
+// Writes the listing, or why a file is refused.
+// No law of one answer: what it prints no contract of the kit can say. It is proved to end and to index nothing out of
+// range, given that each `write` of C returns.
+pub fn feldrime_listing(page: &[u8], font: &[u8]) -> u32 {
+    let mut chars = [0u8; 16384];
+    let mut attrs = [0u8; 16384];
+    let read = files::read_page(page, &mut chars, &mut attrs);
     let refused = read.refusal;
     if !refusal::is_done(refused) {
         return ending(print_refusal(refused));
     }
-    list_page(read.board, &chars, &attrs, &input[n..], failed != 0)
+    list_page(read.board, &chars, &attrs, font)
 }
