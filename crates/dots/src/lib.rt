@@ -22,6 +22,7 @@ pub fn spread(w: u16) -> u64
 }
 
 // The number whose low d bits are the cell's dots.
+#[tactic(auto, unfolding(crate::specs::Stores::wide_of))]
 pub fn wide(word: u16, d: usize) -> u16
     requires { word < 1024 }
     ensures { result ≡ wide_of word d }

@@ -198,6 +198,7 @@ fn label(p: Phrase) -> u64
 }
 
 // The same for a mate: most records have another language or number.
+#[tactic(auto, unfolding(crate::specs::Folds::mate_visit))]
 pub fn visit_mate(s: Mate, p: Phrase, i: usize, o: Phrase) -> Mate
     ensures { result ≡ mate_visit s p i o }
 {

@@ -301,6 +301,7 @@ fn byte_read(v: u8) -> ByteRead
 }
 
 // The register address of a read.
+#[tactic(auto, unfolding(crate::specs::Read::read_at))]
 fn read_at(s: board::Starts, a: u8) -> ByteRead
     ensures { result ≡ read_at s a }
 {

@@ -203,6 +203,7 @@ pub fn graphics_word(group: u8, code: u8) -> u16
 }
 
 // The word that a code shows on a scan line, in graphics mode or not.
+#[tactic(auto, unfolding(crate::specs::Font::word_by))]
 pub fn word_by(words: &[u16], flags: &[u8], line: FontLine, graphics: bool, code: u8) -> u16
     requires { (length words.now ≡ 1152) × (length flags.now ≡ 128) }
     ensures { result ≡ word_by words.now flags.now line graphics code }

@@ -3,8 +3,11 @@ use Prim.Native.Nat.{◌+◌, ◌<◌}
 use native.Mathlib.Omega.{arith}
 use borrow.Author.Tests.{ltb-true}
 use Rattle.lists.specs.Choice.{both}
-use Rattle.catalogue.specs.Marks.{search-turn, search-found, all-looked-at, search-none}
+use Rattle.catalogue.specs.Marks.{search-begins, search-turn, search-found, all-looked-at, search-none}
 use Rattle.catalogue.proofs.lowest.Goals as goal
+
+pub loop-x-init : goal.loop-x-init
+loop-x-init c = search-begins _ _
 
 pub loop-x-preserved : goal.loop-x-preserved
 loop-x-preserved c =

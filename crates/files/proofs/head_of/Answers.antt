@@ -1,0 +1,7 @@
+-- Rests on head-is: the bytes of a head, one by one.
+use Rattle.std.proofs.Common.{rules, ◌≡◌}
+use Rattle.files.specs.Laws.{head-is}
+use Rattle.files.proofs.head_of.Goals as goal
+
+pub returns : goal.returns
+returns c = head-is _ _ c.version_of.ensures c.length_field-n.ensures.0 c.length_field-n.ensures.1 c.high.ensures c.low.ensures

@@ -1,0 +1,6 @@
+-- Rests on what the calls ensure.
+use Rattle.std.proofs.Common.{rules, ◌≡◌, ◌∙◌}
+use Rattle.step.proofs.scan_in.Goals as goal
+
+pub returns : goal.returns
+returns c = c.scan_at.ensures ∙ rw c.code_of.ensures
