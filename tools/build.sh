@@ -1,6 +1,6 @@
-# Sourced: `build_archive` proves the library and builds "$archive", for C to link; `build_listing_archive` proves the
-# listing program except its main, "$listing_archive". Each does something only if its file is missing or older than a
-# source.
+# Sourced: `build_archive` proves the library and builds "$archive", for C to link on any x86-64; `build_listing_archive`
+# proves the listing program except its main, "$listing_archive". Each does something only if its file is missing or
+# older than a source.
 root=$(cd "$(dirname "${BASH_SOURCE[0]}")/.." && pwd)
 archive=$root/target/staticlib/libfeldrime.a
 listing_archive=$root/target/staticlib/liblisting_program.a
@@ -48,7 +48,7 @@ prove() {  # prove FILE CRATE WHAT: the file is the crate's archive
     fi
     echo "proving $3 and building it, which takes minutes; the log is $log"
     mkdir -p "$(dirname "$1")"
-    if ! (set -o pipefail; cd "$root/crates/$2" && rt lib 2>&1 | tee "$log" | progress "$2"); then
+    if ! (set -o pipefail; cd "$root/crates/$2" && rt lib --cpu x86-64 2>&1 | tee "$log" | progress "$2"); then
         tail -n 20 "$log" >&2
         return 1
     fi
