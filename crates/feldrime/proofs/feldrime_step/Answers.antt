@@ -1,5 +1,5 @@
 -- Rests on the step by value.
-use Rattle.std.proofs.Common.{rules, ◌≡◌, ap}
+use Rattle.std.proofs.Common.{ap}
 use Rattle.feldrime.proofs.feldrime_step.Goals as goal
 
 pub returns : goal.returns

@@ -1,5 +1,4 @@
 -- Rests on head-is: the bytes of a head, one by one.
-use Rattle.std.proofs.Common.{rules, ◌≡◌}
 use Rattle.files.specs.Laws.{head-is}
 use Rattle.files.proofs.head_of.Goals as goal
 

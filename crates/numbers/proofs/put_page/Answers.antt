@@ -1,5 +1,5 @@
 -- Rests on the test: the page is put, or the numbers stay.
-use Rattle.std.proofs.Common.{rules, ◌≡◌, sym, ◌∙◌}
+use Rattle.std.proofs.Common.{sym, ◌∙◌}
 use Rattle.numbers.proofs.put_page.Goals as goal
 
 pub put_own-requires : goal.put_own-requires

@@ -1,5 +1,4 @@
 -- Rests on what the calls ensure.
-use Rattle.std.proofs.Common.{rules, ◌≡◌}
 use Rattle.place.proofs.begun.Goals as goal
 
 pub returns : goal.returns

@@ -1,4 +1,4 @@
-use Rattle.std.proofs.Common.{refl, ◌∙◌, rules}
+use Rattle.std.proofs.Common.{refl, ◌∙◌}
 use Rattle.lists.specs.Choice.{stop, pass}
 use Rattle.place.proofs.next_latch.Goals as goal
 

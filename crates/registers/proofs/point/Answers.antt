@@ -1,5 +1,5 @@
 -- Rests on the test and on what the calls ensure.
-use Rattle.std.proofs.Common.{rules, ◌≡◌, refl, sym, ap, ◌∙◌}
+use Rattle.std.proofs.Common.{sym, ap, ◌∙◌}
 use Rattle.lists.specs.Choice.{pass}
 use Rattle.refusal.specs.declared.Refusal.TheVariants.{Done}
 use Rattle.registers.specs.Answers.{answer}

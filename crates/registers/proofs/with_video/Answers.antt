@@ -1,5 +1,5 @@
 -- Rests on what the calls ensure.
-use Rattle.std.proofs.Common.{rules, ◌≡◌, refl}
+use Rattle.std.proofs.Common.{refl}
 use Rattle.registers.proofs.with_video.Goals as goal
 
 pub returns : goal.returns

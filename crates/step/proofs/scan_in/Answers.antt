@@ -1,5 +1,5 @@
 -- Rests on what the calls ensure.
-use Rattle.std.proofs.Common.{rules, ◌≡◌, ◌∙◌}
+use Rattle.std.proofs.Common.{◌∙◌}
 use Rattle.step.proofs.scan_in.Goals as goal
 
 pub returns : goal.returns

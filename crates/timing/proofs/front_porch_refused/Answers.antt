@@ -1,5 +1,4 @@
 -- Rests on what the calls ensure.
-use Rattle.std.proofs.Common.{rules, ◌≡◌}
 use Rattle.timing.proofs.front_porch_refused.Goals as goal
 
 pub returns : goal.returns
