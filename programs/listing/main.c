@@ -1,4 +1,4 @@
-/* feldrime-listing: C's main, which reads the input. All else of the program is proved, in crates/listing_program. */
+/* feldrime-listing: C's main. All else of the program is proved, in crates/listing_program. */
 #define _POSIX_C_SOURCE 200809L
 #include <errno.h>
 #include <getopt.h>
@@ -10,7 +10,10 @@
 
 #include "feldrime.h"
 
-/* Of crates/listing_program: each writes, and says how that ended. The first does so if the page file is refused. */
+/* Of crates/listing_program. The first two read a page file and what follows it, and answer how much there was; errno
+ * says whether reading failed. The others write, and say how that ended, the first only if the page file is refused. */
+size_t feldrime_listing_read_page(uint8_t *page, size_t size);
+size_t feldrime_listing_read(uint8_t *buffer, size_t size);
 uint32_t feldrime_listing_page(const uint8_t *page, size_t page_count);
 uint32_t feldrime_listing(const uint8_t *page, size_t page_count, const uint8_t *font, size_t font_count);
 enum { WRITTEN, UNREAD, UNWRITTEN, ACCEPTED };
@@ -52,51 +55,22 @@ static int hint_at_help(void)
     return 2;
 }
 
-/* Reads until the buffer is full or the input ends. 0 if reading fails. */
-static int read_input(uint8_t *buffer, size_t size, size_t *count)
-{
-    *count = 0;
-    while (*count < size) {
-        ssize_t got = read(STDIN_FILENO, buffer + *count, size - *count);
-        if (got < 0)
-            return 0;
-        if (got == 0)
-            break;
-        *count += (size_t)got;
-    }
-    return 1;
-}
-
-/* The page file, which is as long as its version byte says; one of an unknown version is read as version 1. */
-static int read_page(size_t *count)
-{
-    size_t size, rest;
-
-    if (!read_input(page, 1, count))
-        return 0;
-    if (*count == 0)
-        return 1;
-    size = feldrime_page_bytes(page[0]);
-    if (size == 0)
-        size = feldrime_page_bytes(1);
-    if (!read_input(page + 1, size - 1, &rest))
-        return 0;
-    *count += rest;
-    return 1;
-}
-
 /* A page that is refused is reported before the font is read. */
 static uint32_t listed(void)
 {
     size_t page_count, font_count;
     uint32_t ending;
 
-    if (!read_page(&page_count))
+    errno = 0;
+    page_count = feldrime_listing_read_page(page, sizeof page);
+    if (errno != 0)
         return UNREAD;
     ending = feldrime_listing_page(page, page_count);
     if (ending != ACCEPTED)
         return ending;
-    if (!read_input(font, sizeof font, &font_count))
+    errno = 0;
+    font_count = feldrime_listing_read(font, sizeof font);
+    if (errno != 0)
         return UNREAD;
     return feldrime_listing(page, page_count, font, font_count);
 }

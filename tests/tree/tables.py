@@ -66,8 +66,9 @@ class Tree:
         seen, ring, found = {function.full}, [function], []
         while ring and len(found) < NEAREST:
             found += [e.label for f in ring if f.crate != 'refusal' for e in self.spoiling(f)]
+            found = list(dict.fromkeys(found))
             ring = [g for f in ring for g in self.called(f) if g.full not in seen and not seen.add(g.full)]
-        return list(dict.fromkeys(found))[:NEAREST]
+        return found[:NEAREST]
 
 
 def sentence_lines(tree, tag):

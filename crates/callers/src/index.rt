@@ -1,4 +1,4 @@
-// An index of phrases, as columns of numbers: covered code cannot hand over a slice of records.
+// An index of phrases, as columns of numbers.
 ghost use Rattle.std.specs.Prelude.{◌≡◌, true, ◌&&◌, ◌+◌, ◌<◌, leb, ltb, length, get_or};
 ghost use Rattle.callers.specs.Index.{all_held, two_of};
 

@@ -1,11 +1,38 @@
 #![tactic(auto)]
-// The listing program but for C's `main` (programs/listing). That hands over what standard input holds: a page file,
-// then a font file. The listing or the refusal is written to standard output.
-ghost use Rattle.std.specs.Prelude.{◌≡◌, ◌≤◌, length, min};
+// The listing program but for C's `main` (programs/listing). It reads a page file, then a font file, from standard input
+// and writes the listing or the refusal to standard output.
+ghost use Rattle.std.specs.Prelude.{◌≤◌, length};
+ghost use Rattle.io.specs.Counts.{IsPrefixLen};
 
 use listing::{Listed, listing_head, listing_line};
 
+const STDIN: i32 = 0;
+
 const STDOUT: i32 = 1;
+
+// Reads until the buffer is full or the input ends, or reading fails: C's errno tells the last two apart. What was read
+// stands at the front of the buffer.
+// No law of one answer: what it reads no contract of the kit can say.
+pub fn feldrime_listing_read(buf: &mut [u8]) -> usize
+    ensures { IsPrefixLen result buf.new }
+{
+    io::read_full(STDIN, buf)
+}
+
+// Reads a page file, which is as long as its version byte says.
+// No law of one answer: what it reads no contract of the kit can say.
+pub fn feldrime_listing_read_page(file: &mut [u8]) -> usize
+    requires { 32798 ≤ length file.old }
+    ensures { IsPrefixLen result file.new }
+{
+    let first = feldrime_listing_read(&mut file[..1]);
+    if first == 0 {
+        return first;
+    }
+    let size = files::file_size(file[0]);
+    let rest = feldrime_listing_read(&mut file[1..size]);
+    rest + 1
+}
 
 fn print_refusal(r: refusal::Refusal) -> bool {
     io::write_all(STDOUT, b"refused ")
