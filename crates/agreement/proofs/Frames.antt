@@ -2,7 +2,7 @@
 use Rattle.std.specs.Prelude.{ℕ, ◌*◌, ◌/◌, ◌%◌, ◌≤◌, ◌<◌, ◌≡◌, false, List}
 use Rattle.std.proofs.Common.{sym, ap}
 use Rattle.std.proofs.Math.Nat.{mul_comm}
-use Rattle.refusal.specs.declared.Refusal.TheVariants.{Done}
+use Rattle.refusal.specs.Number.{unrefused}
 use Rattle.raster.specs.Moves.{Inside}
 use Rattle.raster.specs.Tick.{by-frame}
 use Rattle.raster.specs.Raster.{Good, at_once}
@@ -22,7 +22,7 @@ use Rattle.step.specs.After.{fits, steps-are}
 use Rattle.agreement.specs.Lines.{address_at, address_is, drawn-from}
 use Rattle.agreement.specs.Frames.{frame_clocks, Framed, Stays}
 
-module _ (b : Board) (chars attrs : List ℕ) (f : Font) (ok : step_check b chars attrs f ≡ Done) where
+module _ (b : Board) (chars attrs : List ℕ) (f : Font) (ok : step_check b chars attrs f ≡ unrefused) where
   frame-product : frame_clocks b ≡ ht_of b.page * vt_of b.page
   unfolding counts_of
   frame-product = mul_comm (vt_of b.page) (ht_of b.page)

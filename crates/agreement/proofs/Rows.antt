@@ -2,7 +2,7 @@
 use Rattle.std.specs.Prelude.{ℕ, ◌*◌, ◌<◌, ◌≡◌, true, false}
 use Rattle.std.proofs.Common.{sym, ◌∙◌}
 use mathlib.Core.List.{List}
-use Rattle.refusal.specs.declared.Refusal.TheVariants.{Done}
+use Rattle.refusal.specs.Number.{unrefused}
 use Rattle.board.specs.declared.Board.{Board}
 use Rattle.timing.specs.Fields.{hact_of, lines_of, rows_of, table_of}
 use Rattle.fetch.specs.Rows.{entry_of, row_start, cell_at, fetch_at}
@@ -12,7 +12,7 @@ use Rattle.step.specs.Step.{step_check}
 use Rattle.agreement.specs.Lines.{drawn-from}
 use Rattle.agreement.specs.Rows.{line_of, follows, nth_cell, Shown, row_is, line-visible, fetched}
 
-module _ (b : Board) (chars attrs : List ℕ) (f : Font) (ok : step_check b chars attrs f ≡ Done) (r l : ℕ)
+module _ (b : Board) (chars attrs : List ℕ) (f : Font) (ok : step_check b chars attrs f ≡ unrefused) (r l : ℕ)
     (hr : r < rows_of b.page) (hl : l < lines_of b.page) where
   -- what column c shows, from the row's start
   from_start : (start : ℕ) → start ≡ row_start b.page chars r → (c : ℕ) → c < hact_of b.page → follows b start (nth_cell b chars r c) ≡ cell_at b.page chars r c

@@ -21,8 +21,7 @@ use Rattle.lists.specs.Tab.{tab, length-tab, get_or-tab}
 use Rattle.lists.specs.Search.{any_below, none_of, any_none, any_some, first-is}
 use Rattle.raster.specs.declared.Buffer.{Buffer}
 use Rattle.raster.specs.Moves.{advance_by, advance_by-zero, advance_by-add}
-use Rattle.refusal.specs.declared.Refusal.TheVariants.{Done}
-use Rattle.refusal.specs.Number.{wrong_size}
+use Rattle.refusal.specs.Number.{unrefused, wrong_size}
 use Rattle.board.specs.declared.Page.{Page}
 use Rattle.board.specs.declared.Board.{Board}
 use Rattle.board.specs.Range.{memory_refused}
@@ -192,12 +191,12 @@ module _ (b : Board) (chars : List ℕ) (m : Movable b chars) (registers : 2 < l
     bytes = λ r c h l. (sym (kept-cells (cell_at p chars r c) (not-in-table r c h l)), refl);
   }
 
-  page-ok : page_check p ≡ Done
+  page-ok : page_check p ≡ unrefused
   unfolding own_check
   page-ok = call-page b (wrong_size (memory_refused (length chars))) false false m.own
 
   -- the moved page is accepted
-  pub as-table-accepted : page_check (as_table_page p place) ≡ Done
+  pub as-table-accepted : page_check (as_table_page p place) ≡ unrefused
   unfolding as_table_page
   as-table-accepted = same-accepted same-page page-ok m.page.start1 (omega (arith, m.found)) (video-passed p page-ok) (rw plain)
 
@@ -239,15 +238,15 @@ module _ (b : Board) (chars : List ℕ) (m : Movable b chars) (registers : 2 < l
       ap not (eq-eqb _ _ (next ∙ row_next r ∙ ap₂ (λ (u : Buffer) (w : ℕ). advance_by u w (row_start p chars r)) (same-buffer same-page) (same-hact same-page)
       ∙ ap (advance_by (buffer_of q) (hact_of q)) (sym here))))
 
-  own-as-table : own_check (with_page b q) (length chars') ≡ Done
+  own-as-table : own_check (with_page b q) (length chars') ≡ unrefused
   unfolding own_check as_table_page
   own-as-table =
       let all = call-passed b (wrong_size (memory_refused (length chars))) false false m.own in
       let state = sym (same-state b q same-page) ∙ range-ok b all.state in
-      let sized : wrong_size (memory_refused (length chars')) ≡ Done = rw chars-whole all.lent-fine in
+      let sized : wrong_size (memory_refused (length chars')) ≡ unrefused = rw chars-whole all.lent-fine in
       call_ok (with_page b q) (wrong_size (memory_refused (length chars'))) sized as-table-accepted state
 
-  as-sheet-done : as_sheet_check (with_page b q) chars' ≡ Done
+  as-sheet-done : as_sheet_check (with_page b q) chars' ≡ unrefused
   unfolding as_sheet_check
   as-sheet-done = rw (own-as-table, table_on, plain, rows-follow)
 
@@ -264,11 +263,11 @@ module _ (b : Board) (chars : List ℕ) (m : Movable b chars) (registers : 2 < l
     registers-back = set_twice p.irs 2 (ir p 2 % 128 + 128) (ir q 2 % 128) ∙ ap (set p.irs 2) low_bits ∙ set-get_or p.irs 2 0
 
     -- there and back: nothing but screen start 2 has changed
-    pub returned : as_sheet (with_page b q) chars' ≡ moved_to Done (with_page b (changed p p.irs p.starts.start1 place))
+    pub returned : as_sheet (with_page b q) chars' ≡ moved_to unrefused (with_page b (changed p p.irs p.starts.start1 place))
     unfolding as_sheet as_sheet_page
     returned =
         let start = entry-tabled 0 (omega arith) ∙ row_zero in
-        rw as-sheet-done (ap₂ (λ (l : List ℕ) (x : ℕ). moved_to Done (with_page b (changed p l x place))) registers-back start)
+        rw as-sheet-done (ap₂ (λ (l : List ℕ) (x : ℕ). moved_to unrefused (with_page b (changed p l x place))) registers-back start)
 
 -- ---- moving back
 
@@ -324,11 +323,11 @@ module _ (b : Board) (chars : List ℕ) (m : Returnable b chars) (registers : 2 
     bytes = λ r c h l. (refl, refl);
   }
 
-  sheet-page-ok : page_check b.page ≡ Done
+  sheet-page-ok : page_check b.page ≡ unrefused
   unfolding own_check
   sheet-page-ok = call-page b (wrong_size (memory_refused (length chars))) false false m.own
 
-  pub as-sheet-accepted : page_check (as_sheet_page b.page chars) ≡ Done
+  pub as-sheet-accepted : page_check (as_sheet_page b.page chars) ≡ unrefused
   unfolding as_sheet_page
   as-sheet-accepted = same-accepted sheet-same sheet-page-ok (omega (arith, entry_lt b.page chars 0)) m.page.start2 (video-passed b.page sheet-page-ok) (rw sheet-plain)
 
@@ -342,35 +341,35 @@ module _ (b : Board) (chars : List ℕ) (m : Returnable b chars) (registers : 2 
 -- [R-5 same]
 -- a sheet that `to_table` moves shows the same: it is accepted, its pictures are the same in every field and both attribute modes, and so are signals, address and dots of every step. Here and below a
 -- board's registers reach to IR2, as those of every board in the code do
-pub as-table-shows : (b : Board) (chars : List ℕ) → 2 < length b.page.irs → as_table_check b chars ≡ Done → ShowsSame b chars (as_table b chars).board (as_table_left b chars)
+pub as-table-shows : (b : Board) (chars : List ℕ) → 2 < length b.page.irs → as_table_check b chars ≡ unrefused → ShowsSame b chars (as_table b chars).board (as_table_left b chars)
 unfolding as_table as_table_left
 as-table-shows b chars registers ok = rw ok (as-table-shown b chars (as-table-passed b chars ok) registers)
 
 module _ (b : Board) (chars : List ℕ) (registers : 2 < length b.page.irs) where
   -- [R-5 sheet]
   -- so does a page that `to_sheet` moves
-  pub as-sheet-shows : as_sheet_check b chars ≡ Done → ShowsSame b chars (as_sheet b chars).board chars
+  pub as-sheet-shows : as_sheet_check b chars ≡ unrefused → ShowsSame b chars (as_sheet b chars).board chars
   unfolding as_sheet
   as-sheet-shows ok = rw ok (as-sheet-shown b chars (as-sheet-passed b chars ok) registers)
 
-  registers-kept : as_sheet_check b chars ≡ Done → 2 < length (as_sheet b chars).board.page.irs
+  registers-kept : as_sheet_check b chars ≡ unrefused → 2 < length (as_sheet b chars).board.page.irs
   unfolding as_sheet as_sheet_page
   registers-kept ok = rw (ok, length-set b.page.irs 2 (ir b.page 2 % 128)) registers
 
   -- and one that is moved back and there again
-  pub sheet-then-table : as_sheet_check b chars ≡ Done → as_table_check (as_sheet b chars).board chars ≡ Done
+  pub sheet-then-table : as_sheet_check b chars ≡ unrefused → as_table_check (as_sheet b chars).board chars ≡ unrefused
       → ShowsSame b chars (as_table (as_sheet b chars).board chars).board (as_table_left (as_sheet b chars).board chars)
   sheet-then-table ok again attrs = shows-on (as-sheet-shows ok attrs) (as-table-shows (as_sheet b chars).board chars (registers-kept ok) again attrs)
 
   -- [R-5 both] a sheet moved there and back differs only in screen start 2 and the table's cells
   -- a sheet that is moved there and back has another screen start 2, and nothing else of its board has changed
-  pub table-then-sheet : ir b.page 2 < 256 → as_table_check b chars ≡ Done
-      → as_sheet (as_table b chars).board (as_table_left b chars) ≡ moved_to Done (with_page b (changed b.page b.page.irs b.page.starts.start1 (table_place b.page chars)))
+  pub table-then-sheet : ir b.page 2 < 256 → as_table_check b chars ≡ unrefused
+      → as_sheet (as_table b chars).board (as_table_left b chars) ≡ moved_to unrefused (with_page b (changed b.page b.page.irs b.page.starts.start1 (table_place b.page chars)))
   unfolding as_table as_table_left as_table_page
   table-then-sheet byte ok = rw ok (returned b chars (as-table-passed b chars ok) registers byte)
 
   -- [R-5 table]
   -- and of memory the table's cells
-  pub memory-back : as_table_check b chars ≡ Done → (x : ℕ) → (table_place b.page chars ≤ x → x < table_place b.page chars + table_size b.page → ⊥) → get_or (as_table_left b chars) x 0 ≡ get_or chars x 0
+  pub memory-back : as_table_check b chars ≡ unrefused → (x : ℕ) → (table_place b.page chars ≤ x → x < table_place b.page chars + table_size b.page → ⊥) → get_or (as_table_left b chars) x 0 ≡ get_or chars x 0
   unfolding as_table_left
   memory-back ok x out = rw ok (kept-cells b chars (as-table-passed b chars ok) registers x out)

@@ -3,16 +3,15 @@
 --     sheet-again, cells-again                 there and back only screen start 2 and the table's cells differ
 --     table-refused, sheet-refused             a refusal leaves numbers and memory
 --     table_same, sheet-same                   so pictures and steps are the same, refused or not
-use Rattle.std.specs.Prelude.{ℕ, ◌+◌, ◌-◌, ◌/◌, ◌%◌, ◌≤◌, ◌<◌, ◌≡◌, Bool, true, false, length, get_or, eqb}
+use Rattle.std.specs.Prelude.{ℕ, ◌+◌, ◌-◌, ◌/◌, ◌%◌, ◌≤◌, ◌<◌, ◌≡◌, Bool, true, false, length, get_or, eqb, is_ok, Err}
 use Rattle.std.proofs.Math.Path.{refl, sym, ap, ap₂}
 use Rattle.std.proofs.Common.{◌∙◌, zero-add, suc-add, arith, length-take-le, drop-cons}
 use mathlib.Core.List.{List, [], ◌∷◌, ◌++◌, append_assoc}
 use Rattle.std.proofs.Math.ListN.{set, take, drop, length-set}
 use Rattle.std.proofs.Math.Seq.{take-add}
 use Rattle.lists.specs.Choice.{pick}
-use Rattle.refusal.specs.declared.Refusal.{Refusal}
-use Rattle.refusal.specs.declared.Refusal.TheVariants.{Done, Size}
-use Rattle.refusal.specs.Number.{number_of, beside_of, done_of, wrong_size}
+use Rattle.refusal.specs.declared.Refusal.TheVariants.{Size}
+use Rattle.refusal.specs.Number.{unrefused, Checked, number_of, beside_of, wrong_size}
 use Rattle.refusal.specs.Laws.{done-is, passed}
 use Rattle.board.specs.declared.Video.{Video}
 use Rattle.board.specs.declared.Page.{Page}
@@ -64,7 +63,7 @@ same-on s t = record {
 
 -- and those others are accepted
 pub record ShowsC (numbers chars numbers' chars' : List ℕ) : Type 0 where
-  pub accepted : numbers_check numbers' ≡ Done
+  pub accepted : numbers_check numbers' ≡ unrefused
   pub same : SameC numbers chars numbers' chars'
 
 same-numbered : (s t : Stepped) → s.refusal ≡ t.refusal → s.signals ≡ t.signals → s.address ≡ t.address → s.dots ≡ t.dots → numbered s ≡ numbered t
@@ -82,18 +81,18 @@ same-numbered s t r g a d = λ i. record {
 }
 
 -- where what is lent is refused, a step answers that whatever the board is
-lent-alone : (x y : Board) (chars chars' attrs : List ℕ) (f : Font) → done_of (lent_check chars attrs f) ≡ false → lent_check chars attrs f ≡ lent_check chars' attrs f → numbered (step_of x chars attrs f) ≡ numbered (step_of y chars' attrs f)
+lent-alone : (x y : Board) (chars chars' attrs : List ℕ) (f : Font) → is_ok (lent_check chars attrs f) ≡ false → lent_check chars attrs f ≡ lent_check chars' attrs f → numbered (step_of x chars attrs f) ≡ numbered (step_of y chars' attrs f)
 unfolding numbered step_of call_check
 lent-alone x y chars chars' attrs f e same = rw (← same, e, e)
 
-module _ (numbers chars numbers' chars' : List ℕ) (ok : numbers_check numbers ≡ Done) (fine : numbers_refused numbers' ≡ false)
+module _ (numbers chars numbers' chars' : List ℕ) (ok : numbers_check numbers ≡ unrefused) (fine : numbers_refused numbers' ≡ false)
     (s : ShowsSame (numbers_board numbers) chars (numbers_board numbers') chars') where
-  ok' : numbers_check numbers' ≡ Done
+  ok' : numbers_check numbers' ≡ unrefused
   unfolding numbers_check
   ok' = rw fine (s []).accepted
 
   -- with memories and font parts of the right sizes
-  sized_same : (attrs words flags unshifted shifted groups : List ℕ) → lent_check chars attrs (font_of words flags unshifted shifted groups) ≡ Done
+  sized_same : (attrs words flags unshifted shifted groups : List ℕ) → lent_check chars attrs (font_of words flags unshifted shifted groups) ≡ unrefused
       → (k : ℕ) → step_c numbers chars attrs words flags unshifted shifted groups k ≡ step_c numbers' chars' attrs words flags unshifted shifted groups k
   sized_same attrs words flags unshifted shifted groups sized k =
       let f = font_of words flags unshifted shifted groups in
@@ -107,12 +106,12 @@ module _ (numbers chars numbers' chars' : List ℕ) (ok : numbers_check numbers 
       (same-numbered _ _ refused shown.signals shown.address shown.dots)
 
   step_same : (attrs words flags unshifted shifted groups : List ℕ) (k : ℕ) → step_c numbers chars attrs words flags unshifted shifted groups k ≡ step_c numbers' chars' attrs words flags unshifted shifted groups k
-  step_same attrs words flags unshifted shifted groups k = go (done_of (lent_check chars attrs f)) refl
+  step_same attrs words flags unshifted shifted groups k = go (is_ok (lent_check chars attrs f)) refl
     where
       f : Font
       f = font_of words flags unshifted shifted groups
 
-      go : (t : Bool) → done_of (lent_check chars attrs f) ≡ t → step_c numbers chars attrs words flags unshifted shifted groups k ≡ step_c numbers' chars' attrs words flags unshifted shifted groups k
+      go : (t : Bool) → is_ok (lent_check chars attrs f) ≡ t → step_c numbers chars attrs words flags unshifted shifted groups k ≡ step_c numbers' chars' attrs words flags unshifted shifted groups k
       go false e = lent-alone _ _ chars chars' attrs f e ((s attrs).lent f)
       go true e = sized_same attrs words flags unshifted shifted groups (done-is _ e) k
 
@@ -131,29 +130,29 @@ module _ (numbers chars numbers' chars' : List ℕ) (ok : numbers_check numbers 
 
 -- [demand untouched]
 -- a refused move leaves numbers and memory
-pub table-refused : (numbers chars : List ℕ) → done_of (to_table_check numbers chars) ≡ false → (to_table_numbers numbers chars ≡ numbers) × (to_table_chars numbers chars ≡ chars)
+pub table-refused : (numbers chars : List ℕ) → is_ok (to_table_check numbers chars) ≡ false → (to_table_numbers numbers chars ≡ numbers) × (to_table_chars numbers chars ≡ chars)
 unfolding to_table_check to_table_numbers to_table_chars as_table as_table_left
 table-refused numbers chars = go (numbers_refused numbers) (as_table (numbers_board numbers) chars).board.page (as_table_check (numbers_board numbers) chars)
   where
-    go : (t : Bool) (p : Page) (r : Refusal) → done_of (pick t Size r) ≡ false → (pick t numbers (pick (done_of r) (page_in p numbers) numbers) ≡ numbers)
-        × (pick t chars (pick (done_of r) (as_table_chars (numbers_board numbers).page chars (table_place (numbers_board numbers).page chars)) chars) ≡ chars)
+    go : (t : Bool) (p : Page) (r : Checked) → is_ok (pick t (Err Size) r) ≡ false → (pick t numbers (pick (is_ok r) (page_in p numbers) numbers) ≡ numbers)
+        × (pick t chars (pick (is_ok r) (as_table_chars (numbers_board numbers).page chars (table_place (numbers_board numbers).page chars)) chars) ≡ chars)
     go true p r e = (refl, refl)
     go false p r e = rw e (refl, refl)
 
 -- [demand untouched]
 -- and a refused way back the numbers
-pub sheet-refused : (numbers chars : List ℕ) → done_of (to_sheet_check numbers chars) ≡ false → to_sheet_numbers numbers chars ≡ numbers
+pub sheet-refused : (numbers chars : List ℕ) → is_ok (to_sheet_check numbers chars) ≡ false → to_sheet_numbers numbers chars ≡ numbers
 unfolding to_sheet_check to_sheet_numbers as_sheet
 sheet-refused numbers chars = go (numbers_refused numbers) (as_sheet (numbers_board numbers) chars).board.page (as_sheet_check (numbers_board numbers) chars)
   where
-    go : (t : Bool) (p : Page) (r : Refusal) → done_of (pick t Size r) ≡ false → pick t numbers (pick (done_of r) (page_in p numbers) numbers) ≡ numbers
+    go : (t : Bool) (p : Page) (r : Checked) → is_ok (pick t (Err Size) r) ≡ false → pick t numbers (pick (is_ok r) (page_in p numbers) numbers) ≡ numbers
     go true p r e = refl
     go false p r e = rw e
 
 -- ---- the numbers of a moved page
 
 -- a move that is done, of the board that numbers describe
-module _ (numbers : List ℕ) (fine : numbers_refused numbers ≡ false) (m : Moved) (done : m.refusal ≡ Done) (q : Page) (moved : m.board ≡ board_of q) (n : length q.irs ≡ 15)
+module _ (numbers : List ℕ) (fine : numbers_refused numbers ≡ false) (m : Moved) (done : m.refusal ≡ unrefused) (q : Page) (moved : m.board ≡ board_of q) (n : length q.irs ≡ 15)
     (version : q.version ≡ get_or numbers 0 0) (video : q.video ≡ (page_at numbers 1).video) where
   numbers-are : moved_numbers m numbers ≡ page_in q numbers
   numbers-are = rw done (ap (λ (x : Board). page_in x.page numbers) moved)
@@ -238,12 +237,12 @@ module _ (numbers : List ℕ) (fits : Bytes numbers) (fine : numbers_refused num
       ∙ ap (λ (l : List ℕ). set (set l (irs_in numbers + 5) (x / 256)) (irs_in numbers + 6) (x % 256)) own-as-sheet
 
 -- what the page's own refusals passed
-own-ok : (numbers chars : List ℕ) → numbers_refused numbers ≡ false → own_check (numbers_board numbers) (length chars) ≡ Done → numbers_check numbers ≡ Done
+own-ok : (numbers chars : List ℕ) → numbers_refused numbers ≡ false → own_check (numbers_board numbers) (length chars) ≡ unrefused → numbers_check numbers ≡ unrefused
 unfolding numbers_check own_check
 own-ok numbers chars fine ok = rw fine (call-page (numbers_board numbers) (wrong_size (memory_refused (length chars))) false false ok)
 
 -- numbers that feldrime_to_table moves
-module _ (numbers chars : List ℕ) (done : to_table_check numbers chars ≡ Done) where
+module _ (numbers chars : List ℕ) (done : to_table_check numbers chars ≡ unrefused) where
   abbrev b : Board
   b = numbers_board numbers
 
@@ -256,11 +255,11 @@ module _ (numbers chars : List ℕ) (done : to_table_check numbers chars ≡ Don
   abbrev m : Moved
   m = as_table b chars
 
-  taken : (numbers_refused numbers ≡ false) × (as_table_check b chars ≡ Done)
+  taken : (numbers_refused numbers ≡ false) × (as_table_check b chars ≡ unrefused)
   unfolding to_table_check as_table
-  taken = passed (numbers_refused numbers) Size _ refl done
+  taken = passed (numbers_refused numbers) (Err Size) _ refl done
 
-  m-done : m.refusal ≡ Done
+  m-done : m.refusal ≡ unrefused
   unfolding as_table
   m-done = taken.1
 
@@ -311,11 +310,11 @@ module _ (numbers chars : List ℕ) (done : to_table_check numbers chars ≡ Don
 
   -- and moved back the numbers have another screen start 2, and nothing else has changed
   module _ (fits : Bytes numbers) where
-    then-sheet : as_sheet m.board (as_table_left b chars) ≡ moved_to Done (board_of (changed p p.irs p.starts.start1 place))
+    then-sheet : as_sheet m.board (as_table_left b chars) ≡ moved_to unrefused (board_of (changed p p.irs p.starts.start1 place))
     unfolding page_at
     then-sheet = table-then-sheet b chars (omega (arith, long)) (ir-byte numbers fits 1 2 (numbers-room numbers taken.0)) taken.1
 
-    as-sheet-left : as_sheet (numbers_board (to_table_numbers numbers chars)) (to_table_chars numbers chars) ≡ moved_to Done (board_of (changed p p.irs p.starts.start1 place))
+    as-sheet-left : as_sheet (numbers_board (to_table_numbers numbers chars)) (to_table_chars numbers chars) ≡ moved_to unrefused (board_of (changed p p.irs p.starts.start1 place))
     as-sheet-left = ap₂ as_sheet table-board chars-left ∙ then-sheet
 
     rest-left : drop (counted p.version) (to_table_numbers numbers chars) ≡ drop (counted p.version) numbers
@@ -326,7 +325,7 @@ module _ (numbers chars : List ℕ) (done : to_table_check numbers chars ≡ Don
 
     -- [R-5 both]
     -- there and back: feldrime_to_sheet answers 0, and the numbers differ in bytes 20 and 21 alone
-    pub sheet-again : (to_sheet_check (to_table_numbers numbers chars) (to_table_chars numbers chars) ≡ Done)
+    pub sheet-again : (to_sheet_check (to_table_numbers numbers chars) (to_table_chars numbers chars) ≡ unrefused)
         × (to_sheet_numbers (to_table_numbers numbers chars) (to_table_chars numbers chars) ≡ with_start2 numbers place)
     unfolding to_sheet_check to_sheet_numbers
     sheet-again = (
@@ -335,19 +334,19 @@ module _ (numbers chars : List ℕ) (done : to_table_check numbers chars ≡ Don
     )
 
 -- numbers that feldrime_to_sheet moves
-module _ (numbers chars : List ℕ) (done : to_sheet_check numbers chars ≡ Done) where
+module _ (numbers chars : List ℕ) (done : to_sheet_check numbers chars ≡ unrefused) where
   abbrev sheet_page : Page
   sheet_page = as_sheet_page (numbers_board numbers).page chars
 
-  as-sheet-taken : (numbers_refused numbers ≡ false) × (as_sheet_check (numbers_board numbers) chars ≡ Done)
+  as-sheet-taken : (numbers_refused numbers ≡ false) × (as_sheet_check (numbers_board numbers) chars ≡ unrefused)
   unfolding to_sheet_check as_sheet
-  as-sheet-taken = passed (numbers_refused numbers) Size _ refl done
+  as-sheet-taken = passed (numbers_refused numbers) (Err Size) _ refl done
 
   as-sheet-moved : (as_sheet (numbers_board numbers) chars).board ≡ board_of sheet_page
   unfolding as_sheet
   as-sheet-moved = rw as-sheet-taken.1
 
-  as-sheet-done : (as_sheet (numbers_board numbers) chars).refusal ≡ Done
+  as-sheet-done : (as_sheet (numbers_board numbers) chars).refusal ≡ unrefused
   unfolding as_sheet
   as-sheet-done = as-sheet-taken.1
 
@@ -378,7 +377,7 @@ module _ (numbers chars : List ℕ) (done : to_sheet_check numbers chars ≡ Don
       (rw (sheet-left, board) (as-sheet-shows (numbers_board numbers) chars (omega (arith, irs-all numbers as-sheet-taken.0)) as-sheet-taken.1))
 
   -- and so they do where they are moved there again
-  pub table-again : to_table_check (to_sheet_numbers numbers chars) chars ≡ Done
+  pub table-again : to_table_check (to_sheet_numbers numbers chars) chars ≡ unrefused
       → ShowsC numbers chars (to_table_numbers (to_sheet_numbers numbers chars) chars) (to_table_chars (to_sheet_numbers numbers chars) chars)
   table-again again =
       let second = table-shows (to_sheet_numbers numbers chars) chars again in
@@ -389,17 +388,17 @@ module _ (numbers chars : List ℕ) (done : to_sheet_check numbers chars ≡ Don
 -- [R-5 same]
 -- refused or not, pictures and steps are the same afterwards
 pub table_same : (numbers chars : List ℕ) → SameC numbers chars (to_table_numbers numbers chars) (to_table_chars numbers chars)
-table_same numbers chars = go (done_of (to_table_check numbers chars)) refl
+table_same numbers chars = go (is_ok (to_table_check numbers chars)) refl
   where
-    go : (t : Bool) → done_of (to_table_check numbers chars) ≡ t → SameC numbers chars (to_table_numbers numbers chars) (to_table_chars numbers chars)
+    go : (t : Bool) → is_ok (to_table_check numbers chars) ≡ t → SameC numbers chars (to_table_numbers numbers chars) (to_table_chars numbers chars)
     go true e = (table-shows numbers chars (done-is _ e)).same
     go false e = let kept = table-refused numbers chars e in rw (kept.0, kept.1) (itself numbers chars)
 
 -- [R-5 sheet]
 -- and after the way back
 pub sheet-same : (numbers chars : List ℕ) → SameC numbers chars (to_sheet_numbers numbers chars) chars
-sheet-same numbers chars = go (done_of (to_sheet_check numbers chars)) refl
+sheet-same numbers chars = go (is_ok (to_sheet_check numbers chars)) refl
   where
-    go : (t : Bool) → done_of (to_sheet_check numbers chars) ≡ t → SameC numbers chars (to_sheet_numbers numbers chars) chars
+    go : (t : Bool) → is_ok (to_sheet_check numbers chars) ≡ t → SameC numbers chars (to_sheet_numbers numbers chars) chars
     go true e = (sheet-shows numbers chars (done-is _ e)).same
     go false e = rw (sheet-refused numbers chars e) (itself numbers chars)

@@ -7,7 +7,7 @@ use Rattle.std.specs.Prelude.{ℕ, zero, suc, ◌+◌, ◌*◌, ◌/◌, ◌%◌
 use Rattle.std.proofs.Math.Path.{refl, ap}
 use Rattle.std.proofs.Common.{sym, ◌∙◌, arith}
 use Rattle.lists.specs.Join.{same-joined}
-use Rattle.refusal.specs.declared.Refusal.TheVariants.{Done}
+use Rattle.refusal.specs.Number.{unrefused}
 use Rattle.board.specs.declared.Page.{Page}
 use Rattle.board.specs.declared.Board.{Board}
 use Rattle.board.specs.Parts.{with_version, with_page}
@@ -118,5 +118,5 @@ module _ (v : View) (three : (page_of v).version ≡ 3) (a : (page_of v).video.c
   same_check = rw (three, a)
 
   -- [R-7 version]
-  pub three-as-two : page_check (page_of v) ≡ Done → Shows v two
+  pub three-as-two : page_check (page_of v) ≡ unrefused → Shows v two
   three-as-two ok = alike-shows as-two refl refl ok (sym same_check ∙ ok)

@@ -12,8 +12,7 @@ use Rattle.std.proofs.Math.ListN.{drop}
 use Rattle.std.proofs.Math.Seq.{drop_at}
 use Rattle.lists.specs.Choice.{pick, neither}
 use Rattle.lists.specs.Tab.{length-tab}
-use Rattle.refusal.specs.declared.Refusal.TheVariants.{Done}
-use Rattle.refusal.specs.Number.{wrong_size}
+use Rattle.refusal.specs.Number.{unrefused, wrong_size}
 use Rattle.board.specs.declared.Page.{Page}
 use Rattle.board.specs.declared.Board.{Board}
 use Rattle.board.specs.State.{board_of}
@@ -43,13 +42,13 @@ length-is file n e = eqb-true _ _ (not-false _ (neither (not (eqb (length file) 
 pub zero_ok : (p : Page) → state_refused (board_of p) ≡ false
 zero_ok p = range-ok (board_of p) (record { line-lt = omega arith; clock-lt = omega arith; beam-le = omega arith; row-le = omega arith; pointer-le = omega arith })
 
-write-ok : (p : Page) (n : ℕ) → page_check p ≡ Done → file_size p.version ≤ n → write_check (board_of p) 16384 16384 n ≡ Done
+write-ok : (p : Page) (n : ℕ) → page_check p ≡ unrefused → file_size p.version ≤ n → write_check (board_of p) 16384 16384 n ≡ unrefused
 unfolding write_check
 write-ok p n ok l = call_ok (board_of p) (wrong_size (ltb n (file_size p.version))) (ap wrong_size (le-ltb n (file_size p.version) l)) ok (zero_ok p)
 
 -- ---- a page file, read and written again
 
-module _ (file : List ℕ) (size : Bool) (ok : read_check file size ≡ Done) where
+module _ (file : List ℕ) (size : Bool) (ok : read_check file size ≡ unrefused) where
   pub file-ok : FilePassed file newest_version (length_field (version_in file)) size (page_check (page_at file 5))
   unfolding read_check
   file-ok = file-passed file newest_version (length_field (version_in file)) size (page_check (page_at file 5)) ok
@@ -75,25 +74,25 @@ module _ (file : List ℕ) (size : Bool) (ok : read_check file size ≡ Done) wh
   unfolding numbers_read
   numbers-are numbers = rw ok (numbers-page file (omega (arith, file-length)))
 
-module _ (file : List ℕ) (bytes : Bytes file) (size : Bool) (ok : read_check file size ≡ Done) where
+module _ (file : List ℕ) (bytes : Bytes file) (size : Bool) (ok : read_check file size ≡ unrefused) where
   same_bytes : file_of (page_at file 5) (take 16384 (drop (chars_place (version_in file)) file)) (take 16384 (drop (attrs_place (version_in file)) file)) ≡ file
   same_bytes =
       let passed = file-ok file size ok in
       page-again file bytes (file-length file size ok) passed.version-ok (length-is file (length_field (version_in file)) passed.length-ok)
 
   pub again : (chars attrs out : List ℕ) → file_size (version_in file) ≤ length out
-      → (write_check (board_of (page_at file 5)) (length (chars_read file size chars)) (length (attrs_read file size attrs)) (length out) ≡ Done)
+      → (write_check (board_of (page_at file 5)) (length (chars_read file size chars)) (length (attrs_read file size attrs)) (length out) ≡ unrefused)
       × (written (board_of (page_at file 5)) (chars_read file size chars) (attrs_read file size attrs) out ≡ file ++ drop (file_size (version_in file)) out)
   unfolding chars_read attrs_read written page_at
   again chars attrs out l = rw (chars-read-all file size ok chars, attrs-read-all file size ok attrs, fine, ok) (refl, rw same_bytes)
     where
-      fine : write_check (board_of (page_at file 5)) 16384 16384 (length out) ≡ Done
+      fine : write_check (board_of (page_at file 5)) 16384 16384 (length out) ≡ unrefused
       fine = write-ok (page_at file 5) (length out) (file-ok file size ok).rest_ok l
 
   -- [demand round] a page file accepted and written again is the same bytes
   -- the write answers 0, and out begins with the file
   pub page-same : (chars attrs out : List ℕ) → file_size (version_in file) ≤ length out
-      → (write_check (read_page_of file size).board (length (chars_read file size chars)) (length (attrs_read file size attrs)) (length out) ≡ Done)
+      → (write_check (read_page_of file size).board (length (chars_read file size chars)) (length (attrs_read file size attrs)) (length out) ≡ unrefused)
       × (written (read_page_of file size).board (chars_read file size chars) (attrs_read file size attrs) out ≡ file ++ drop (file_size (version_in file)) out)
   unfolding read_page_of
   page-same chars attrs out l = rw ok (again chars attrs out l)
@@ -106,11 +105,11 @@ length-file p chars attrs n c a = length-append (head_of p) (chars ++ attrs) ∙
 
 -- a board has fifteen IRs
 module _ (b : Board) (irs-all : length b.page.irs ≡ 15) (chars attrs out : List ℕ)
-    (ok : write_check b (length chars) (length attrs) (length out) ≡ Done) where
+    (ok : write_check b (length chars) (length attrs) (length out) ≡ unrefused) where
   memories : (length chars ≡ 16384) × (length attrs ≡ 16384)
   memories = ((write-passed b (length chars) (length attrs) (length out) ok).1, (write-passed b (length chars) (length attrs) (length out) ok).2)
 
-  page-ok : page_check b.page ≡ Done
+  page-ok : page_check b.page ≡ unrefused
   unfolding write_check
   page-ok = call-page b (wrong_size (memories_refused (length chars) (length attrs) || ltb (length out) (file_size b.page.version))) false false ok
 
@@ -139,7 +138,7 @@ module _ (b : Board) (irs-all : length b.page.irs ≡ 15) (chars attrs out : Lis
   unfolding length_refused
   length-ok = rw (eq-eqb _ _ (length-file b.page chars attrs irs-all memories.0 memories.1), eq-eqb _ _ long)
 
-  read_ok : read_check (file_of b.page chars attrs) false ≡ Done
+  read_ok : read_check (file_of b.page chars attrs) false ≡ unrefused
   unfolding read_check file_check
   read_ok = rw (sized, version, length-ok, page-is) (kept-check b.page ∙ page-ok)
 
@@ -160,13 +159,13 @@ module _ (b : Board) (irs-all : length b.page.irs ≡ 15) (chars attrs out : Lis
   -- [demand round]
   -- the file is read as that page at clock 0, its version as it counts, and its memories are those that were written
   pub board-same : (c a file : List ℕ) → file ≡ take (file_size b.page.version) (written b chars attrs out)
-      → (read_page_of file false ≡ page_read Done (board_of (kept_page b.page))) × (chars_read file false c ≡ chars) × (attrs_read file false a ≡ attrs)
+      → (read_page_of file false ≡ page_read unrefused (board_of (kept_page b.page))) × (chars_read file false c ≡ chars) × (attrs_read file false a ≡ attrs)
   unfolding read_page_of chars_read attrs_read
   board-same c a file e = rw (e ∙ file-is, read_ok) (rw page-is, rw sized chars-are, rw sized attrs-are)
 
 -- ---- a font file, read and written again
 
-module _ (file : List ℕ) (f : Font) (ok : font_check file (font_short file f) ≡ Done) where
+module _ (file : List ℕ) (f : Font) (ok : font_check file (font_short file f) ≡ unrefused) where
   font-ok : FilePassed file 2 (font_length (version_in file)) (font_short file f) (groups_check (file_groups file))
   unfolding font_check
   font-ok = file-passed file 2 (font_length (version_in file)) (font_short file f) (groups_check (file_groups file)) ok
@@ -200,7 +199,7 @@ module _ (file : List ℕ) (f : Font) (ok : font_check file (font_short file f) 
   pub font-fine : font_refused own ≡ false
   font-fine = ap font_refused own_is ∙ parts-fine
 
-  pub groups-fine : groups_check own.groups ≡ Done
+  pub groups-fine : groups_check own.groups ≡ unrefused
   groups-fine = ap (λ (x : Font). groups_check x.groups) own_is ∙ ap groups_check (groups-own file font-length f.groups) ∙ font-ok.rest_ok
 
   -- its version is the file's
@@ -212,7 +211,7 @@ module _ (file : List ℕ) (f : Font) (ok : font_check file (font_short file f) 
   -- [demand round] [R-7 font]
   -- the write answers 0, and out begins with the file
   pub font-same : Bytes file → (out : List ℕ) → font_size (version_in file) ≤ length out
-      → (font_write_check own (length out) ≡ Done) × (font_written own out ≡ file ++ drop (font_size (version_in file)) out)
+      → (font_write_check own (length out) ≡ unrefused) × (font_written own out ≡ file ++ drop (font_size (version_in file)) out)
   unfolding font_write_check font_written
   font-same bytes out l =
       rw (version-kept, font-fine, le-ltb (length out) (font_size (version_in file)) l, groups-fine) (

@@ -2,8 +2,7 @@
 -- parts of which a board is made and no step is refused, so that all that FromC promises holds of them. Assumes nothing.
 use Rattle.std.specs.Prelude.{ℕ, ◌≤◌, ◌≡◌, Bool, List, ◌++◌, length, drop}
 use Rattle.std.proofs.Common.{ap}
-use Rattle.refusal.specs.declared.Refusal.TheVariants.{Done}
-use Rattle.refusal.specs.Number.{number_of}
+use Rattle.refusal.specs.Number.{unrefused, number_of}
 use Rattle.board.specs.Layout.{file_size}
 use Rattle.shape.specs.Font.{Font, font_of}
 use Rattle.video.specs.At.{lent_check}
@@ -36,7 +35,7 @@ module _ (file numbers chars attrs : List ℕ)
   abbrev attrs_c : List ℕ
   attrs_c = attrs_read file size attrs
 
-  read_ok : read_check file size ≡ Done
+  read_ok : read_check file size ≡ unrefused
   read_ok = zero-done (read_check file size) page-taken
 
   -- [demand round]
@@ -49,7 +48,7 @@ module _ (file numbers chars attrs : List ℕ)
       let same = again file bytes size read_ok chars attrs out room in
       rw (numbers-fine file size read_ok numbers, numbers-are file size read_ok numbers) (ap number_of same.0, same.1)
 
-  accepted-check : numbers_check numbers_c ≡ Done
+  accepted-check : numbers_check numbers_c ≡ unrefused
   unfolding numbers_check
   accepted-check = rw (numbers-fine file size read_ok numbers, numbers-are file size read_ok numbers) (file-ok file size read_ok).rest_ok
 
@@ -67,19 +66,19 @@ module _ (file numbers chars attrs : List ℕ)
     abbrev pub answer_c : ℕ → StepAnswer
     answer_c = step_c numbers_c chars_c attrs_c font_c.words font_c.flags font_c.unshifted font_c.shifted font_c.groups
 
-    font-done : font_check fontfile (font_short fontfile lent) ≡ Done
+    font-done : font_check fontfile (font_short fontfile lent) ≡ unrefused
     font-done = zero-done (font_check fontfile (font_short fontfile lent)) font-taken
 
     -- which are those of the file's version
     pub groups-answered : (font_for fontfile lent).groups ≡ group_count (version_in fontfile)
     groups-answered = rw font-done
 
-    lent-fine : lent_check chars_c attrs_c font_c ≡ Done
+    lent-fine : lent_check chars_c attrs_c font_c ≡ unrefused
     lent-fine =
         rw (chars-read-all file size read_ok chars, attrs-read-all file size read_ok attrs, font-fine fontfile lent font-done) (groups-fine fontfile lent font-done)
 
     -- the hypothesis of the promises on `step`, `state_at` and `draw_line`
-    pub accepted-fits : step_check (numbers_board numbers_c) chars_c attrs_c font_c ≡ Done
+    pub accepted-fits : step_check (numbers_board numbers_c) chars_c attrs_c font_c ≡ unrefused
     accepted-fits = fit-from-c numbers_c chars_c attrs_c font_c.words font_c.flags font_c.unshifted font_c.shifted font_c.groups accepted-check lent-fine
 
     begun : ((board_for numbers_c).refusal ≡ 0) × ((answer_c 0).refusal ≡ 0)

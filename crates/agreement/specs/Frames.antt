@@ -2,7 +2,7 @@
 -- nor a drawn line's. Assumes nothing.
 use Rattle.std.specs.Prelude.{ℕ, ◌/◌, ◌%◌, ◌<◌, ◌≡◌, List}
 use Rattle.units.specs.Units.{clocks_of}
-use Rattle.refusal.specs.declared.Refusal.TheVariants.{Done}
+use Rattle.refusal.specs.Number.{unrefused}
 use Rattle.raster.specs.Moves.{Inside}
 use Rattle.board.specs.declared.Board.{Board}
 use Rattle.timing.specs.Fields.{hact_of, buffer_of, counts_of}
@@ -15,7 +15,7 @@ use Rattle.agreement.specs.Lines.{address_at, DrawnFrom}
 abbrev pub frame_clocks : Board → ℕ
 frame_clocks b = (clocks_of (counts_of b.page).vt (counts_of b.page).ht).0
 
-module _ (b : Board) (chars attrs : List ℕ) (f : Font) (ok : step_check b chars attrs f ≡ Done) where
+module _ (b : Board) (chars attrs : List ℕ) (f : Font) (ok : step_check b chars attrs f ≡ unrefused) where
   -- clock n, counted from clock 0: line and clock are both 0 exactly where whole frames are over, and the field counts the frames, modulo 256
   pub record Framed (n : ℕ) : Type 0 where
     pub ends : n % frame_clocks b ≡ 0 → ((after b chars attrs f n).place.line.0 ≡ 0) × ((after b chars attrs f n).place.clock.0 ≡ 0)

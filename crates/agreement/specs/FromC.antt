@@ -2,7 +2,7 @@
 -- makes a board of the same numbers with `feldrime_board_of` and takes it from clock to clock with `feldrime_step`. Both show the same cells and the same dots.
 -- All of it speaks of the definitions that the contracts of these calls cite, over the same numbers, memories and font parts. Assumes nothing.
 use Prim.Native.Nat.{ℕ, zero, suc, ◌+◌, ◌*◌, ◌/◌, ◌%◌, ◌≤◌, ◌<◌}
-use Rattle.std.specs.Prelude.{◌≡◌, Bool, length, get_or}
+use Rattle.std.specs.Prelude.{◌≡◌, Bool, length, get_or, is_ok, Err}
 use Rattle.std.proofs.Math.Path.{refl, ap}
 use Rattle.std.proofs.Common.{sym, ◌∙◌, eq-eqb}
 use Rattle.std.proofs.Math.Bool.{true, false}
@@ -12,9 +12,8 @@ use Rattle.std.proofs.Math.ListN.{take, drop}
 use Rattle.lists.specs.Choice.{pick}
 use Rattle.lists.specs.Join.{joined, same-joined}
 use Rattle.lists.specs.Tab.{tab, same-tab}
-use Rattle.refusal.specs.declared.Refusal.{Refusal}
-use Rattle.refusal.specs.declared.Refusal.TheVariants.{Done, Size}
-use Rattle.refusal.specs.Number.{number_of, done_of}
+use Rattle.refusal.specs.declared.Refusal.TheVariants.{Size}
+use Rattle.refusal.specs.Number.{unrefused, Checked, number_of}
 use Rattle.refusal.specs.Laws.{done-is, passed}
 use Rattle.raster.specs.Moves.{Inside}
 use Rattle.board.specs.declared.Board.{Board}
@@ -55,15 +54,15 @@ use Rattle.agreement.specs.Pictures.{picture-answers, picture-by-lines, picture-
 use Rattle.agreement.specs.Rows.{line_of, follows, nth_cell, nth_column, run-answers, run-shown, cells-shown}
 
 -- a refusal whose number is 0 is none
-pub zero-done : (r : Refusal) → number_of r ≡ 0 → r ≡ Done
+pub zero-done : (r : Checked) → number_of r ≡ 0 → r ≡ unrefused
 zero-done r e = done-is r (eq-eqb (number_of r) 0 e)
 
 -- a step that answers 0 was refused by nothing
-step-taken : (b : Board) (chars attrs : List ℕ) (f : Font) → (step_of b chars attrs f).refusal ≡ Done → step_check b chars attrs f ≡ Done
+step-taken : (b : Board) (chars attrs : List ℕ) (f : Font) → (step_of b chars attrs f).refusal ≡ unrefused → step_check b chars attrs f ≡ unrefused
 unfolding step_of
-step-taken b chars attrs f e = go (done_of (step_check b chars attrs f)) refl
+step-taken b chars attrs f e = go (is_ok (step_check b chars attrs f)) refl
   where
-    go : (t : Bool) → done_of (step_check b chars attrs f) ≡ t → step_check b chars attrs f ≡ Done
+    go : (t : Bool) → is_ok (step_check b chars attrs f) ≡ t → step_check b chars attrs f ≡ unrefused
     go true d = done-is (step_check b chars attrs f) d
     go false d = rw d at e
 
@@ -83,7 +82,7 @@ module _ (numbers chars attrs words flags unshifted shifted groups : List ℕ) w
   -- accepted or not, the board that is made stands at clock 0, where the steps begin
   pub steps-made : (n : ℕ) → after_c n ≡ after (board_for numbers).board chars attrs f n
   unfolding after_c after board_for
-  steps-made zero = go (done_of (numbers_check numbers))
+  steps-made zero = go (is_ok (numbers_check numbers))
     where
       go : (t : Bool) → pick t b power_of ≡ with_place (pick t b power_of) clock_zero
       go true = refl
@@ -115,12 +114,12 @@ module _ (numbers chars attrs words flags unshifted shifted groups : List ℕ) w
   -- ---- both are refused together
 
   -- a page's numbers that pass, and memories and font parts of the right sizes: this is what the promises on `step`, `state_at` and `draw_line` ask
-  pub fit-from-c : numbers_check numbers ≡ Done → lent_check chars attrs f ≡ Done → step_check b chars attrs f ≡ Done
+  pub fit-from-c : numbers_check numbers ≡ unrefused → lent_check chars attrs f ≡ unrefused → step_check b chars attrs f ≡ unrefused
   unfolding numbers_check
-  fit-from-c c l = call_ok b (lent_check chars attrs f) l (passed (numbers_refused numbers) Size _ refl c).1 (zero_ok (page_at numbers 1))
+  fit-from-c c l = call_ok b (lent_check chars attrs f) l (passed (numbers_refused numbers) (Err Size) _ refl c).1 (zero_ok (page_at numbers 1))
 
   -- then feldrime_board_of answers 0, and so does the first feldrime_step
-  pub begins-from-c : numbers_check numbers ≡ Done → lent_check chars attrs f ≡ Done → ((board_for numbers).refusal ≡ 0) × ((step_c 0).refusal ≡ 0)
+  pub begins-from-c : numbers_check numbers ≡ unrefused → lent_check chars attrs f ≡ unrefused → ((board_for numbers).refusal ≡ 0) × ((step_c 0).refusal ≡ 0)
   unfolding numbered after_c board_for step_of stepped_of
   begins-from-c c l = rw (c, fit-from-c c l) (refl, refl)
 
@@ -128,7 +127,7 @@ module _ (numbers chars attrs words flags unshifted shifted groups : List ℕ) w
   pub drawn-begins : (line room : ℕ) → (draw_c line room).refusal ≡ 0 → ((board_for numbers).refusal ≡ 0) × ((step_c 0).refusal ≡ 0)
   unfolding line_draw_check draw_check numbers_check
   drawn-begins line room e =
-      let d = passed (numbers_refused numbers) Size _ refl (zero-done (line_draw_check numbers chars attrs f line room) e) in
+      let d = passed (numbers_refused numbers) (Err Size) _ refl (zero-done (line_draw_check numbers chars attrs f line room) e) in
       let asked = leb (visible_of b.page).0 line in
       let short = ltb room (line_length b) in
       let page = call-page b (lent_check chars attrs f) asked short d.1 in
@@ -136,19 +135,19 @@ module _ (numbers chars attrs words flags unshifted shifted groups : List ℕ) w
 
   -- numbers of which a board is made, and a first step that is not refused
   module _ (board-made : (board_for numbers).refusal ≡ 0) (first_step : (step_c 0).refusal ≡ 0) where
-    check-ok : numbers_check numbers ≡ Done
+    check-ok : numbers_check numbers ≡ unrefused
     unfolding board_for
     check-ok = zero-done (numbers_check numbers) board-made
 
-    page-fine : page_check b.page ≡ Done
+    page-fine : page_check b.page ≡ unrefused
     unfolding numbers_check
-    page-fine = (passed (numbers_refused numbers) Size _ refl check-ok).1
+    page-fine = (passed (numbers_refused numbers) (Err Size) _ refl check-ok).1
 
     board-is : (board_for numbers).board ≡ b
     unfolding board_for
     board-is = rw check-ok
 
-    pub step_ok : step_check b chars attrs f ≡ Done
+    pub step_ok : step_check b chars attrs f ≡ unrefused
     unfolding after_c numbered
     step_ok = step-taken b chars attrs f (zero-done (step_of b chars attrs f).refusal (rw board-is at first_step))
 
@@ -169,7 +168,7 @@ module _ (numbers chars attrs words flags unshifted shifted groups : List ℕ) w
         rw (steps-from-c m, steps-from-c n) (ap number_of s.0, s.1)
 
     -- feldrime_page_size gives the visible lines, and how many bytes a line takes
-    pub size-from-c : size_for numbers ≡ size_answer Done (visible_of b.page).0 (line_length b)
+    pub size-from-c : size_for numbers ≡ size_answer unrefused (visible_of b.page).0 (line_length b)
     unfolding size_for size_of numbers_check
     size-from-c = rw (numbers-passed numbers check-ok, page-fine)
 
@@ -180,7 +179,7 @@ module _ (numbers chars attrs words flags unshifted shifted groups : List ℕ) w
     room_in room h = rw size-from-c at h
 
     -- and where these do, feldrime_line_draw does, for every visible line and any buffer with room for it
-    pub draw-answers-from-c : (l : ℕ) → l < (size_for numbers).lines → (room : ℕ) → (size_for numbers).dots ≤ room → draw_c l room ≡ answer_of Done
+    pub draw-answers-from-c : (l : ℕ) → l < (size_for numbers).lines → (room : ℕ) → (size_for numbers).dots ≤ room → draw_c l room ≡ answer_of unrefused
     unfolding line_draw_check
     draw-answers-from-c l hl room h = rw (numbers-passed numbers check-ok, draw-answers b chars attrs f step_ok l (line-in l hl) room (room_in room h))
 
@@ -192,7 +191,7 @@ module _ (numbers chars attrs words flags unshifted shifted groups : List ℕ) w
     -- line l of frame k, with field count k modulo 256: feldrime_line_draw answers 0, and the buffer begins with the dots of the line's active clocks as
     -- feldrime_step answers them, end to end; bytes beyond stay
     pub same-line-from-c : (k l : ℕ) → l < (size_for numbers).lines → (out : List ℕ) → (size_for numbers).dots ≤ length out
-        → (draw_c l (length out) ≡ answer_of Done)
+        → (draw_c l (length out) ≡ answer_of unrefused)
         × (drawn_c l (k % 256) out
         ≡ joined 0 (hact_of b.page) (λ c. take b.page.video.dots.0 (step_c (clock_of b k l c)).dots) ++ drop (size_for numbers).dots out)
     unfolding numbered
@@ -209,7 +208,7 @@ module _ (numbers chars attrs words flags unshifted shifted groups : List ℕ) w
     -- ---- the picture
 
     -- feldrime_picture_draw answers 0 for any buffer with room for the page's lines
-    pub picture-answers-from-c : (room : ℕ) → (size_for numbers).lines * (size_for numbers).dots ≤ room → picture_c room ≡ answer_of Done
+    pub picture-answers-from-c : (room : ℕ) → (size_for numbers).lines * (size_for numbers).dots ≤ room → picture_c room ≡ answer_of unrefused
     unfolding picture_draw_check
     picture-answers-from-c room h = rw (numbers-passed numbers check-ok, picture-answers b chars attrs f step_ok room (rw size-from-c at h))
 
@@ -275,16 +274,16 @@ module _ (numbers chars attrs words flags unshifted shifted groups : List ℕ) w
     -- feldrime_line_draw puts
     pub record ShownC (r l start : ℕ) : Type 0 where
       pub stepped : (k c : ℕ) → c < hact_of b.page → (step_c (clock_of b k (line_of b r l) c)).address ≡ follows b start (nth_cell b chars r c)
-      pub draw-done : (room : ℕ) → (size_for numbers).dots ≤ room → draw_c (line_of b r l) room ≡ answer_of Done
+      pub draw-done : (room : ℕ) → (size_for numbers).dots ≤ room → draw_c (line_of b r l) room ≡ answer_of unrefused
       pub drawn : DrawnFromC (line_of b r l) (λ c. follows b start (nth_cell b chars r c))
 
     module _ (r l : ℕ) (hr : r < rows_of b.page) (hl : l < lines_of b.page) where
-      run_is : run_for numbers chars r ≡ run_answer Done (span_of b chars r).start (span_of b chars r).count
+      run_is : run_for numbers chars r ≡ run_answer unrefused (span_of b chars r).start (span_of b chars r).count
       unfolding run_for
       run_is =
           let s = span_of b chars r in
-          let done : s.refusal ≡ Done = span-number b chars r s refl ∙ run-answers b chars attrs f step_ok r l hr hl in
-          rw (numbers-passed numbers check-ok) (ap (λ (x : Refusal). run_answer x s.start s.count) done)
+          let done : s.refusal ≡ unrefused = span-number b chars r s refl ∙ run-answers b chars attrs f step_ok r l hr hl in
+          rw (numbers-passed numbers check-ok) (ap (λ (x : Checked). run_answer x s.start s.count) done)
 
       -- [fetch run]
       -- the run that feldrime_row_run answers is what the row fetches first, cell after cell
@@ -297,7 +296,7 @@ module _ (numbers chars attrs words flags unshifted shifted groups : List ℕ) w
       -- them, on the line's active clocks in every frame, and elements beyond stay; at these addresses are the cells whose dots feldrime_line_draw puts; the first of them are the run that
       -- feldrime_row_run answers
       pub record CellsShownC (cells : List ℕ) : Type 0 where
-        pub answered : cells_for numbers chars r (length cells) ≡ cells_answer Done (fetched_of b.page chars r)
+        pub answered : cells_for numbers chars r (length cells) ≡ cells_answer unrefused (fetched_of b.page chars r)
         pub stepped : (k : ℕ) → cells_put_for numbers chars r cells
             ≡ tab (fetched_of b.page chars r) (λ i. (step_c (clock_of b k (line_of b r l) (nth_column b chars r i))).address) ++ drop (fetched_of b.page chars r) cells
         pub drawn : DrawnFromC (line_of b r l) (λ c. get_or (cells_put_for numbers chars r cells) (nth_cell b chars r c) 0)

@@ -7,7 +7,7 @@ use borrow.Author.Tests.{lt-ltb, lt-leb, le-ltb}
 use Rattle.std.proofs.Math.Arith.{digits_div, digits_mod}
 use Rattle.std.proofs.Math.ListN.{drop}
 use Rattle.lists.specs.Join.{joined, same-joined}
-use Rattle.refusal.specs.declared.Refusal.TheVariants.{Done}
+use Rattle.refusal.specs.Number.{unrefused}
 use Rattle.raster.specs.declared.Row.{Row}
 use Rattle.raster.specs.Wide.{is_wide}
 use Rattle.raster.specs.Beams.{row}
@@ -53,7 +53,7 @@ DrawnFrom b chars attrs f line address = (field : ℕ) (out : List ℕ) → line
     ≡ joined 0 (hact_of b.page) (λ c. shown_at b chars attrs f line field c (attributes_at b.page chars attrs (row_for b line) c) (address c))
     ++ drop (line_length b) out
 
-module _ (b : Board) (chars attrs : List ℕ) (f : Font) (ok : step_check b chars attrs f ≡ Done) where
+module _ (b : Board) (chars attrs : List ℕ) (f : Font) (ok : step_check b chars attrs f ≡ unrefused) where
   module _ (k l c : ℕ) (hl : l < (visible_of b.page).0) (hc : c < hact_of b.page) where
     c_lt : c < ht_of b.page
     c_lt = omega (arith, (fits b chars attrs f ok).page.hfp)
@@ -106,7 +106,7 @@ module _ (b : Board) (chars attrs : List ℕ) (f : Font) (ok : step_check b char
 
   -- a visible line and a buffer with room: nothing is refused, and the line's dots stand at the front of the buffer
   pub draw-answers : (l : ℕ) → l < (visible_of b.page).0 → (room : ℕ) → line_length b ≤ room
-      → draw_check b (lent_check chars attrs f) l room ≡ Done
+      → draw_check b (lent_check chars attrs f) l room ≡ unrefused
   unfolding draw_check
   draw-answers l hl room h = rw (lt-leb (visible_of b.page).0 l hl, le-ltb room (line_length b) h) ok
 

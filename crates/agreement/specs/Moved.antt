@@ -4,7 +4,7 @@
 --     never-coded   and never 19, since 4 comes first
 --     no_place      17 is the fact that from every place on some row fetches one of the table's cells
 --     as-sheet-told     moving back: 16, 19, 18
-use Rattle.std.specs.Prelude.{ℕ, ◌<◌, ◌≡◌, Bool, ◌&&◌, ◌||◌, List, [], ◌∷◌, eqb, ltb, length}
+use Rattle.std.specs.Prelude.{ℕ, ◌<◌, ◌≡◌, Bool, ◌&&◌, ◌||◌, List, [], ◌∷◌, eqb, ltb, length, is_ok, Err}
 use Rattle.std.proofs.Math.Path.{refl}
 use Rattle.std.proofs.Common.{sym, ◌∙◌, true≢false}
 use Rattle.std.proofs.Math.Bool.{true, false, not}
@@ -12,8 +12,8 @@ use native.Mathlib.Omega.{arith}
 use borrow.Author.Tests.{ltb-true, eqb-true, eq-eqb, ne_eqb}
 use Rattle.lists.specs.Choice.{pick, first_of}
 use Rattle.lists.specs.Search.{first-not, first-none}
-use Rattle.refusal.specs.declared.Refusal.TheVariants.{Done, Range, Room, Address, Reserved, BackPorch, LineShort, FrontPorch, Width, Kind, Stretch, Apart, Coded}
-use Rattle.refusal.specs.Number.{number_of, done_of, wrong_size}
+use Rattle.refusal.specs.declared.Refusal.TheVariants.{Range, Room, Address, Reserved, BackPorch, LineShort, FrontPorch, Width, Kind, Stretch, Apart, Coded}
+use Rattle.refusal.specs.Number.{unrefused, number_of, wrong_size}
 use Rattle.refusal.specs.Laws.{done-is}
 use Rattle.units.specs.declared.Clocks.{Clocks}
 use Rattle.board.specs.declared.Page.{Page}
@@ -30,7 +30,7 @@ unfolding page_check
 page-below p = go (address_refused p) (reserved_refused p) (back_porch_refused p) (line_short p) (front_porch_refused p) (width_refused p.video.dots) (missing p)
   where
     go : (a r b l f w : Bool) (n : Clocks)
-        → number_of (first_of ((a, Address) ∷ (r, Reserved) ∷ (b, BackPorch) ∷ (l, LineShort n) ∷ (f, FrontPorch n) ∷ (w, Width) ∷ []) Done) < 16
+        → number_of (first_of ((a, Err Address) ∷ (r, Err Reserved) ∷ (b, Err BackPorch) ∷ (l, LineShort n) ∷ (f, FrontPorch n) ∷ (w, Err Width) ∷ []) unrefused) < 16
     go true r b l f w n = omega arith
     go false true b l f w n = omega arith
     go false false true l f w n = omega arith
@@ -42,9 +42,9 @@ page-below p = go (address_refused p) (reserved_refused p) (back_porch_refused p
 module _ (b : Board) where
   pub own_below : (n : ℕ) → number_of (own_check b n) < 16
   unfolding own_check call_check
-  own_below n = go (memory_refused n) (not (done_of (page_check b.page))) (state_refused b || false)
+  own_below n = go (memory_refused n) (not (is_ok (page_check b.page))) (state_refused b || false)
     where
-      go : (s p t : Bool) → number_of (first_of ((not (done_of (wrong_size s)), wrong_size s) ∷ (p, page_check b.page) ∷ (t, Range) ∷ (false, Room) ∷ []) Done) < 16
+      go : (s p t : Bool) → number_of (first_of ((not (is_ok (wrong_size s)), wrong_size s) ∷ (p, page_check b.page) ∷ (t, Err Range) ∷ (false, Err Room) ∷ []) unrefused) < 16
       go true p t = omega arith
       go false true t = page-below b.page
       go false false true = omega arith
@@ -58,7 +58,7 @@ module _ (b : Board) where
 
   module _ (chars : List ℕ) where
     abbrev own : Bool
-    own = done_of (own_check b (length chars))
+    own = is_ok (own_check b (length chars))
 
     abbrev on : Bool
     on = table_of b.page
@@ -79,9 +79,9 @@ module _ (b : Board) where
     as-table-told = go own refl on coded none
       where
         go : (t : Bool) → own ≡ t → (o c n : Bool)
-            → (eqb (number_of (pick t (first_of ((o, Kind) ∷ (c, Coded) ∷ (n, Stretch) ∷ []) Done) (own_check b (length chars)))) 16 ≡ t && o)
-            × (eqb (number_of (pick t (first_of ((o, Kind) ∷ (c, Coded) ∷ (n, Stretch) ∷ []) Done) (own_check b (length chars)))) 19 ≡ t && not o && c)
-            × (eqb (number_of (pick t (first_of ((o, Kind) ∷ (c, Coded) ∷ (n, Stretch) ∷ []) Done) (own_check b (length chars)))) 17 ≡ t && not o && not c && n)
+            → (eqb (number_of (pick t (first_of ((o, Err Kind) ∷ (c, Err Coded) ∷ (n, Err Stretch) ∷ []) unrefused) (own_check b (length chars)))) 16 ≡ t && o)
+            × (eqb (number_of (pick t (first_of ((o, Err Kind) ∷ (c, Err Coded) ∷ (n, Err Stretch) ∷ []) unrefused) (own_check b (length chars)))) 19 ≡ t && not o && c)
+            × (eqb (number_of (pick t (first_of ((o, Err Kind) ∷ (c, Err Coded) ∷ (n, Err Stretch) ∷ []) unrefused) (own_check b (length chars)))) 17 ≡ t && not o && not c && n)
         go false e o c n = (not_own (length chars) 16 refl, not_own (length chars) 19 refl, not_own (length chars) 17 refl)
         go true e true c n = (refl, refl, refl)
         go true e false true n = (refl, refl, refl)
@@ -117,9 +117,9 @@ module _ (b : Board) where
     as-sheet-told = go own on coded (rows_apart b.page chars)
       where
         go : (t o c n : Bool)
-            → (eqb (number_of (pick t (first_of ((not o, Kind) ∷ (c, Coded) ∷ (n, Apart) ∷ []) Done) (own_check b (length chars)))) 16 ≡ t && not o)
-            × (eqb (number_of (pick t (first_of ((not o, Kind) ∷ (c, Coded) ∷ (n, Apart) ∷ []) Done) (own_check b (length chars)))) 19 ≡ t && o && c)
-            × (eqb (number_of (pick t (first_of ((not o, Kind) ∷ (c, Coded) ∷ (n, Apart) ∷ []) Done) (own_check b (length chars)))) 18 ≡ t && o && not c && n)
+            → (eqb (number_of (pick t (first_of ((not o, Err Kind) ∷ (c, Err Coded) ∷ (n, Err Apart) ∷ []) unrefused) (own_check b (length chars)))) 16 ≡ t && not o)
+            × (eqb (number_of (pick t (first_of ((not o, Err Kind) ∷ (c, Err Coded) ∷ (n, Err Apart) ∷ []) unrefused) (own_check b (length chars)))) 19 ≡ t && o && c)
+            × (eqb (number_of (pick t (first_of ((not o, Err Kind) ∷ (c, Err Coded) ∷ (n, Err Apart) ∷ []) unrefused) (own_check b (length chars)))) 18 ≡ t && o && not c && n)
         go false o c n = (not_own (length chars) 16 refl, not_own (length chars) 19 refl, not_own (length chars) 18 refl)
         go true false c n = (refl, refl, refl)
         go true true true n = (refl, refl, refl)

@@ -1,13 +1,12 @@
 -- No second answer meets the contract of a public function of `units`, `refusal`, `raster`, `board`, `timing` or `registers`: it names its answer, so each of
 -- these is `only`.
-use Rattle.std.specs.Prelude.{ℕ, min, ◌+◌, ◌-◌, ◌*◌, ◌/◌, ◌%◌, eqb, ltb, leb, ◌≡◌, Bool}
+use Rattle.std.specs.Prelude.{ℕ, min, ◌+◌, ◌-◌, ◌*◌, ◌/◌, ◌%◌, eqb, ltb, leb, ◌≡◌, Bool, is_ok}
 use Rattle.lists.specs.Answer.{OneAnswer, only}
 use Rattle.units.specs.declared.Dots.{Dots}
 use Rattle.units.specs.declared.Clocks.{Clocks}
 use Rattle.units.specs.declared.Lines.{Lines}
 use Rattle.units.specs.Units.{clocks, lines, during, clocks_of, whole_lines, dots_of}
-use Rattle.refusal.specs.declared.Refusal.{Refusal}
-use Rattle.refusal.specs.Number.{number_of, beside_of, done_of, wrong_size}
+use Rattle.refusal.specs.Number.{Checked, number_of, beside_of, wrong_size}
 use Rattle.raster.specs.declared.Buffer.{Buffer}
 use Rattle.raster.specs.declared.Cell.{Cell}
 use Rattle.raster.specs.declared.Code.{Code}
@@ -120,13 +119,13 @@ dots-of-one n clock = only _
 
 -- ---- `refusal`
 
-pub number-one : (x : Refusal) → OneAnswer (λ r. r ≡ number_of x)
+pub number-one : (x : Checked) → OneAnswer (λ r. r ≡ number_of x)
 number-one x = only _
 
-pub beside-one : (x : Refusal) → OneAnswer (λ r. r ≡ beside_of x)
+pub beside-one : (x : Checked) → OneAnswer (λ r. r ≡ beside_of x)
 beside-one x = only _
 
-pub is-done-one : (x : Refusal) → OneAnswer (λ r. r ≡ done_of x)
+pub is-done-one : (x : Checked) → OneAnswer (λ r. r ≡ is_ok x)
 is-done-one x = only _
 
 pub wrong-size-one : (wrong : Bool) → OneAnswer (λ r. r ≡ wrong_size wrong)
@@ -258,7 +257,7 @@ visible-of-one p = only _
 pub state-refused-one : (b : Board) → OneAnswer (λ r. r ≡ state_refused b)
 state-refused-one b = only _
 
-pub call-check-one : (b : Board) (lent : Refusal) (asked room : Bool) → OneAnswer (λ r. r ≡ call_check b lent asked room)
+pub call-check-one : (b : Board) (lent : Checked) (asked room : Bool) → OneAnswer (λ r. r ≡ call_check b lent asked room)
 call-check-one b lent asked room = only _
 
 -- ---- `registers`

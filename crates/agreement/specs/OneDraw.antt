@@ -4,7 +4,7 @@ use Rattle.std.specs.Prelude.{ℕ, ◌≡◌, Bool, List, length}
 use Rattle.std.proofs.Common.{arith, length-drop, length-take-le}
 use Rattle.lists.specs.Answer.{OneAnswer, only, only-both, only-four}
 use Rattle.units.specs.Units.{lines}
-use Rattle.refusal.specs.declared.Refusal.{Refusal}
+use Rattle.refusal.specs.Number.{Checked}
 use Rattle.raster.specs.declared.Buffer.{Buffer}
 use Rattle.raster.specs.declared.Cell.{Cell}
 use Rattle.raster.specs.declared.Code.{Code}
@@ -274,12 +274,12 @@ pub whole-line-one : (b : Board) (chars attrs words flags : List ℕ) (font : Fo
 whole-line-one b chars attrs words flags font line field out = only _
 
 -- the refusal and the buffer
-pub draw-line-one : (b : Board) (chars attrs : List ℕ) (f : Font) (line field : ℕ) (out : List ℕ) → OneAnswer (λ (r : Refusal × List ℕ). DrawsLine b chars attrs f line field out r.0 r.1)
+pub draw-line-one : (b : Board) (chars attrs : List ℕ) (f : Font) (line field : ℕ) (out : List ℕ) → OneAnswer (λ (r : Checked × List ℕ). DrawsLine b chars attrs f line field out r.0 r.1)
 draw-line-one b chars attrs f line field out = only-both _ _
 
 -- ---- `picture`
 
-pub draw-picture-one : (b : Board) (chars attrs : List ℕ) (f : Font) (field : ℕ) (out : List ℕ) → OneAnswer (λ (r : Refusal × List ℕ). DrawsPicture b chars attrs f field out r.0 r.1)
+pub draw-picture-one : (b : Board) (chars attrs : List ℕ) (f : Font) (field : ℕ) (out : List ℕ) → OneAnswer (λ (r : Checked × List ℕ). DrawsPicture b chars attrs f field out r.0 r.1)
 draw-picture-one b chars attrs f field out = only-both _ _
 
 -- ---- `place`

@@ -1,7 +1,7 @@
 -- No second answer meets the contract of a public function of `copies`, `files`, `numbers` or `listing`: it names its answer, so each of these is `only`.
 use Rattle.std.specs.Prelude.{ℕ, ◌≡◌, Bool, List}
 use Rattle.lists.specs.Answer.{OneAnswer, only, only-both, only-three, only-four}
-use Rattle.refusal.specs.declared.Refusal.{Refusal}
+use Rattle.refusal.specs.Number.{Checked}
 use Rattle.board.specs.declared.Page.{Page}
 use Rattle.board.specs.declared.Board.{Board}
 use Rattle.board.specs.Layout.{chars_place, file_size}
@@ -31,14 +31,14 @@ put_one src at out = only _
 pub read-page-one : (file chars attrs : List ℕ) → OneAnswer (λ (r : PageRead × List ℕ × List ℕ). ReadsPage file chars attrs r.0 r.1 r.2)
 read-page-one file chars attrs = only-three _ _ _
 
-pub write-page-one : (b : Board) (chars attrs out : List ℕ) → OneAnswer (λ (r : Refusal × List ℕ). WritesPage b chars attrs out r.0 r.1)
+pub write-page-one : (b : Board) (chars attrs out : List ℕ) → OneAnswer (λ (r : Checked × List ℕ). WritesPage b chars attrs out r.0 r.1)
 write-page-one b chars attrs out = only-both _ _
 
 -- the refusal and the five parts
-pub read-font-one : (file : List ℕ) (f : Font) → OneAnswer (λ (r : Refusal × Font). ReadsFont file f r.0 r.1)
+pub read-font-one : (file : List ℕ) (f : Font) → OneAnswer (λ (r : Checked × Font). ReadsFont file f r.0 r.1)
 read-font-one file f = only-both _ _
 
-pub write-font-one : (f : Font) (out : List ℕ) → OneAnswer (λ (r : Refusal × List ℕ). WritesFont f out r.0 r.1)
+pub write-font-one : (f : Font) (out : List ℕ) → OneAnswer (λ (r : Checked × List ℕ). WritesFont f out r.0 r.1)
 write-font-one f out = only-both _ _
 
 pub groups-in-one : (file : List ℕ) → OneAnswer (λ r. r ≡ group_count (version_in file))
@@ -75,18 +75,18 @@ pub numbers-check-one : (numbers : List ℕ) → OneAnswer (λ r. r ≡ numbers_
 numbers-check-one numbers = only _
 
 -- the refusal, the numbers and both memories
-pub read-file-one : (file numbers chars attrs : List ℕ) → OneAnswer (λ (r : Refusal × List ℕ × List ℕ × List ℕ). ReadsFile file numbers chars attrs r.0 r.1 r.2 r.3)
+pub read-file-one : (file numbers chars attrs : List ℕ) → OneAnswer (λ (r : Checked × List ℕ × List ℕ × List ℕ). ReadsFile file numbers chars attrs r.0 r.1 r.2 r.3)
 read-file-one file numbers chars attrs = only-four _ _ _ _
 
-pub write-file-one : (numbers chars attrs out : List ℕ) → OneAnswer (λ (r : Refusal × List ℕ). WritesFile numbers chars attrs out r.0 r.1)
+pub write-file-one : (numbers chars attrs out : List ℕ) → OneAnswer (λ (r : Checked × List ℕ). WritesFile numbers chars attrs out r.0 r.1)
 write-file-one numbers chars attrs out = only-both _ _
 
 -- the numbers
-pub put-page-one : (x : Refusal) (p : Page) (numbers : List ℕ) → OneAnswer (λ r. r ≡ page_or_own x p numbers)
+pub put-page-one : (x : Checked) (p : Page) (numbers : List ℕ) → OneAnswer (λ r. r ≡ page_or_own x p numbers)
 put-page-one x p numbers = only _
 
 -- the refusal and the numbers
-pub numbers-of-one : (b : Board) (numbers : List ℕ) → OneAnswer (λ (r : Refusal × List ℕ). GivesNumbers b numbers r.0 r.1)
+pub numbers-of-one : (b : Board) (numbers : List ℕ) → OneAnswer (λ (r : Checked × List ℕ). GivesNumbers b numbers r.0 r.1)
 numbers-of-one b numbers = only-both _ _
 
 -- ---- `listing`

@@ -6,7 +6,7 @@ use mathlib.Core.List.{List, ◌++◌}
 use Rattle.std.proofs.Math.Arith.{digits_div}
 use Rattle.std.proofs.Math.ListN.{drop}
 use Rattle.lists.specs.Join.{joined, same-joined, join-all}
-use Rattle.refusal.specs.declared.Refusal.TheVariants.{Done}
+use Rattle.refusal.specs.Number.{unrefused}
 use Rattle.board.specs.declared.Board.{Board}
 use Rattle.timing.specs.Fields.{hact_of, lines_of, rows_of, visible_of}
 use Rattle.fetch.specs.RowCells.{cells_put}
@@ -22,10 +22,10 @@ use Rattle.step.specs.After.{after, fits}
 use Rattle.agreement.specs.Lines.{clock_of, shown_at, draw-is, stepped_line}
 use Rattle.agreement.specs.Rows.{line_of, nth_cell, at-column}
 
-module _ (b : Board) (chars attrs : List ℕ) (f : Font) (ok : step_check b chars attrs f ≡ Done) where
+module _ (b : Board) (chars attrs : List ℕ) (f : Font) (ok : step_check b chars attrs f ≡ unrefused) where
   -- [more picture]
   -- a buffer with room: nothing is refused, and the picture stands at its front
-  pub picture-answers : (room : ℕ) → picture_length b.page ≤ room → picture_check b (lent_check chars attrs f) room ≡ Done
+  pub picture-answers : (room : ℕ) → picture_length b.page ≤ room → picture_check b (lent_check chars attrs f) room ≡ unrefused
   unfolding picture_check
   picture-answers room h = rw (le-ltb room (picture_length b.page) h) ok
 

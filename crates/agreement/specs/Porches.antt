@@ -1,7 +1,7 @@
 -- 02, R-2: which porch. A page is accepted exactly if neither 12 nor 4 refuses it, its back porch code is not 0, its front
 -- porch is at least 2, and 6 does not refuse it. Each of 13, 14 and 15 is answered exactly if its fact holds and none
 -- before it does, and the number beside it is what the front porch misses. Assumes nothing.
-use Rattle.std.specs.Prelude.{ℕ, ◌+◌, ◌-◌, ◌%◌, ◌≤◌, ◌≡◌, Bool, ◌&&◌, ◌||◌, [], ◌∷◌, ltb}
+use Rattle.std.specs.Prelude.{ℕ, ◌+◌, ◌-◌, ◌%◌, ◌≤◌, ◌≡◌, Bool, ◌&&◌, ◌||◌, [], ◌∷◌, ltb, is_ok, Err}
 use Rattle.std.proofs.Math.Path.{refl}
 use Rattle.std.proofs.Common.{sym, ap, ◌∙◌, arith, lt-ltb, ltb-true, ltb-false}
 use Rattle.std.proofs.Math.Bool.{true, false, not}
@@ -9,9 +9,8 @@ use Rattle.std.proofs.lemmas.Bool.{not-true}
 use Rattle.std.proofs.Math.Dec.{eqb}
 use Rattle.lists.specs.Choice.{pick, first_of, both}
 use Rattle.units.specs.declared.Clocks.{Clocks}
-use Rattle.refusal.specs.declared.Refusal.{Refusal}
-use Rattle.refusal.specs.declared.Refusal.TheVariants.{Done, Version, Length, Size, Reserved, BackPorch, LineShort, FrontPorch, Width, Range, Room, Register, Command, Address, Kind, Stretch, Apart, Coded}
-use Rattle.refusal.specs.Number.{number_of, beside_of, done_of}
+use Rattle.refusal.specs.declared.Refusal.TheVariants.{Version, Length, Size, Reserved, BackPorch, LineShort, FrontPorch, Width, Range, Room, Register, Command, Address, Kind, Stretch, Apart, Coded}
+use Rattle.refusal.specs.Number.{unrefused, Checked, number_of, beside_of}
 use Rattle.board.specs.declared.Page.{Page}
 use Rattle.board.specs.Range.{address_refused}
 use Rattle.timing.specs.Fields.{ir, rest_of, hfp_of, ht_of}
@@ -25,8 +24,8 @@ abbrev pub accepted : Page → Bool
 accepted p = not (address_refused p) && not (reserved_refused p) && not (porch_refused p) && not (width_refused p.video.dots)
 
 -- the page check by its six facts
-abbrev order : (a r b l f w : Bool) → Clocks → Refusal
-order a r b l f w n = first_of ((a, Address) ∷ (r, Reserved) ∷ (b, BackPorch) ∷ (l, LineShort n) ∷ (f, FrontPorch n) ∷ (w, Width) ∷ []) Done
+abbrev order : (a r b l f w : Bool) → Clocks → Checked
+order a r b l f w n = first_of ((a, Err Address) ∷ (r, Err Reserved) ∷ (b, Err BackPorch) ∷ (l, LineShort n) ∷ (f, FrontPorch n) ∷ (w, Err Width) ∷ []) unrefused
 
 module _ (p : Page) where
   by-facts : page_check p ≡ order (address_refused p) (reserved_refused p) (back_porch_refused p) (line_short p) (front_porch_refused p) (width_refused p.video.dots) (missing p)
@@ -39,12 +38,12 @@ module _ (p : Page) where
 
   -- [R-2 accepted] which pages are accepted doesn't change; A2 is 15, one clock short
   -- accepted: neither 12 nor 4 nor 6 refuses, the HBP code is not 0, and HFP is at least 2
-  pub accepted-exactly : done_of (page_check p) ≡ accepted p
+  pub accepted-exactly : is_ok (page_check p) ≡ accepted p
   accepted-exactly =
-      ap done_of by-facts ∙ go (address_refused p) (reserved_refused p) (back_porch_refused p) (line_short p) (front_porch_refused p) (width_refused p.video.dots) short-porch
+      ap is_ok by-facts ∙ go (address_refused p) (reserved_refused p) (back_porch_refused p) (line_short p) (front_porch_refused p) (width_refused p.video.dots) short-porch
     where
       go : (a r b l f w : Bool) → (l ≡ true → f ≡ true)
-          → done_of (order a r b l f w (missing p)) ≡ not a && not r && not (b || f) && not w
+          → is_ok (order a r b l f w (missing p)) ≡ not a && not r && not (b || f) && not w
       go true r b l f w s = refl
       go false true b l f w s = refl
       go false false true l f w s = refl
@@ -104,22 +103,22 @@ module _ (p : Page) where
 
 -- [R-2 missing]
 -- no other refusal has a number beside it
-pub beside_none : (r : Refusal) → (number_of r ≡ 14 → ⊥) → (number_of r ≡ 15 → ⊥) → beside_of r ≡ 0
-beside_none Done s f = refl
-beside_none Version s f = refl
-beside_none Length s f = refl
-beside_none Size s f = refl
-beside_none Reserved s f = refl
-beside_none BackPorch s f = refl
-beside_none Width s f = refl
-beside_none Range s f = refl
-beside_none Room s f = refl
-beside_none Register s f = refl
-beside_none Command s f = refl
-beside_none Address s f = refl
-beside_none Kind s f = refl
-beside_none Stretch s f = refl
-beside_none Apart s f = refl
-beside_none Coded s f = refl
-beside_none (LineShort n) s f = absurd (s refl)
-beside_none (FrontPorch n) s f = absurd (f refl)
+pub beside_none : (r : Checked) → (number_of r ≡ 14 → ⊥) → (number_of r ≡ 15 → ⊥) → beside_of r ≡ 0
+beside_none unrefused s f = refl
+beside_none (Err Version) s f = refl
+beside_none (Err Length) s f = refl
+beside_none (Err Size) s f = refl
+beside_none (Err Reserved) s f = refl
+beside_none (Err BackPorch) s f = refl
+beside_none (Err Width) s f = refl
+beside_none (Err Range) s f = refl
+beside_none (Err Room) s f = refl
+beside_none (Err Register) s f = refl
+beside_none (Err Command) s f = refl
+beside_none (Err Address) s f = refl
+beside_none (Err Kind) s f = refl
+beside_none (Err Stretch) s f = refl
+beside_none (Err Apart) s f = refl
+beside_none (Err Coded) s f = refl
+beside_none (Err (LineShort n)) s f = absurd (s refl)
+beside_none (Err (FrontPorch n)) s f = absurd (f refl)

@@ -12,8 +12,7 @@ use Rattle.std.proofs.Math.ListN.{drop}
 use Rattle.lists.specs.Choice.{pick}
 use Rattle.lists.specs.Join.{joined, same-joined}
 use Rattle.lists.specs.Tab.{tab, same-tab}
-use Rattle.refusal.specs.declared.Refusal.TheVariants.{Done}
-use Rattle.refusal.specs.Number.{wrong_size}
+use Rattle.refusal.specs.Number.{unrefused, wrong_size}
 use Rattle.raster.specs.Moves.{advance_by}
 use Rattle.raster.specs.Wide.{code_of, is_wide}
 use Rattle.board.specs.declared.Board.{Board}
@@ -66,7 +65,7 @@ cell_in b chars r c h = go (is_wide (code_of (code_at b.page chars r)))
     go true = omega (arith, h)
     go false = h
 
-module _ (b : Board) (chars attrs : List ℕ) (f : Font) (ok : step_check b chars attrs f ≡ Done) (r l : ℕ)
+module _ (b : Board) (chars attrs : List ℕ) (f : Font) (ok : step_check b chars attrs f ≡ unrefused) (r l : ℕ)
     (hr : r < rows_of b.page) (hl : l < lines_of b.page) where
   pub row_is : line_of b r l / lines_of b.page ≡ r
   row_is = digits_div r hl
@@ -96,7 +95,7 @@ module _ (b : Board) (chars attrs : List ℕ) (f : Font) (ok : step_check b char
 
   -- ---- the row's run
 
-  pub run-answers : run_check b (length chars) r ≡ Done
+  pub run-answers : run_check b (length chars) r ≡ unrefused
   unfolding run_check
   run-answers =
       rw (lt-leb (rows_of b.page) r hr)
@@ -120,17 +119,17 @@ module _ (b : Board) (chars attrs : List ℕ) (f : Font) (ok : step_check b char
   -- active clocks in every frame, and elements beyond stay; at these addresses are the cells whose dots `draw_line` writes; the first of them are the run that
   -- `row_run` gives
   pub record CellsShown (cells : List ℕ) : Type 0 where
-    pub answered : cells_given b chars r (length cells) ≡ row_of Done (fetched_of b.page chars r)
+    pub answered : cells_given b chars r (length cells) ≡ row_of unrefused (fetched_of b.page chars r)
     pub stepped : (k : ℕ) → cells_put b chars r cells
         ≡ tab (fetched_of b.page chars r) (λ i. address_at b chars attrs f k (line_of b r l) (nth_column b chars r i)) ++ drop (fetched_of b.page chars r) cells
     pub drawn : DrawnFrom b chars attrs f (line_of b r l) (λ c. get_or (cells_put b chars r cells) (nth_cell b chars r c) 0)
     pub begun : (i : ℕ) → i < (span_of b chars r).count → get_or (cells_put b chars r cells) i 0 ≡ (span_of b chars r).start + i
 
   module _ (cells : List ℕ) (room : 256 ≤ length cells) where
-    cells-answer : cells_check b (length chars) r (length cells) ≡ Done
+    cells-answer : cells_check b (length chars) r (length cells) ≡ unrefused
     cells-answer = cells-as-run b (length chars) r (length cells) room ∙ run-answers
 
-    given : cells_given b chars r (length cells) ≡ row_of Done (fetched_of b.page chars r)
+    given : cells_given b chars r (length cells) ≡ row_of unrefused (fetched_of b.page chars r)
     unfolding cells_given
     given = rw cells-answer
 

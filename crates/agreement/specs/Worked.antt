@@ -2,7 +2,7 @@
 use Rattle.std.specs.Prelude.{ℕ, ◌+◌, ◌*◌, ◌-◌, ◌<◌, ◌≡◌, refl, true, List, [], ◌∷◌, ◌++◌, length, replicate}
 use Rattle.std.proofs.Common.{arith, ne_eqb}
 use Rattle.lists.specs.Search.{any_below, any_some, first-lt}
-use Rattle.refusal.specs.declared.Refusal.TheVariants.{Done}
+use Rattle.refusal.specs.Number.{unrefused}
 use Rattle.raster.specs.Moves.{advance_by, to_last}
 use Rattle.raster.specs.Latch.{last_set}
 use Rattle.board.specs.declared.Page.{Page}
@@ -38,12 +38,12 @@ memory = replicate 16384 0
 unfoldable pub font : Font
 font = font_of (replicate 1152 0) (replicate 128 0) (replicate 9 0) (replicate 9 0) []
 
-pub sheet-taken : step_check sheet memory memory font ≡ Done
+pub sheet-taken : step_check sheet memory memory font ≡ unrefused
 unfolding sheet memory font page groups_refused call_check page_check address_refused coded_of lines_of table_of hbp_of vsync_of state_refused layout_of
 sheet-taken = refl
 
 -- its numbers are given, so `board-back` and `numbers-back` speak of something
-pub sheet-saved : numbers_of_check sheet 32 ≡ Done
+pub sheet-saved : numbers_of_check sheet 32 ≡ unrefused
 unfolding sheet page numbers_of_check page_check address_refused coded_of table_of hbp_of
 sheet-saved = refl
 
@@ -51,7 +51,7 @@ sheet-saved = refl
 unfoldable pub low : Board
 low = board_of (page 35 80 2048 3071 0 0)
 
-pub low-taken : step_check low memory memory font ≡ Done
+pub low-taken : step_check low memory memory font ≡ unrefused
 unfolding low memory font groups_refused page call_check page_check address_refused coded_of lines_of table_of hbp_of vsync_of state_refused layout_of
 low-taken = refl
 
@@ -99,7 +99,7 @@ entries = replicate 16384 64
 unfoldable pub reversed : List ℕ
 reversed = replicate 16384 129
 
-pub coded-taken : step_check coded entries reversed font ≡ Done
+pub coded-taken : step_check coded entries reversed font ≡ unrefused
 unfolding coded entries reversed font groups_refused call_check page_check address_refused coded_of lines_of table_of hbp_of vsync_of state_refused layout_of
 coded-taken = refl
 
@@ -113,7 +113,7 @@ coded-held = refl
 pub small : Board
 small = board_of (catalogued 1 1 0 0 1 1)
 
-small-own : own_check small (length memory) ≡ Done
+small-own : own_check small (length memory) ≡ unrefused
 unfolding small memory own_check call_check page_check address_refused coded_of lines_of table_of hbp_of vsync_of state_refused layout_of
 small-own = refl
 
@@ -121,7 +121,7 @@ room-at-1 : unfetched_at small.page memory 1 ≡ true
 unfolding small memory unfetched_at fetches_cell any_below fetch_at fetched_of lines_of vsync_of counts_of coded_of table_of code_at row_start advance_by to_last buffer_of
 room-at-1 = refl
 
-pub as-table-taken : as_table_check small memory ≡ Done
+pub as-table-taken : as_table_check small memory ≡ unrefused
 unfolding small coded_of table_of as_table_check table_place
 as-table-taken =
     let n : ℕ = table_places small.page in
@@ -134,6 +134,6 @@ follows_on = board_of (catalogued 2 1 0 1 1 1)
 pub follow-entries : List ℕ
 follow-entries = 0 ∷ 0 ∷ 1 ∷ replicate 16381 0
 
-pub as-sheet-taken : as_sheet_check follows_on follow-entries ≡ Done
+pub as-sheet-taken : as_sheet_check follows_on follow-entries ≡ unrefused
 unfolding follows_on follow-entries as_sheet_check own_check call_check page_check address_refused coded_of lines_of table_of hbp_of vsync_of state_refused layout_of rows_apart follows_row any_below entry_of advance_by to_last buffer_of
 as-sheet-taken = refl

@@ -2,14 +2,15 @@
 --     same-counts, same-buffer, ..   all else that their registers say is the same
 --     same-accepted                  if one is accepted, so is the other, where the starts and the row table allow it
 --     same-state                     a place that is in range for one is in range for the other
-use Rattle.std.specs.Prelude.{ℕ, ◌*◌, ◌/◌, ◌%◌, ◌≤◌, ◌≡◌, ◌&&◌, ◌||◌, eqb}
+use Rattle.std.specs.Prelude.{ℕ, ◌*◌, ◌/◌, ◌%◌, ◌≤◌, ◌≡◌, ◌&&◌, ◌||◌, eqb, Err}
 use Rattle.std.proofs.Math.Path.{refl, ap}
 use Rattle.std.proofs.Math.Bool.{false, not}
 use Rattle.std.proofs.Common.{arith}
 use borrow.Author.Tests.{le-ltb}
 use Rattle.std.proofs.Math.Dec.{ltb}
 use Rattle.lists.specs.Choice.{neither}
-use Rattle.refusal.specs.declared.Refusal.TheVariants.{Done, Address, Reserved}
+use Rattle.refusal.specs.Number.{unrefused}
+use Rattle.refusal.specs.declared.Refusal.TheVariants.{Address, Reserved}
 use Rattle.refusal.specs.Laws.{passed}
 use Rattle.raster.specs.declared.Counts.{Counts}
 use Rattle.board.specs.declared.Page.{Page}
@@ -97,12 +98,12 @@ module _ {p q : Page} (s : Same p q) where
   unfolding hbp_of
   same-porches = (rw same-hbp, simp (s.others, same-hsync, same-hbp), simp (s.others, same-hsync, same-hbp), simp (s.others, same-hsync, same-hbp))
 
-  pub same-accepted : page_check p ≡ Done → q.starts.start1 ≤ 16383 → q.starts.start2 ≤ 16383 → video_refused q.version q.video ≡ false
-      → (coded_of q && not (table_of q)) ≡ false → page_check q ≡ Done
+  pub same-accepted : page_check p ≡ unrefused → q.starts.start1 ≤ 16383 → q.starts.start2 ≤ 16383 → video_refused q.version q.video ≡ false
+      → (coded_of q && not (table_of q)) ≡ false → page_check q ≡ unrefused
   unfolding page_check address_refused
   same-accepted ok h1 h2 video table =
-      let address = passed (address_refused p) Address _ refl ok in
-      let reserved = passed (reserved_refused p) Reserved _ refl address.1 in
+      let address = passed (address_refused p) (Err Address) _ refl ok in
+      let reserved = passed (reserved_refused p) (Err Reserved) _ refl address.1 in
       let switches = neither (starts_refused p.starts) (switches_refused p.version p.switches) (neither (starts_refused p.starts || switches_refused p.version p.switches) (video_refused p.version p.video) address.0).0 in
       let starts = neither (ltb 16383 p.starts.start1 || ltb 16383 p.starts.cursor) (ltb 16383 p.starts.start2) switches.0 in
       let cursor = (neither (ltb 16383 p.starts.start1) (ltb 16383 p.starts.cursor) starts.0).1 in
@@ -113,10 +114,10 @@ module _ {p q : Page} (s : Same p q) where
       rw (address-too, reserved-too) (rw (same-porches.0, same-porches.1, same-porches.2, same-porches.3, s.dots) at reserved.1)
 
 -- an accepted page's video part
-pub video-passed : (p : Page) → page_check p ≡ Done → video_refused p.version p.video ≡ false
+pub video-passed : (p : Page) → page_check p ≡ unrefused → video_refused p.version p.video ≡ false
 unfolding page_check address_refused
 video-passed p ok =
-    (neither (starts_refused p.starts || switches_refused p.version p.switches) (video_refused p.version p.video) (passed (address_refused p) Address _ refl ok).0).1
+    (neither (starts_refused p.starts || switches_refused p.version p.switches) (video_refused p.version p.video) (passed (address_refused p) (Err Address) _ refl ok).0).1
 
 pub same-state : (b : Board) (q : Page) → Same b.page q → state_refused b ≡ state_refused (with_page b q)
 unfolding state_refused

@@ -2,8 +2,7 @@
 use Rattle.std.specs.Prelude.{ℕ, ◌≡◌, List, length}
 use Rattle.std.proofs.Common.{sym, ap, ◌∙◌}
 use Rattle.std.proofs.Math.Bool.{false}
-use Rattle.refusal.specs.declared.Refusal.{Refusal}
-use Rattle.refusal.specs.declared.Refusal.TheVariants.{Done}
+use Rattle.refusal.specs.Number.{Checked, unrefused}
 use Rattle.board.specs.declared.Board.{Board}
 use Rattle.board.specs.Parts.{with_page}
 use Rattle.timing.specs.Check.{page_check, state_refused, call_check}
@@ -18,16 +17,16 @@ use Rattle.alike.specs.Drawn.{alike-picture}
 use Rattle.alike.specs.Steps.{SameStep, alike-step}
 
 -- what refuses a view's memories, or a font
-abbrev pub lent_of : View → Font → Refusal
+abbrev pub lent_of : View → Font → Checked
 lent_of v f = lent_check v.chars v.attrs f
 
 -- one shows what the other shows, with any font
 pub record Shows (v w : View) : Type 0 where
-  pub accepted : page_check (page_of w) ≡ Done
+  pub accepted : page_check (page_of w) ≡ unrefused
   pub lent : (f : Font) → lent_of v f ≡ lent_of w f
   pub answered : (f : Font) (room : ℕ) → picture_check v.board (lent_of v f) room ≡ picture_check w.board (lent_of w f) room
   pub pictured : (f : Font) (field : ℕ) (out : List ℕ) → pictured_of v.board v.chars v.attrs f field out ≡ pictured_of w.board w.chars w.attrs f field out
-  pub stepped : (f : Font) → step_check v.board v.chars v.attrs f ≡ Done → (step_check w.board w.chars w.attrs f ≡ Done) × ((k : ℕ) → SameStep v w f k)
+  pub stepped : (f : Font) → step_check v.board v.chars v.attrs f ≡ unrefused → (step_check w.board w.chars w.attrs f ≡ unrefused) × ((k : ℕ) → SameStep v w f k)
 
 -- one move after another
 pub shows-on : {u v w : View} → Shows u v → Shows v w → Shows u w
@@ -50,7 +49,7 @@ shows-on {w = w} s t = record {
 }
 
 module _ {v w : View} (a : Alike v w) (chars-long : length v.chars ≡ length w.chars) (attrs-long : length v.attrs ≡ length w.attrs)
-    (ok : page_check (page_of v) ≡ Done) (ok' : page_check (page_of w) ≡ Done) where
+    (ok : page_check (page_of v) ≡ unrefused) (ok' : page_check (page_of w) ≡ unrefused) where
   same-room : picture_length (page_of v) ≡ picture_length (page_of w)
   same-room = rw (same-visible a.page, same-hact a.page, a.page.dots)
 
@@ -60,7 +59,7 @@ module _ {v w : View} (a : Alike v w) (chars-long : length v.chars ≡ length w.
   state-alike : state_refused v.board ≡ state_refused w.board
   state-alike = same-state v.board (page_of w) a.page ∙ ap state_refused a.board
 
-  same_answer : (lent : Refusal) (room : ℕ) → picture_check v.board lent room ≡ picture_check w.board lent room
+  same_answer : (lent : Checked) (room : ℕ) → picture_check v.board lent room ≡ picture_check w.board lent room
   unfolding picture_check call_check
   same_answer lent room = rw (ok, ok', state-alike, same-room)
 

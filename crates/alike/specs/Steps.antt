@@ -6,7 +6,7 @@ use Rattle.std.proofs.Math.Bool.{true, false}
 use Rattle.std.proofs.Math.Decide.{dec_lt}
 use borrow.Author.Tests.{ltb-true}
 use Rattle.lists.specs.Choice.{both}
-use Rattle.refusal.specs.declared.Refusal.TheVariants.{Done}
+use Rattle.refusal.specs.Number.{unrefused}
 use Rattle.raster.specs.declared.Row.{Row}
 use Rattle.raster.specs.Beams.{row}
 use Rattle.board.specs.declared.Page.{Page}
@@ -112,7 +112,7 @@ module _ {v w : View} (a : Alike v w) where
 
   -- ---- every step from clock 0
 
-  module _ (f : Font) (ok : step_check v.board v.chars v.attrs f ≡ Done) (ok' : step_check w.board w.chars w.attrs f ≡ Done) (k : ℕ) where
+  module _ (f : Font) (ok : step_check v.board v.chars v.attrs f ≡ unrefused) (ok' : step_check w.board w.chars w.attrs f ≡ unrefused) (k : ℕ) where
     abbrev at : Place
     at = place_at p v.chars v.attrs k
 

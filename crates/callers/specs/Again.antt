@@ -1,13 +1,12 @@
 -- A file read and written again. Assumes nothing.
-use Rattle.std.specs.Prelude.{ℕ, ◌≤◌, ◌≡◌, Bool, ◌&&◌, List, ◌++◌, length, take, drop, replicate, eqb}
+use Rattle.std.specs.Prelude.{ℕ, ◌≤◌, ◌≡◌, Bool, ◌&&◌, List, ◌++◌, length, take, drop, replicate, eqb, is_ok, Err}
 use Rattle.std.proofs.Math.Path.{refl, ap}
 use Rattle.std.proofs.Common.{sym, ◌∙◌, eq-eqb, ne_eqb, ltb-false}
 use Rattle.std.proofs.Math.Bool.{true, false, or-true}
 use Rattle.std.proofs.Math.Dec.{ltb}
 use Rattle.lists.specs.Choice.{pick}
-use Rattle.refusal.specs.declared.Refusal.{Refusal}
-use Rattle.refusal.specs.declared.Refusal.TheVariants.{Done, Size}
-use Rattle.refusal.specs.Number.{number_of, beside_of, done_of}
+use Rattle.refusal.specs.declared.Refusal.TheVariants.{Size}
+use Rattle.refusal.specs.Number.{unrefused, Checked, number_of, beside_of}
 use Rattle.refusal.specs.Laws.{done-is}
 use Rattle.board.specs.declared.Board.{Board}
 use Rattle.board.specs.Layout.{file_size}
@@ -28,26 +27,26 @@ use Rattle.agreement.specs.Files.{version-kept, font-same}
 use Rattle.agreement.specs.FilesFromC.{page-same-from-c}
 
 -- the read's own answer, then 3 where there is room for less than the file's n bytes
-unfoldable pub again_check : (read : Refusal) (n room : ℕ) → Refusal
-again_check read n room = pick (done_of read) (pick (ltb room n) Size Done) read
+unfoldable pub again_check : (read : Checked) (n room : ℕ) → Checked
+again_check read n room = pick (is_ok read) (pick (ltb room n) (Err Size) unrefused) read
 
 -- the file, and what stood beyond it; on a refusal the buffer as it was
-unfoldable pub written_again : (read : Refusal) (n : ℕ) (file out : List ℕ) → List ℕ
-written_again read n file out = pick (done_of (again_check read n (length out))) (file ++ drop n out) out
+unfoldable pub written_again : (read : Checked) (n : ℕ) (file out : List ℕ) → List ℕ
+written_again read n file out = pick (is_ok (again_check read n (length out))) (file ++ drop n out) out
 
 -- a call's answer that is 0, and one that is not
-pub answer-done : (r : Refusal) {a : Answer} → a ≡ answer_of r → a.refusal ≡ 0 → r ≡ Done
+pub answer-done : (r : Checked) {a : Answer} → a ≡ answer_of r → a.refusal ≡ 0 → r ≡ unrefused
 answer-done r p e = done-is r (eq-eqb _ _ (ap (λ (x : Answer). x.refusal) (sym p) ∙ e))
 
 -- a read that refuses
-pub read-stops : (r : Refusal) (n : ℕ) (file out : List ℕ) {a : Answer} → a ≡ answer_of r → (a.refusal ≡ 0 → ⊥)
+pub read-stops : (r : Checked) (n : ℕ) (file out : List ℕ) {a : Answer} → a ≡ answer_of r → (a.refusal ≡ 0 → ⊥)
     → (a ≡ answer_of (again_check r n (length out))) × (out ≡ written_again r n file out)
 unfolding again_check written_again
-read-stops r n file out p e = let d : done_of r ≡ false = ne_eqb _ _ (λ q. e (ap (λ (x : Answer). x.refusal) p ∙ q)) in (rw d p, rw (d, d))
+read-stops r n file out p e = let d : is_ok r ≡ false = ne_eqb _ _ (λ q. e (ap (λ (x : Answer). x.refusal) p ∙ q)) in (rw d p, rw (d, d))
 
 -- a read that is done, and the write after it: w is the write's answer, and out' what it leaves
-module _ (n : ℕ) (file out : List ℕ) {r w : Refusal} {a : Answer} {out' : List ℕ} (ok : r ≡ Done) (p : a ≡ answer_of w)
-    (roomy : n ≤ length out → (w ≡ Done) × (out' ≡ file ++ drop n out)) (short : ltb (length out) n ≡ true → (w ≡ Size) × (out' ≡ out)) where
+module _ (n : ℕ) (file out : List ℕ) {r w : Checked} {a : Answer} {out' : List ℕ} (ok : r ≡ unrefused) (p : a ≡ answer_of w)
+    (roomy : n ≤ length out → (w ≡ unrefused) × (out' ≡ file ++ drop n out)) (short : ltb (length out) n ≡ true → (w ≡ Err Size) × (out' ≡ out)) where
   pub wrote : (a ≡ answer_of (again_check r n (length out))) × (out' ≡ written_again r n file out)
   unfolding again_check written_again
   wrote = go (ltb (length out) n) refl
@@ -59,16 +58,16 @@ module _ (n : ℕ) (file out : List ℕ) {r w : Refusal} {a : Answer} {out' : Li
 -- ---- a page
 
 -- a buffer that is too short
-write-short : (b : Board) (c a n : ℕ) → ltb n (file_size b.page.version) ≡ true → write_check b c a n ≡ Size
+write-short : (b : Board) (c a n : ℕ) → ltb n (file_size b.page.version) ≡ true → write_check b c a n ≡ Err Size
 unfolding write_check call_check
 write-short b c a n t = rw (t, or-true (memories_refused c a))
 
 page-short : (numbers chars attrs out : List ℕ) → ltb (length out) (file_size (version_in numbers)) ≡ true
-    → (page_write_check numbers (length chars) (length attrs) (length out) ≡ Size) × (page_written numbers chars attrs out ≡ out)
+    → (page_write_check numbers (length chars) (length attrs) (length out) ≡ Err Size) × (page_written numbers chars attrs out ≡ out)
 unfolding page_write_check page_written written page_at
 page-short numbers chars attrs out t = rw (write-short (numbers_board numbers) (length chars) (length attrs) (length out) t) (both (numbers_refused numbers))
   where
-    both : (x : Bool) → (pick x Size Size ≡ Size) × (pick x out out ≡ out)
+    both : (x : Bool) → (pick x (Err Size) (Err Size) ≡ Err Size) × (pick x out out ≡ out)
     both true = (refl, refl)
     both false = (refl, refl)
 
@@ -78,7 +77,7 @@ zeros n = replicate n 0
 
 module _ (file : List ℕ) (bytes : Bytes file) (out : List ℕ) {a : Answer} {numbers chars attrs : List ℕ}
     (read : (a ≡ answer_of (read_check file false)) × (numbers ≡ numbers_read file false (zeros 32)) × (chars ≡ chars_read file false (zeros 16384)) × (attrs ≡ attrs_read file false (zeros 16384))) where
-  version-read : read_check file false ≡ Done → version_in numbers ≡ version_in file
+  version-read : read_check file false ≡ unrefused → version_in numbers ≡ version_in file
   unfolding numbers_read
   version-read ok = rw (read.1, ok)
 
@@ -89,7 +88,7 @@ module _ (file : List ℕ) (bytes : Bytes file) (out : List ℕ) {a : Answer} {n
       → (w ≡ answer_of (page_write_check numbers (length chars) (length attrs) (length out))) × (out' ≡ page_written numbers chars attrs out)
       → (w ≡ answer_of (again_check (read_check file false) (file_size (version_in file)) (length out))) × (out' ≡ written_again (read_check file false) (file_size (version_in file)) file out)
   page-wrote e {w} {out'} write =
-      let ok : read_check file false ≡ Done = answer-done _ read.0 e in
+      let ok : read_check file false ≡ unrefused = answer-done _ read.0 e in
       wrote (file_size (version_in file)) file out ok write.0
       (λ l. let s = page-same-from-c file (zeros 32) (zeros 16384) (zeros 16384) (ap number_of ok) bytes out l in
       let zero : number_of (page_write_check numbers (length chars) (length attrs) (length out)) ≡ 0 = rw (read.1, read.2, read.3) s.0 in
@@ -102,7 +101,7 @@ module _ (file : List ℕ) (bytes : Bytes file) (out : List ℕ) {a : Answer} {n
 abbrev no_font : Font
 no_font = font_of (zeros 1152) (zeros 128) (zeros 9) (zeros 9) (zeros 16)
 
-font-short : (f : Font) (out : List ℕ) → ltb (length out) (font_size (font_version f)) ≡ true → (font_write_check f (length out) ≡ Size) × (font_written f out ≡ out)
+font-short : (f : Font) (out : List ℕ) → ltb (length out) (font_size (font_version f)) ≡ true → (font_write_check f (length out) ≡ Err Size) × (font_written f out ≡ out)
 unfolding font_write_check font_written
 font-short f out t = rw (t, or-true (font_refused f)) (refl, refl)
 
@@ -116,7 +115,7 @@ roomy file = go (eqb (version_in file) 2)
 
 module _ (file : List ℕ) (bytes : Bytes file) (out : List ℕ) {a : FontAnswer} {f : Font}
     (read : (a ≡ font_for file no_font) × (f ≡ font_read file no_font)) where
-  abbrev read-check : Refusal
+  abbrev read-check : Checked
   read-check = font_check file false
 
   check-is : font_check file (font_short file no_font) ≡ read-check
@@ -135,12 +134,12 @@ module _ (file : List ℕ) (bytes : Bytes file) (out : List ℕ) {a : FontAnswer
   pub groups-are : a.refusal ≡ 0 → a.groups ≡ group_count (version_in file)
   groups-are e = ap (λ (x : FontAnswer). x.groups) read.0 ∙ rw (check-is ∙ answer-done _ own_is e)
 
-  pub font-wrote : a.refusal ≡ 0 → {g : List ℕ} → g ≡ take a.groups f.groups → {w : Refusal} {out' : List ℕ}
+  pub font-wrote : a.refusal ≡ 0 → {g : List ℕ} → g ≡ take a.groups f.groups → {w : Checked} {out' : List ℕ}
       → (w ≡ font_write_check (font_of f.words f.flags f.unshifted f.shifted g) (length out)) × (out' ≡ font_written (font_of f.words f.flags f.unshifted f.shifted g) out)
       → {n k : ℕ} → n ≡ number_of w → k ≡ beside_of w
       → (record { refusal = n; beside = k } ≡ answer_of (again_check read-check (font_size (version_in file)) (length out))) × (out' ≡ written_again read-check (font_size (version_in file)) file out)
   font-wrote e {g} ge {w} {out'} write number beside =
-      let ok : read-check ≡ Done = answer-done _ own_is e in
+      let ok : read-check ≡ unrefused = answer-done _ own_is e in
       let own-font : font_of f.words f.flags f.unshifted f.shifted g ≡ file_font file (font_read file no_font) =
       ap (λ (x : List ℕ). font_of f.words f.flags f.unshifted f.shifted x) (ge ∙ ap (λ (k : ℕ). take k f.groups) (groups-are e)) ∙ ap (file_font file) read.1 in
       let version = version-kept file no_font (check-is ∙ ok) in

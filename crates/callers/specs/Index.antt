@@ -1,12 +1,11 @@
 -- An index of phrases, as columns of numbers. Assumes nothing.
-use Rattle.std.specs.Prelude.{ℕ, zero, suc, ◌+◌, ◌<◌, ◌≡◌, Bool, true, false, ◌&&◌, ◌||◌, List, [], ◌∷◌, eqb, leb, ltb, length, get_or, replicate}
+use Rattle.std.specs.Prelude.{ℕ, zero, suc, ◌+◌, ◌<◌, ◌≡◌, Bool, true, false, ◌&&◌, ◌||◌, List, [], ◌∷◌, eqb, leb, ltb, length, get_or, replicate, is_ok}
 use Rattle.std.proofs.Math.Path.{refl}
 use Rattle.std.proofs.Common.{sym, ap, ◌∙◌, arith, lt-ltb, le-leb, eq-eqb, eqb-true, leb-false}
 use Rattle.std.proofs.lemmas.Bool.{eqb-false}
 use Rattle.lists.specs.Choice.{pick, first_of, neither}
 use Rattle.lists.specs.Search.{any_below, first_below}
-use Rattle.refusal.specs.declared.Refusal.TheVariants.{Done}
-use Rattle.refusal.specs.Number.{number_of, beside_of, done_of}
+use Rattle.refusal.specs.Number.{unrefused, number_of, beside_of}
 use Rattle.refusal.specs.Laws.{done-is}
 use Rattle.raster.specs.Moves.{advance_by-lt}
 use Rattle.board.specs.declared.Page.{Page}
@@ -27,7 +26,7 @@ use Rattle.columns.specs.Laws.{each-column, record_is}
 
 -- a record of all cells: found where the row is not refused
 unfoldable pub all_held : Board → (chars : List ℕ) → (row : ℕ) → PhraseAnswer
-all_held b chars row = pick (done_of (run_check b (length chars) row)) (phrase_answer 0 0 1 0) (phrase_answer (number_of (run_check b (length chars) row)) (beside_of (run_check b (length chars) row)) 0 0)
+all_held b chars row = pick (is_ok (run_check b (length chars) row)) (phrase_answer 0 0 1 0) (phrase_answer (number_of (run_check b (length chars) row)) (beside_of (run_check b (length chars) row)) 0 0)
 
 -- of two records
 unfoldable pub two_of : Phrase → Phrase → PairAnswer
@@ -38,20 +37,20 @@ two_of p q =
 
 module _ (b : Board) (chars : List ℕ) (rs : List Phrase) (row : ℕ) where
   pub record Found (i : ℕ) : Type 0 where
-    pub done : run_check b (length chars) row ≡ Done
+    pub done : run_check b (length chars) row ≡ unrefused
     pub inside : i < length rs
     pub holds : HoldsEach b.page chars row (get_or rs i none)
 
   pub found-is : {a : PhraseAnswer} → a ≡ phrase_of_row b chars rs row → (a.found ≡ 0 → ⊥) → Found a.position
   unfolding phrase_of_row
-  found-is {a} e f = go (done_of (run_check b (length chars) row)) refl
+  found-is {a} e f = go (is_ok (run_check b (length chars) row)) refl
     where
-      told : run_check b (length chars) row ≡ Done → Told (phrase_answer 20 0 0) (phrase_answer 0 0 1) (phrase_answer 0 0 0 0) (at rs bad_record) (at rs (holds_row b.page chars row)) (length rs) (phrase_of_row b chars rs row) → Found a.position
+      told : run_check b (length chars) row ≡ unrefused → Told (phrase_answer 20 0 0) (phrase_answer 0 0 1) (phrase_answer 0 0 0 0) (at rs bad_record) (at rs (holds_row b.page chars row)) (length rs) (phrase_of_row b chars rs row) → Found a.position
       told d (told-bad k h q) = absurd (f (ap (λ (x : PhraseAnswer). x.found) (e ∙ q)))
       told d (told-found k o h q) = rw (e ∙ q) (record { done = d; inside = h.inside; holds = holds-each b.page chars row (get_or rs k none) h.passes })
       told d (told-nothing o g q) = absurd (f (ap (λ (x : PhraseAnswer). x.found) (e ∙ q)))
 
-      go : (t : Bool) → done_of (run_check b (length chars) row) ≡ t → Found a.position
+      go : (t : Bool) → is_ok (run_check b (length chars) row) ≡ t → Found a.position
       go true t = let d = done-is _ t in told d (phrase-told b chars rs row d)
       go false t = absurd (f (ap (λ (x : PhraseAnswer). x.found) e ∙ rw t))
 
@@ -88,7 +87,7 @@ module _ (b : Board) (chars ls ns fs cs : List ℕ) (row : ℕ) {a : PhraseAnswe
 -- ---- a record of all cells
 
 -- what refuses a row is told as it is
-refused-own : (b : Board) (chars : List ℕ) (rs : List Phrase) (row : ℕ) → done_of (run_check b (length chars) row) ≡ false
+refused-own : (b : Board) (chars : List ℕ) (rs : List Phrase) (row : ℕ) → is_ok (run_check b (length chars) row) ≡ false
     → phrase_of_row b chars rs row ≡ phrase_answer (number_of (run_check b (length chars) row)) (beside_of (run_check b (length chars) row)) 0 0
 unfolding phrase_of_row
 refused-own b chars rs row e = rw e
@@ -104,7 +103,7 @@ whole-good l n (suc i) k = absurd (omega (arith, k))
 
 pub all_held_lem : (b : Board) (chars : List ℕ) (row l n : ℕ) → phrase_of_row b chars (records_of (l ∷ []) (n ∷ []) (0 ∷ 0 ∷ []) (16384 ∷ 0 ∷ [])) row ≡ all_held b chars row
 unfolding all_held records_of
-all_held_lem b chars row l n = go (done_of (run_check b (length chars) row)) refl
+all_held_lem b chars row l n = go (is_ok (run_check b (length chars) row)) refl
   where
     rs : List Phrase
     rs = phrase_by l n 0 16384 ∷ []
@@ -112,7 +111,7 @@ all_held_lem b chars row l n = go (done_of (run_check b (length chars) row)) ref
     holds : holds_row b.page chars row (phrase_by l n 0 16384) ≡ true
     holds = each_holds b.page chars row (phrase_by l n 0 16384) (λ i k. (omega arith, fetch-lt b.page chars row i))
 
-    go : (t : Bool) → done_of (run_check b (length chars) row) ≡ t
+    go : (t : Bool) → is_ok (run_check b (length chars) row) ≡ t
         → phrase_of_row b chars rs row ≡ pick t (phrase_answer 0 0 1 0) (phrase_answer (number_of (run_check b (length chars) row)) (beside_of (run_check b (length chars) row)) 0 0)
     go true e = phrase-found b chars rs row (done-is _ e) 0 (whole-good l n) (record { inside = omega arith; passes = holds; before = λ i k. absurd (omega (arith, k)) })
     go false e = refused-own b chars rs row e
@@ -134,9 +133,9 @@ told-alike false false false i j k l = refl
 module _ (b : Board) (chars : List ℕ) (rs : List Phrase) (row : ℕ) {one : PhraseAnswer} (e : one ≡ phrase_of_row b chars rs row) where
   pub own-number : {n m : ℕ} → n ≡ number_of (run_check b (length chars) row) → m ≡ beside_of (run_check b (length chars) row) → (n ≡ 0 → ⊥)
       → ((eqb one.refusal n && eqb one.beside m) && eqb one.found 0) ≡ true
-  own-number {n} {m} p q f = go (done_of (run_check b (length chars) row)) refl
+  own-number {n} {m} p q f = go (is_ok (run_check b (length chars) row)) refl
     where
-      go : (t : Bool) → done_of (run_check b (length chars) row) ≡ t → ((eqb one.refusal n && eqb one.beside m) && eqb one.found 0) ≡ true
+      go : (t : Bool) → is_ok (run_check b (length chars) row) ≡ t → ((eqb one.refusal n && eqb one.beside m) && eqb one.found 0) ≡ true
       go true t = absurd (f (p ∙ eqb-true _ _ t))
       go false t = rw (e ∙ refused-own b chars rs row t) (simp (eq-eqb _ n (sym p), eq-eqb _ m (sym q)))
 

@@ -1,14 +1,13 @@
 -- A page's numbers made a board, written and read again. Assumes nothing.
-use Rattle.std.specs.Prelude.{ℕ, ◌≡◌, Bool, not, eqb, length, take, drop, replicate}
+use Rattle.std.specs.Prelude.{ℕ, ◌≡◌, Bool, not, eqb, length, take, drop, replicate, is_ok, Err}
 use Rattle.std.proofs.Math.Path.{refl, ap}
 use Rattle.std.proofs.Common.{sym, ◌∙◌, arith, take_at}
 use Rattle.std.proofs.Math.Bool.{true, false}
 use mathlib.Core.List.{List, [], ◌++◌}
 use borrow.Author.Tests.{eq-eqb, le-ltb}
 use Rattle.lists.specs.Choice.{pick}
-use Rattle.refusal.specs.declared.Refusal.{Refusal}
-use Rattle.refusal.specs.declared.Refusal.TheVariants.{Done, Size}
-use Rattle.refusal.specs.Number.{number_of, done_of}
+use Rattle.refusal.specs.declared.Refusal.TheVariants.{Size}
+use Rattle.refusal.specs.Number.{unrefused, Checked, number_of}
 use Rattle.refusal.specs.Laws.{done-is, passed}
 use Rattle.board.specs.declared.Page.{Page}
 use Rattle.board.specs.declared.Board.{Board}
@@ -34,13 +33,13 @@ use Rattle.agreement.specs.Files.{file-is, board-same}
 use Rattle.callers.specs.Sizes.{made-refused, made-done}
 
 -- the numbers' own answer, then 3 where a memory or the room for the numbers has another size
-unfoldable pub numbers_again_check : (numbers : List ℕ) (chars attrs room : ℕ) → Refusal
+unfoldable pub numbers_again_check : (numbers : List ℕ) (chars attrs room : ℕ) → Checked
 numbers_again_check numbers chars attrs room =
-    pick (done_of (numbers_check numbers)) (pick (memories_refused chars attrs) Size (pick (not (eqb room 32)) Size Done)) (numbers_check numbers)
+    pick (is_ok (numbers_check numbers)) (pick (memories_refused chars attrs) (Err Size) (pick (not (eqb room 32)) (Err Size) unrefused)) (numbers_check numbers)
 
 -- version and page as they were, then zeros; on a refusal what stood there
 unfoldable pub numbers_again : (numbers : List ℕ) (chars attrs : ℕ) (out : List ℕ) → List ℕ
-numbers_again numbers chars attrs out = pick (done_of (numbers_again_check numbers chars attrs (length out))) (cleared numbers) out
+numbers_again numbers chars attrs out = pick (is_ok (numbers_again_check numbers chars attrs (length out))) (cleared numbers) out
 
 -- ---- the numbers of a page's file are the page's numbers
 
@@ -73,27 +72,27 @@ module _ (numbers : List ℕ) (fits : Bytes numbers) (chars attrs out : List ℕ
       let r = made-refused numbers made e in
       (rw r.1 r.0, rw (r.1, r.1))
 
-  module _ (z : m.refusal ≡ 0) {w : Refusal} {file : List ℕ}
+  module _ (z : m.refusal ≡ 0) {w : Checked} {file : List ℕ}
       (wrote : (w ≡ write_check m.board (length chars) (length attrs) longest) × (file ≡ written m.board chars attrs zeros)) where
-    done : numbers_check numbers ≡ Done
+    done : numbers_check numbers ≡ unrefused
     done = (made-done numbers made z).0
 
-    page-ok : page_check (numbers_board numbers).page ≡ Done
+    page-ok : page_check (numbers_board numbers).page ≡ unrefused
     unfolding numbers_check
-    page-ok = (passed (numbers_refused numbers) Size _ refl done).1
+    page-ok = (passed (numbers_refused numbers) (Err Size) _ refl done).1
 
     at_zero : state_refused (numbers_board numbers) ≡ false
     at_zero = range-ok (numbers_board numbers) (record { line-lt = omega arith; clock-lt = omega arith; beam-le = omega arith; row-le = omega arith; pointer-le = omega arith })
 
-    write-is : write_check (numbers_board numbers) (length chars) (length attrs) longest ≡ pick (memories_refused (length chars) (length attrs)) Size Done
+    write-is : write_check (numbers_board numbers) (length chars) (length attrs) longest ≡ pick (memories_refused (length chars) (length attrs)) (Err Size) unrefused
     unfolding write_check call_check
     write-is = go (memories_refused (length chars) (length attrs)) refl
       where
-        go : (t : Bool) → memories_refused (length chars) (length attrs) ≡ t → write_check (numbers_board numbers) (length chars) (length attrs) longest ≡ pick t Size Done
+        go : (t : Bool) → memories_refused (length chars) (length attrs) ≡ t → write_check (numbers_board numbers) (length chars) (length attrs) longest ≡ pick t (Err Size) unrefused
         go true t = rw t
         go false t = rw (t, le-ltb longest (file_size (numbers_board numbers).page.version) (file-most _), page-ok, at_zero)
 
-    wrote-is : w ≡ pick (memories_refused (length chars) (length attrs)) Size Done
+    wrote-is : w ≡ pick (memories_refused (length chars) (length attrs)) (Err Size) unrefused
     wrote-is = wrote.0 ∙ rw (made-done numbers made z).1 write-is
 
     pub not_written : {n : ℕ} → n ≡ number_of w → (n ≡ 0 → ⊥) → Again (record { refusal = n; beside = 0 }) out
@@ -107,12 +106,12 @@ module _ (numbers : List ℕ) (fits : Bytes numbers) (chars attrs out : List ℕ
     -- as many bytes of it as the page's version has are read
     module _ {n : ℕ} (e : n ≡ number_of w) (y : n ≡ 0) {part : List ℕ} (cut : part ≡ take (file_size m.board.page.version) file) where
       fine : memories_refused (length chars) (length attrs) ≡ false
-      fine = (passed (memories_refused (length chars) (length attrs)) Size Done refl (sym wrote-is ∙ done-is w (eq-eqb _ _ (sym e ∙ y)))).0
+      fine = (passed (memories_refused (length chars) (length attrs)) (Err Size) unrefused refl (sym wrote-is ∙ done-is w (eq-eqb _ _ (sym e ∙ y)))).0
 
       irs-all : length (numbers_board numbers).page.irs ≡ 15
       irs-all = page-irs numbers 1 (numbers-room numbers (numbers-passed numbers done))
 
-      ok : write_check (numbers_board numbers) (length chars) (length attrs) longest ≡ Done
+      ok : write_check (numbers_board numbers) (length chars) (length attrs) longest ≡ unrefused
       ok = write-is ∙ rw fine
 
       front : part ≡ take (file_size (numbers_board numbers).page.version) (written (numbers_board numbers) chars attrs zeros)
@@ -120,11 +119,11 @@ module _ (numbers : List ℕ) (fits : Bytes numbers) (chars attrs out : List ℕ
           cut ∙ ap (take (file_size m.board.page.version)) wrote.1
           ∙ ap (λ (b : Board). take (file_size b.page.version) (written b chars attrs zeros)) (made-done numbers made z).1
 
-      read_done : read_check part false ≡ Done
+      read_done : read_check part false ≡ unrefused
       unfolding read_page_of
       read_done = ap (λ (r : PageRead). r.refusal) (board-same (numbers_board numbers) irs-all chars attrs zeros ok [] [] part front).0
 
-      read_is : (size : Bool) → read_check part size ≡ pick size Size Done
+      read_is : (size : Bool) → read_check part size ≡ pick size (Err Size) unrefused
       unfolding read_check file_check
       read_is size =
           let p = file-passed part newest_version (length_field (version_in part)) false (page_check (page_at part 5)) read_done in

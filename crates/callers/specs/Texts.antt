@@ -1,5 +1,5 @@
 -- The text that a row shows: a code for each cell that it fetches. Assumes nothing.
-use Rattle.std.specs.Prelude.{ℕ, ◌≤◌, ◌<◌, ◌≡◌, Bool, ◌&&◌, eqb, leb, replicate}
+use Rattle.std.specs.Prelude.{ℕ, ◌≤◌, ◌<◌, ◌≡◌, Bool, ◌&&◌, eqb, leb, replicate, is_ok}
 use Rattle.std.proofs.Math.Path.{refl, sym, ap}
 use Rattle.std.proofs.Common.{◌∙◌, arith, length-append, ext_get_or, length-take-le}
 use Rattle.std.proofs.Math.Bool.{true, false}
@@ -9,8 +9,7 @@ use Rattle.std.proofs.Math.ListN.{length, get_or, take, drop, get_or-append}
 use Rattle.std.proofs.Math.Seq.{get_or-take, get_or-drop}
 use Rattle.lists.specs.Choice.{pick}
 use Rattle.lists.specs.Tab.{tab, same-tab, length-tab, get_or-tab}
-use Rattle.refusal.specs.declared.Refusal.TheVariants.{Done}
-use Rattle.refusal.specs.Number.{number_of, beside_of, done_of}
+use Rattle.refusal.specs.Number.{unrefused, number_of, beside_of}
 use Rattle.refusal.specs.Laws.{done-is}
 use Rattle.board.specs.declared.Board.{Board}
 use Rattle.raster.specs.Moves.{advance_by-lt}
@@ -125,21 +124,21 @@ module _ (numbers chars : List ℕ) (row : ℕ) (text : List ℕ) (room : 256 �
   unfolding run_of
   part-long = length_part chars (span_of m chars row).start n (span_fits m chars row)
 
-  given : run_check m (length chars) row ≡ Done → cells_given m chars row 256 ≡ row_of Done (fetched_of m.page chars row)
+  given : run_check m (length chars) row ≡ unrefused → cells_given m chars row 256 ≡ row_of unrefused (fetched_of m.page chars row)
   unfolding cells_given
   given q = rw (cells-as-run m (length chars) row 256 (omega arith), q)
 
-  count-is : run_check m (length chars) row ≡ Done → numbers_refused numbers ≡ false → count numbers chars row ≡ fetched_of m.page chars row
+  count-is : run_check m (length chars) row ≡ unrefused → numbers_refused numbers ≡ false → count numbers chars row ≡ fetched_of m.page chars row
   unfolding cells_for
   count-is q t =
-      let answered : cells_for numbers chars row 256 ≡ cells_answer Done (fetched_of m.page chars row) = rw (t, given q) in
+      let answered : cells_for numbers chars row 256 ≡ cells_answer unrefused (fetched_of m.page chars row) = rw (t, given q) in
       ap (λ (x : CellsAnswer). x.count) answered
 
   most-count : n ≤ (cells_given m chars row 256).count
   most-count = run-least m chars row 256 (omega arith)
 
   -- a row that is not refused
-  shown : run_check m (length chars) row ≡ Done → numbers_refused numbers ≡ false → take n (row_text numbers chars row text) ≡ run_of m chars row
+  shown : run_check m (length chars) row ≡ unrefused → numbers_refused numbers ≡ false → take n (row_text numbers chars row text) ≡ run_of m chars row
   unfolding row_text char_at run_of
   shown q t =
       let h = fetched_of m.page chars row in
@@ -157,15 +156,15 @@ module _ (numbers chars : List ℕ) (row : ℕ) (text : List ℕ) (room : 256 �
       ∙ ap (λ (x : ℕ). get_or chars x 0) s.1 ∙ sym (get_or-take n (drop start chars) i 0 k ∙ get_or-drop start chars i 0)))
 
   -- a row that is
-  none : (xs : List ℕ) → done_of (run_check m (length chars) row) ≡ false → take (length (run_of m chars row)) xs ≡ run_of m chars row
+  none : (xs : List ℕ) → is_ok (run_check m (length chars) row) ≡ false → take (length (run_of m chars row)) xs ≡ run_of m chars row
   unfolding run_of span_of
   none xs z = rw z
 
   pub text-begins : {part text' : List ℕ} → part ≡ run_part numbers chars row → text' ≡ row_text numbers chars row text → take (length part) text' ≡ part
   unfolding run_part
-  text-begins p q = rw (p, q) (go (numbers_refused numbers) refl (done_of (run_check m (length chars) row)) refl)
+  text-begins p q = rw (p, q) (go (numbers_refused numbers) refl (is_ok (run_check m (length chars) row)) refl)
     where
-      go : (t : Bool) → numbers_refused numbers ≡ t → (d : Bool) → done_of (run_check m (length chars) row) ≡ d
+      go : (t : Bool) → numbers_refused numbers ≡ t → (d : Bool) → is_ok (run_check m (length chars) row) ≡ d
           → take (length (run_part numbers chars row)) (row_text numbers chars row text) ≡ run_part numbers chars row
       go true t d z = rw t
       go false t true z = rw (t, part-long) (shown (done-is _ z) t)

@@ -1,11 +1,11 @@
 -- The address registers: what is written is read, and the rest stays. Assumes nothing.
-use Rattle.std.specs.Prelude.{ℕ, ◌%◌, ◌≤◌, ◌<◌, ◌≡◌, refl, Bool, true, false, ◌||◌, eqb, ltb}
+use Rattle.std.specs.Prelude.{ℕ, ◌%◌, ◌≤◌, ◌<◌, ◌≡◌, refl, Bool, true, false, ◌||◌, eqb, ltb, is_ok, Err}
 use Rattle.std.proofs.Math.Path.{ap}
 use Rattle.std.proofs.Common.{◌∙◌, arith}
 use borrow.Author.Tests.{ne_eqb, eqb-true, eqb-false, le-ltb, ltb-false}
 use Rattle.lists.specs.Choice.{pick, within, inside, over, neither, pick-lt}
-use Rattle.refusal.specs.declared.Refusal.TheVariants.{Done, Register}
-use Rattle.refusal.specs.Number.{done_of}
+use Rattle.refusal.specs.declared.Refusal.TheVariants.{Register}
+use Rattle.refusal.specs.Number.{unrefused}
 use Rattle.board.specs.declared.Starts.{Starts}
 use Rattle.board.specs.declared.Board.{Board}
 use Rattle.board.specs.Range.{starts_refused}
@@ -109,27 +109,27 @@ shown-lt s a =
 -- whatever is read is a byte
 pub read-lt : (b : Board) (a : ℕ) {x : ByteAnswer} → x ≡ read_for b a → x.byte < 256
 unfolding read_of read_at
-read-lt b a e = rw e (go (done_of (register_check b)) (within 0 1 a) (within 2 7 a))
+read-lt b a e = rw e (go (is_ok (register_check b)) (within 0 1 a) (within 2 7 a))
   where
-    go : (t u w : Bool) → (pick t (pick u (byte_read Done 0) (pick w (byte_read Done (shown_at b.page.starts a)) (byte_read Register 0))) (byte_read (register_check b) 0)).byte < 256
+    go : (t u w : Bool) → (pick t (pick u (byte_read unrefused 0) (pick w (byte_read unrefused (shown_at b.page.starts a)) (byte_read (Err Register) 0))) (byte_read (register_check b) 0)).byte < 256
     go true true w = omega arith
     go true false true = shown-lt b.page.starts a
     go true false false = omega arith
     go false u w = omega arith
 
 module _ {b : Board} (r : Ready b) (a : ℕ) (lo : 2 ≤ a) (hi : a ≤ 7) where
-  put : (v : ℕ) → write_for b a v ≡ board_answer Done (started_of b a v)
+  put : (v : ℕ) → write_for b a v ≡ board_answer unrefused (started_of b a v)
   unfolding active_of
   put v =
       let not-0 = ne_eqb a 0 (λ e. omega (arith, e, lo)) in
       let not-1 = ne_eqb a 1 (λ e. omega (arith, e, lo)) in
-      let done : active_of b a v ≡ answer Done (started_of b a v) = rw (not-0, not-1, inside 2 7 a lo hi) in
+      let done : active_of b a v ≡ answer unrefused (started_of b a v) = rw (not-0, not-1, inside 2 7 a lo hi) in
       ap (λ (x : Written). board_answer x.refusal x.board) (writes r a v ∙ done)
 
-  seen : read_for b a ≡ byte_answer Done (shown_at b.page.starts a)
+  seen : read_for b a ≡ byte_answer unrefused (shown_at b.page.starts a)
   unfolding read_at
   seen =
-      let done : read_at b.page.starts a ≡ byte_read Done (shown_at b.page.starts a) = rw (over 0 1 a (omega (arith, lo)), inside 2 7 a lo hi) in
+      let done : read_at b.page.starts a ≡ byte_read unrefused (shown_at b.page.starts a) = rw (over 0 1 a (omega (arith, lo)), inside 2 7 a lo hi) in
       ap (λ (x : ByteRead). byte_answer x.refusal x.byte) (reads r a ∙ done)
 
 module _ {b : Board} (r : Ready b) (a : ℕ) (lo : 2 ≤ a) (hi : a ≤ 7) (v : ℕ) (small : v < 256) {one : BoardAnswer} (e : one ≡ write_for b a v) where
@@ -145,12 +145,12 @@ module _ {b : Board} (r : Ready b) (a : ℕ) (lo : 2 ≤ a) (hi : a ≤ 7) (v : 
   there : one.board ≡ started_of b a v
   there = ap (λ (x : BoardAnswer). x.board) (e ∙ put r a lo hi v)
 
-  pub read_again : {x : ByteAnswer} → x ≡ read_for one.board a → x ≡ byte_answer Done (kept_at a v)
-  read_again q = q ∙ ap (λ (x : Board). read_for x a) there ∙ seen still-ready a lo hi ∙ ap (byte_answer Done) (shown s ok v small a lo hi)
+  pub read_again : {x : ByteAnswer} → x ≡ read_for one.board a → x ≡ byte_answer unrefused (kept_at a v)
+  read_again q = q ∙ ap (λ (x : Board). read_for x a) there ∙ seen still-ready a lo hi ∙ ap (byte_answer unrefused) (shown s ok v small a lo hi)
 
-  pub put_back : {x : ByteAnswer} → x ≡ read_for b a → {two : BoardAnswer} → two ≡ write_for one.board a x.byte → two ≡ board_answer Done b
+  pub put_back : {x : ByteAnswer} → x ≡ read_for b a → {two : BoardAnswer} → two ≡ write_for one.board a x.byte → two ≡ board_answer unrefused b
   put_back {x} q p =
       let old : x.byte ≡ shown_at s a = ap (λ (y : ByteAnswer). y.byte) (q ∙ seen r a lo hi) in
       let back : starts_after (starts_after s a v) a x.byte ≡ s = ap (starts_after (starts_after s a v) a) old ∙ restored s ok v small a lo hi in
       p ∙ ap (λ (y : Board). write_for y a x.byte) there ∙ put still-ready a lo hi x.byte
-      ∙ ap (λ (y : Starts). board_answer Done (with_page b (with_starts b.page y))) back
+      ∙ ap (λ (y : Starts). board_answer unrefused (with_page b (with_starts b.page y))) back

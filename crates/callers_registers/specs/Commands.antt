@@ -1,12 +1,13 @@
 -- What commands do. Assumes nothing.
-use Rattle.std.specs.Prelude.{ℕ, ◌+◌, ◌-◌, ◌*◌, ◌/◌, ◌%◌, ◌≤◌, ◌<◌, ◌≡◌, Bool, ◌&&◌, ◌||◌, ◌∷◌, replicate, set, eqb, leb}
+use Rattle.std.specs.Prelude.{ℕ, ◌+◌, ◌-◌, ◌*◌, ◌/◌, ◌%◌, ◌≤◌, ◌<◌, ◌≡◌, Bool, ◌&&◌, ◌||◌, ◌∷◌, replicate, set, eqb, leb, Err}
 use Rattle.std.proofs.Math.Path.{refl, ap}
 use Rattle.std.proofs.Common.{◌∙◌, true≢false, arith}
 use Rattle.std.proofs.Math.Bool.{true, false, not}
 use borrow.Author.Tests.{ne_eqb, leb-true, le-ltb}
 use Rattle.lists.specs.Choice.{pick, within, has_bit, inside, over, both, neither, pick-lt}
 use Rattle.units.specs.Units.{dots}
-use Rattle.refusal.specs.declared.Refusal.TheVariants.{Done, Command}
+use Rattle.refusal.specs.Number.{unrefused}
+use Rattle.refusal.specs.declared.Refusal.TheVariants.{Command}
 use Rattle.board.specs.declared.Page.{Page}
 use Rattle.board.specs.declared.Board.{Board}
 use Rattle.board.specs.State.{clock_zero, power_of}
@@ -61,14 +62,14 @@ carried p v = eqb v 0 || (within 16 31 v && not (pointer_refused p (v - 16)) || 
 -- ---- two resets, and one
 
 module _ {off : Board} {once : BoardAnswer} (p : off ≡ power_of) (q : once ≡ write_for off 1 0) where
-  pub wakes : (byte : ℕ) {twice r : BoardAnswer} → twice ≡ write_for once.board 1 0 → r ≡ write_for twice.board 0 byte → r ≡ board_answer Done (loaded_first byte)
+  pub wakes : (byte : ℕ) {twice r : BoardAnswer} → twice ≡ write_for once.board 1 0 → r ≡ write_for twice.board 0 byte → r ≡ board_answer unrefused (loaded_first byte)
   unfolding write_of register_check address_refused active_of inactive_of command_of layout_of
   wakes byte e g =
       let one = q ∙ ap (λ (x : Board). write_for x 1 0) p in
       let two = e ∙ ap (λ (x : BoardAnswer). write_for x.board 1 0) one in
       g ∙ ap (λ (x : BoardAnswer). write_for x.board 0 byte) two
 
-  pub wakes-not : (byte : ℕ) {r : BoardAnswer} → r ≡ write_for once.board 0 byte → r ≡ board_answer Done power_of
+  pub wakes-not : (byte : ℕ) {r : BoardAnswer} → r ≡ write_for once.board 0 byte → r ≡ board_answer unrefused power_of
   unfolding write_of register_check address_refused inactive_of layout_of
   wakes-not byte g = g ∙ ap (λ (x : BoardAnswer). write_for x.board 0 byte) (q ∙ ap (λ (x : Board). write_for x 1 0) p)
 
@@ -79,23 +80,23 @@ module _ {b : Board} (r : Ready b) where
   unfolding active_of
   commanded v = ap (λ (x : Written). board_answer x.refusal x.board) (writes r 1 v)
 
-  pub refused : (v : ℕ) → carried b.page v ≡ false → {x : BoardAnswer} → x ≡ write_for b 1 v → x ≡ board_answer Command b
+  pub refused : (v : ℕ) → carried b.page v ≡ false → {x : BoardAnswer} → x ≡ write_for b 1 v → x ≡ board_answer (Err Command) b
   unfolding command_of
   refused v e q =
       let zero = neither (eqb v 0) (within 16 31 v && not (pointer_refused b.page (v - 16)) || switching v) e in
       let pointer = neither (within 16 31 v && not (pointer_refused b.page (v - 16))) (switching v) zero.1 in
       q ∙ commanded v ∙ rw zero.0 (points (within 16 31 v) (pointer_refused b.page (v - 16)) pointer.0 _ (go (within 32 63 v) (eqb (v / 2 % 2) 0 && not (eqb (v / 8 % 4) 0)) pointer.1))
     where
-      points : (t u : Bool) → (t && not u) ≡ false → (x : Written) → board_answer x.refusal x.board ≡ board_answer Command b
-          → board_answer (pick t (pick u (answer Command b) (answer Done (pointed_of b (v - 16)))) x).refusal (pick t (pick u (answer Command b) (answer Done (pointed_of b (v - 16)))) x).board
-          ≡ board_answer Command b
+      points : (t u : Bool) → (t && not u) ≡ false → (x : Written) → board_answer x.refusal x.board ≡ board_answer (Err Command) b
+          → board_answer (pick t (pick u (answer (Err Command) b) (answer unrefused (pointed_of b (v - 16)))) x).refusal (pick t (pick u (answer (Err Command) b) (answer unrefused (pointed_of b (v - 16)))) x).board
+          ≡ board_answer (Err Command) b
       points true true p x e = refl
       points true false p x e = absurd (true≢false p)
       points false u p x e = e
 
       go : (t u : Bool) → (t && u) ≡ false
-          → board_answer (pick t (pick u (answer Done (switched_of b v)) (answer Command b)) (answer Command b)).refusal
-          (pick t (pick u (answer Done (switched_of b v)) (answer Command b)) (answer Command b)).board ≡ board_answer Command b
+          → board_answer (pick t (pick u (answer unrefused (switched_of b v)) (answer (Err Command) b)) (answer (Err Command) b)).refusal
+          (pick t (pick u (answer unrefused (switched_of b v)) (answer (Err Command) b)) (answer (Err Command) b)).board ≡ board_answer (Err Command) b
       go true u p = rw p
       go false u p = refl
 
@@ -103,7 +104,7 @@ module _ {b : Board} (r : Ready b) where
     fine : pointer_refused b.page (v - 16) ≡ false
     fine = le-ltb (last_ir b.page.version) (v - 16) (omega (arith, hi))
 
-    pointed : write_for b 1 v ≡ board_answer Done (pointed_of b (v - 16))
+    pointed : write_for b 1 v ≡ board_answer unrefused (pointed_of b (v - 16))
     unfolding command_of
     pointed = commanded v ∙ rw (ne_eqb v 0 (λ e. omega (arith, e, lo)), inside 16 31 v lo (omega (arith, hi, (layout-fits b.page.version).irs-most)), fine)
 
@@ -112,7 +113,7 @@ module _ {b : Board} (r : Ready b) where
         let p = parts r in
         ready (pointed_of b (v - 16)) r.active (record { starts = p.starts; switches = p.switches; video = p.video; pointer = fine })
 
-    pub loaded : (byte : ℕ) {one two : BoardAnswer} → one ≡ write_for b 1 v → two ≡ write_for one.board 0 byte → two ≡ board_answer Done (loaded_at b (v - 16) byte)
+    pub loaded : (byte : ℕ) {one two : BoardAnswer} → one ≡ write_for b 1 v → two ≡ write_for one.board 0 byte → two ≡ board_answer unrefused (loaded_at b (v - 16) byte)
     unfolding active_of
     loaded byte e q =
         q ∙ ap (λ (x : BoardAnswer). write_for x.board 0 byte) (e ∙ pointed)
@@ -137,7 +138,7 @@ module _ (s v : ℕ) where
       (pick-lt 2 (has_bit v 16) (v % 2) (s / 2 % 2) (omega arith) (omega arith)) (pick-lt 2 (has_bit v 8) (v % 2) (s % 2) (omega arith) (omega arith))
 
 module _ {b : Board} (r : Ready b) (v : ℕ) (e : switching v ≡ true) where
-  switches-set : write_for b 1 v ≡ board_answer Done (switched_of b v)
+  switches-set : write_for b 1 v ≡ board_answer unrefused (switched_of b v)
   unfolding command_of
   switches-set =
       let t = both (within 32 63 v) (eqb (v / 2 % 2) 0 && not (eqb (v / 8 % 4) 0)) e in
@@ -152,10 +153,10 @@ module _ {b : Board} (r : Ready b) (v : ℕ) (e : switching v ≡ true) where
       ready (switched_of b v) r.active (record { starts = p.starts; switches = judged b.page.version (switches_after s v) s upper ∙ p.switches; video = p.video; pointer = p.pointer })
 
 module _ {b : Board} (r : Ready b) (v w : ℕ) (e : switching v ≡ true) (f : switching w ≡ true) where
-  pub switched : {one two : BoardAnswer} → one ≡ write_for b 1 v → two ≡ write_for one.board 1 w → two ≡ board_answer Done (switched_by b v w)
+  pub switched : {one two : BoardAnswer} → one ≡ write_for b 1 v → two ≡ write_for one.board 1 w → two ≡ board_answer unrefused (switched_by b v w)
   switched q p =
       let s = b.page.switches in
       let a = after s v in
       let same : switches_after (switches_after s v) w ≡ (switched_by b v w).page.switches = rw (a.0, a.1, a.2) in
       p ∙ ap (λ (x : BoardAnswer). write_for x.board 1 w) (q ∙ switches-set r v e) ∙ switches-set (ready-switched r v e) w f
-      ∙ ap (λ (k : ℕ). board_answer Done (with_page b (with_switches b.page k))) same
+      ∙ ap (λ (k : ℕ). board_answer unrefused (with_page b (with_switches b.page k))) same

@@ -1,8 +1,9 @@
 -- A board that is active and that register calls take. Assumes nothing.
-use Rattle.std.specs.Prelude.{ℕ, ◌/◌, ◌≤◌, ◌<◌, ◌≡◌, refl, Bool, true, false, ◌||◌, ltb}
+use Rattle.std.specs.Prelude.{ℕ, ◌/◌, ◌≤◌, ◌<◌, ◌≡◌, refl, Bool, true, false, ◌||◌, ltb, Err}
 use Rattle.std.proofs.Common.{arith, le-leb, lt-ltb, le-ltb, ltb-true, ltb-false}
 use Rattle.lists.specs.Choice.{neither}
-use Rattle.refusal.specs.declared.Refusal.TheVariants.{Done, Range, Address}
+use Rattle.refusal.specs.Number.{unrefused}
+use Rattle.refusal.specs.declared.Refusal.TheVariants.{Range, Address}
 use Rattle.refusal.specs.Laws.{passed}
 use Rattle.board.specs.declared.Board.{Board}
 use Rattle.board.specs.Range.{starts_refused, switches_refused, video_refused, address_refused, pointer_refused}
@@ -11,7 +12,7 @@ use Rattle.registers.specs.Read.{read_at, read_of}
 
 pub record Ready (b : Board) : Type 0 where
   pub active : 2 ≤ b.resets
-  pub taken : register_check b ≡ Done
+  pub taken : register_check b ≡ unrefused
 
 pub writes : {b : Board} → Ready b → (a v : ℕ) → write_of b a v ≡ active_of b a v
 unfolding write_of
@@ -32,8 +33,8 @@ pub record Parts (b : Board) : Type 0 where
 pub parts : {b : Board} → Ready b → Parts b
 unfolding register_check address_refused
 parts {b} r =
-    let a = passed (address_refused b.page) Address _ refl r.taken in
-    let p = passed (pointer_refused b.page b.pointer) Range _ refl a.1 in
+    let a = passed (address_refused b.page) (Err Address) _ refl r.taken in
+    let p = passed (pointer_refused b.page b.pointer) (Err Range) _ refl a.1 in
     let three = neither (starts_refused b.page.starts || switches_refused b.page.version b.page.switches) (video_refused b.page.version b.page.video) a.0 in
     let two = neither (starts_refused b.page.starts) (switches_refused b.page.version b.page.switches) three.0 in
     record { starts = two.0; switches = two.1; video = three.1; pointer = p.0 }

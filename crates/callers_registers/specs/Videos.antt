@@ -1,13 +1,12 @@
 -- Video numbers that are set again. Assumes nothing.
-use Rattle.std.specs.Prelude.{ℕ, ◌*◌, ◌/◌, ◌%◌, ◌<◌, ◌≡◌, Bool, not, eqb}
+use Rattle.std.specs.Prelude.{ℕ, ◌*◌, ◌/◌, ◌%◌, ◌<◌, ◌≡◌, Bool, not, eqb, is_ok}
 use Rattle.std.proofs.Math.Path.{refl, ap}
 use Rattle.std.proofs.Common.{sym, ◌∙◌, mul-zero, mul-one, arith}
 use Rattle.std.proofs.Math.Bool.{true, false}
 use borrow.Author.Tests.{eqb-true, eqb-false}
 use Rattle.lists.specs.Choice.{pick}
 use Rattle.units.specs.declared.Dots.{Dots}
-use Rattle.refusal.specs.declared.Refusal.{Refusal}
-use Rattle.refusal.specs.Number.{number_of, done_of}
+use Rattle.refusal.specs.Number.{Checked, number_of}
 use Rattle.board.specs.declared.Board.{Board}
 use Rattle.board.specs.Parts.{with_switches, with_page}
 use Rattle.board.specs.Range.{address_refused}
@@ -21,7 +20,7 @@ abbrev pub video_answered : Board → Dots → (strike : ℕ) → (bkgnd rblank 
 video_answered b d strike bkgnd rblank = board_answer (set_video_of b d strike bkgnd rblank).refusal (set_video_of b d strike bkgnd rblank).board
 
 -- what is judged, and its number
-abbrev check : Board → Dots → (strike : ℕ) → Refusal
+abbrev check : Board → Dots → (strike : ℕ) → Checked
 check b d strike = video_check (with_dots b.page d strike)
 
 abbrev pub video_number : Board → Dots → (strike : ℕ) → ℕ
@@ -42,9 +41,9 @@ switches-are s = rw (switch-is 4 (s / 4 % 2) (omega arith), switch-is 8 (s / 8 %
 
 video-same : (b : Board) → (set_video_of b b.page.video.dots b.page.video.strike (not (eqb (b.page.switches / 4 % 2) 0)) (not (eqb (b.page.switches / 8 % 2) 0))).board ≡ b
 unfolding set_video_of video_check
-video-same b = go (done_of (check b b.page.video.dots b.page.video.strike)) refl
+video-same b = go (is_ok (check b b.page.video.dots b.page.video.strike)) refl
   where
-    go : (t : Bool) → done_of (check b b.page.video.dots b.page.video.strike) ≡ t
+    go : (t : Bool) → is_ok (check b b.page.video.dots b.page.video.strike) ≡ t
         → (set_video_of b b.page.video.dots b.page.video.strike (not (eqb (b.page.switches / 4 % 2) 0)) (not (eqb (b.page.switches / 8 % 2) 0))).board ≡ b
     go true t = rw (t, switches-are b.page.switches)
     go false t = rw t
@@ -67,9 +66,9 @@ module _ (d : Dots) (strike : ℕ) (bkgnd rblank : Bool) where
   set_is : (x : Board) {r : BoardAnswer} → r ≡ video_answered x d strike bkgnd rblank
       → (r.refusal ≡ video_number x d strike) × (r.refusal ≡ 0 → r.board ≡ video_set x d strike bkgnd rblank)
   unfolding set_video_of
-  set_is x {r} e = go (done_of (check x d strike)) refl
+  set_is x {r} e = go (is_ok (check x d strike)) refl
     where
-      go : (t : Bool) → done_of (check x d strike) ≡ t → (r.refusal ≡ video_number x d strike) × (r.refusal ≡ 0 → r.board ≡ video_set x d strike bkgnd rblank)
+      go : (t : Bool) → is_ok (check x d strike) ≡ t → (r.refusal ≡ video_number x d strike) × (r.refusal ≡ 0 → r.board ≡ video_set x d strike bkgnd rblank)
       go true t = let zero = eqb-true _ _ t in (ap (λ (y : BoardAnswer). y.refusal) e ∙ rw t (sym zero), λ q. ap (λ (y : BoardAnswer). y.board) e ∙ rw t)
       go false t =
           let number : r.refusal ≡ video_number x d strike = ap (λ (y : BoardAnswer). y.refusal) e ∙ rw t in
@@ -93,12 +92,12 @@ module _ (d : Dots) (strike : ℕ) (bkgnd rblank : Bool) where
     pub set_last : {one two : BoardAnswer} → one ≡ video_answered b d₀ strike₀ bkgnd₀ rblank₀ → two ≡ video_answered one.board d strike bkgnd rblank
         → (two.refusal ≡ video_number b d strike) × (two.refusal ≡ 0 → two.board ≡ video_set b d strike bkgnd rblank)
     unfolding set_video_of
-    set_last {one} {two} e q = go (done_of (check b d₀ strike₀)) refl
+    set_last {one} {two} e q = go (is_ok (check b d₀ strike₀)) refl
       where
         on : (x : Board) → one.board ≡ x → two ≡ video_answered x d strike bkgnd rblank
         on x p = q ∙ ap (λ (y : Board). video_answered y d strike bkgnd rblank) p
 
-        go : (t : Bool) → done_of (check b d₀ strike₀) ≡ t → (two.refusal ≡ video_number b d strike) × (two.refusal ≡ 0 → two.board ≡ video_set b d strike bkgnd rblank)
+        go : (t : Bool) → is_ok (check b d₀ strike₀) ≡ t → (two.refusal ≡ video_number b d strike) × (two.refusal ≡ 0 → two.board ≡ video_set b d strike bkgnd rblank)
         go false t = set_is b (on b (ap (λ (y : BoardAnswer). y.board) e ∙ rw t))
         go true t =
             let r = set_is between (on between (ap (λ (y : BoardAnswer). y.board) e ∙ rw t)) in

@@ -1,5 +1,5 @@
 -- What the calls that step answer, put together, is what the call that draws answers. Assumes nothing.
-use Rattle.std.specs.Prelude.{ℕ, ◌≤◌, ◌<◌, ◌≡◌, Bool, ◌&&◌, ◌||◌, not, List, [], ◌∷◌, ◌++◌, eqb, ltb, length, drop}
+use Rattle.std.specs.Prelude.{ℕ, ◌≤◌, ◌<◌, ◌≡◌, Bool, ◌&&◌, ◌||◌, not, List, [], ◌∷◌, ◌++◌, eqb, ltb, length, drop, is_ok, Err}
 use Rattle.std.proofs.Math.Path.{refl, sym, ap}
 use Rattle.std.proofs.Common.{◌∙◌}
 use Rattle.std.proofs.Math.Bool.{true, false, or-true}
@@ -8,8 +8,8 @@ use borrow.Author.Tests.{eq-eqb, ne_eqb, le-leb, lt-leb, lt-ltb, le-ltb, leb-fal
 use Rattle.std.proofs.Math.Dec.{leb}
 use Rattle.lists.specs.Choice.{pick, first_of, neither}
 use Rattle.units.specs.declared.Clocks.{Clocks}
-use Rattle.refusal.specs.declared.Refusal.TheVariants.{Done, Size, Reserved, BackPorch, LineShort, FrontPorch, Width, Range, Room, Address}
-use Rattle.refusal.specs.Number.{number_of, beside_of, done_of}
+use Rattle.refusal.specs.declared.Refusal.TheVariants.{Size, Reserved, BackPorch, LineShort, FrontPorch, Width, Range, Room, Address}
+use Rattle.refusal.specs.Number.{unrefused, number_of, beside_of}
 use Rattle.refusal.specs.Laws.{done-is, passed, not-refused}
 use Rattle.board.specs.declared.Page.{Page}
 use Rattle.board.specs.declared.Board.{Board}
@@ -49,7 +49,7 @@ page-not-three p =
     n = missing p
 
     go : (a r b l f w : Bool)
-        → number_of (first_of ((a, Address) ∷ (r, Reserved) ∷ (b, BackPorch) ∷ (l, LineShort n) ∷ (f, FrontPorch n) ∷ (w, Width) ∷ []) Done) ≡ 3 → ⊥
+        → number_of (first_of ((a, Err Address) ∷ (r, Err Reserved) ∷ (b, Err BackPorch) ∷ (l, LineShort n) ∷ (f, FrontPorch n) ∷ (w, Err Width) ∷ []) unrefused) ≡ 3 → ⊥
     go true r b l f w e = omega arith
     go false true b l f w e = omega arith
     go false false true l f w e = omega arith
@@ -61,14 +61,14 @@ page-not-three p =
 -- what is lent, by whether a size is wrong and whether a group is refused
 module _ (b : Board) where
   abbrev answered : (size group : Bool) → ℕ
-  answered size group = number_of (call_check b (pick size Size (pick group Address Done)) false false)
+  answered size group = number_of (call_check b (pick size (Err Size) (pick group (Err Address) unrefused)) false false)
 
   -- where nothing of it is, the page's own answer and 7
   own-else : (n : ℕ) → (n ≡ 7 → ⊥) → (n ≡ 0 → ⊥) → (number_of (page_check b.page) ≡ n → ⊥) → answered false false ≡ n → ⊥
   unfolding call_check
-  own-else n no-7 no-0 own = go (done_of (page_check b.page)) (state_refused b || false)
+  own-else n no-7 no-0 own = go (is_ok (page_check b.page)) (state_refused b || false)
     where
-      go : (d s : Bool) → number_of (pick (not d) (page_check b.page) (pick s Range Done)) ≡ n → ⊥
+      go : (d s : Bool) → number_of (pick (not d) (page_check b.page) (pick s (Err Range) unrefused)) ≡ n → ⊥
       go false s e = own e
       go true true e = no-7 (sym e)
       go true false e = no-0 (sym e)
@@ -94,9 +94,9 @@ module _ (b : Board) where
 -- a step's own answer
 step-answer : (b : Board) (chars attrs : List ℕ) (f : Font) → (step_of b chars attrs f).refusal ≡ step_check b chars attrs f
 unfolding step_of stepped_of
-step-answer b chars attrs f = go (done_of (step_check b chars attrs f)) refl
+step-answer b chars attrs f = go (is_ok (step_check b chars attrs f)) refl
   where
-    go : (t : Bool) → done_of (step_check b chars attrs f) ≡ t → (step_of b chars attrs f).refusal ≡ step_check b chars attrs f
+    go : (t : Bool) → is_ok (step_check b chars attrs f) ≡ t → (step_of b chars attrs f).refusal ≡ step_check b chars attrs f
     go true t = rw t (sym (done-is _ t))
     go false t = rw t
 
@@ -141,10 +141,10 @@ module _ (numbers chars attrs words flags unshifted shifted groups : List ℕ) (
   -- the page of the board that is made has no 12 of its own
   made-page : number_of (page_check m.board.page) ≡ 12 → ⊥
   unfolding board_for numbers_check page_check address_refused coded_of table_of hbp_of
-  made-page e = go (done_of (numbers_check numbers)) refl (ap (λ (x : BoardAnswer). number_of (page_check x.board.page)) (sym made) ∙ e)
+  made-page e = go (is_ok (numbers_check numbers)) refl (ap (λ (x : BoardAnswer). number_of (page_check x.board.page)) (sym made) ∙ e)
     where
-      go : (t : Bool) → done_of (numbers_check numbers) ≡ t → number_of (page_check (pick t (numbers_board numbers) power_of).page) ≡ 12 → ⊥
-      go true d q = let ok = (passed (numbers_refused numbers) Size _ refl (done-is _ d)).1 in omega (arith, sym (ap number_of ok) ∙ q)
+      go : (t : Bool) → is_ok (numbers_check numbers) ≡ t → number_of (page_check (pick t (numbers_board numbers) power_of).page) ≡ 12 → ⊥
+      go true d q = let ok = (passed (numbers_refused numbers) (Err Size) _ refl (done-is _ d)).1 in omega (arith, sym (ap number_of ok) ∙ q)
       go false d q = omega arith
 
   -- 3 for the numbers, which a page's own answer never is
@@ -173,7 +173,7 @@ module _ (numbers chars attrs words flags unshifted shifted groups : List ℕ) (
     unfolding line_draw_check draw_check call_check
     lent-three e = rw (call-three m.board short group (sym step_is ∙ e)) (go (numbers_refused numbers))
       where
-        go : (t : Bool) → alone_of 3 ≡ answer_of (pick t Size Size)
+        go : (t : Bool) → alone_of 3 ≡ answer_of (pick t (Err Size) (Err Size))
         go true = refl
         go false = refl
 
@@ -193,11 +193,11 @@ module _ (numbers chars attrs words flags unshifted shifted groups : List ℕ) (
       unfolding line_draw_check draw_check call_check numbers_check
       pages-own e =
           let page : own ≡ answer_of (page_check (page_at numbers 1)) = own_is ∙ rw (numbers-fine no-three) in
-          let refused : done_of (page_check (page_at numbers 1)) ≡ false = ne_eqb _ _ (λ q. e (ap (λ (x : Answer). x.refusal) page ∙ q)) in
+          let refused : is_ok (page_check (page_at numbers 1)) ≡ false = ne_eqb _ _ (λ q. e (ap (λ (x : Answer). x.refusal) page ∙ q)) in
           rw (numbers-fine no-three, lent-fine.0, lent-fine.1, refused) page
 
       module _ (done : m.refusal ≡ 0) {z : SizeAnswer} (size : z ≡ size_for numbers) where
-        page-done : page_check (page_at numbers 1) ≡ Done
+        page-done : page_check (page_at numbers 1) ≡ unrefused
         unfolding numbers_check
         page-done = done-is _ (eq-eqb _ _ (rw (numbers-fine no-three) at (sym made-is ∙ done)))
 
@@ -236,7 +236,7 @@ module _ (numbers chars attrs : List ℕ) (f : Font) (line : ℕ) (out : List �
   unfolding line_draw_check line_drawn drawn_of
   kept n field = (e, go (numbers_refused numbers) refl)
     where
-      refused : done_of (line_draw_check numbers chars attrs f line (length out)) ≡ false
+      refused : is_ok (line_draw_check numbers chars attrs f line (length out)) ≡ false
       refused = ne_eqb _ _ (λ q. n (number_is ∙ q))
 
       go : (t : Bool) → numbers_refused numbers ≡ t → out ≡ line_drawn numbers chars attrs f line field out
@@ -244,13 +244,13 @@ module _ (numbers chars attrs : List ℕ) (f : Font) (line : ℕ) (out : List �
       go false t = rw (t, rw t at refused)
 
   module _ (z : r.refusal ≡ 0) {m : BoardAnswer} (made : m ≡ board_for numbers) where
-    accepted : (numbers_refused numbers ≡ false) × (draw_check (numbers_board numbers) (lent_check chars attrs f) line (length out) ≡ Done)
+    accepted : (numbers_refused numbers ≡ false) × (draw_check (numbers_board numbers) (lent_check chars attrs f) line (length out) ≡ unrefused)
     unfolding line_draw_check
-    accepted = passed (numbers_refused numbers) Size _ refl (done-is _ (eq-eqb _ _ (sym number_is ∙ z)))
+    accepted = passed (numbers_refused numbers) (Err Size) _ refl (done-is _ (eq-eqb _ _ (sym number_is ∙ z)))
 
     -- what the draw's checks passed
     record Steps : Type 0 where
-      page-ok : page_check (numbers_board numbers).page ≡ Done
+      page-ok : page_check (numbers_board numbers).page ≡ unrefused
       can-step : Steppable (numbers_board numbers) chars attrs f line (length out)
 
     steps : Steps
@@ -259,9 +259,9 @@ module _ (numbers chars attrs : List ℕ) (f : Font) (line : ℕ) (out : List �
         let b = numbers_board numbers in
         let s = not-refused (lent_check chars attrs f) _ accepted.1 in
         let p = not-refused (page_check b.page) _ s.1 in
-        let v = passed (state_refused b || leb (visible_of b.page).0 line) Range _ refl p.1 in
+        let v = passed (state_refused b || leb (visible_of b.page).0 line) (Err Range) _ refl p.1 in
         let n = neither (state_refused b) (leb (visible_of b.page).0 line) v.0 in
-        let o = passed (ltb (length out) (line_length b)) Room _ refl v.1 in
+        let o = passed (ltb (length out) (line_length b)) (Err Room) _ refl v.1 in
         record {
           page-ok = p.0;
           can-step = record { accepted = call_ok b (lent_check chars attrs f) s.0 p.0 n.0; visible = leb-false _ _ n.1; roomy = ltb-false _ _ o.0 };

@@ -4,10 +4,10 @@ use Rattle.std.proofs.Common.{sym, ap, ◌∙◌, mul-le-mul, add-zero, length-t
 use Rattle.std.proofs.Math.Nat.{mod-eq_of_lt}
 use native.Mathlib.Omega.{arith}
 use Rattle.std.proofs.Math.Seq.{take-length}
-use Rattle.refusal.specs.declared.Refusal.TheVariants.{Done}
 use Rattle.units.specs.declared.Clocks.{Clocks}
 use Rattle.units.specs.declared.Lines.{Lines}
 use Rattle.units.specs.Units.{clocks, lines, clocks_of}
+use Rattle.refusal.specs.Number.{unrefused}
 use Rattle.board.specs.declared.Page.{Page}
 use Rattle.board.specs.declared.Board.{Board}
 use Rattle.timing.specs.declared.Timing.{Timing}
@@ -29,7 +29,7 @@ use Rattle.agreement.specs.Lines.{line_count, clock_of, dots-are}
 
 -- a line that stepping can draw
 pub record Steppable (b : Board) (chars attrs : List ℕ) (f : Font) (line room : ℕ) : Type 0 where
-  pub accepted : step_check b chars attrs f ≡ Done
+  pub accepted : step_check b chars attrs f ≡ unrefused
   pub visible : line < (visible_of b.page).0
   pub roomy : line_length b ≤ room
 

@@ -1,14 +1,13 @@
 -- A page that is moved and drawn over its picture leaves the picture, and what a clock of it puts out stays. Assumes nothing.
 use Prim.Native.Nat.{ℕ, zero, suc, ◌+◌}
-use Rattle.std.specs.Prelude.{◌≡◌, Bool, List, ◌++◌, length}
+use Rattle.std.specs.Prelude.{◌≡◌, Bool, List, ◌++◌, length, is_ok, Err}
 use Rattle.std.proofs.Math.Path.{refl, sym, ap}
 use Rattle.std.proofs.Common.{◌∙◌, zero-add, eqb-true, drop_at}
 use Rattle.std.proofs.Math.Bool.{true, false}
 use Rattle.std.proofs.Math.ListN.{drop}
 use Rattle.lists.specs.Choice.{pick}
-use Rattle.refusal.specs.declared.Refusal.{Refusal}
 use Rattle.refusal.specs.declared.Refusal.TheVariants.{Size}
-use Rattle.refusal.specs.Number.{number_of, done_of}
+use Rattle.refusal.specs.Number.{Checked, number_of}
 use Rattle.refusal.specs.Laws.{done-is}
 use Rattle.board.specs.declared.Board.{Board}
 use Rattle.shape.specs.Font.{Font, font_of}
@@ -41,28 +40,28 @@ module _ (numbers chars attrs words flags unshifted shifted groups : List ℕ) (
   abbrev draw : List ℕ → List ℕ
   draw = picture_drawn numbers chars attrs f field
 
-  refused-kept : (out : List ℕ) → done_of (picture_draw_check numbers chars attrs f (length out)) ≡ false → draw out ≡ out
+  refused-kept : (out : List ℕ) → is_ok (picture_draw_check numbers chars attrs f (length out)) ≡ false → draw out ≡ out
   unfolding picture_draw_check picture_drawn pictured_of
   refused-kept out = go (numbers_refused numbers) (picture_check (numbers_board numbers) (lent_check chars attrs f) (length out))
     where
-      go : (t : Bool) (r : Refusal) → done_of (pick t Size r) ≡ false
-          → pick t out (pick (done_of r) (picture_dots (numbers_board numbers) chars attrs f field ++ drop (picture_length (numbers_board numbers).page) out) out) ≡ out
+      go : (t : Bool) (r : Checked) → is_ok (pick t (Err Size) r) ≡ false
+          → pick t out (pick (is_ok r) (picture_dots (numbers_board numbers) chars attrs f field ++ drop (picture_length (numbers_board numbers).page) out) out) ≡ out
       go true r e = refl
       go false r e = rw e
 
   pub drawn-long : (out : List ℕ) → length (draw out) ≡ length out
-  drawn-long out = go (done_of (picture_draw_check numbers chars attrs f (length out))) refl
+  drawn-long out = go (is_ok (picture_draw_check numbers chars attrs f (length out))) refl
     where
-      go : (t : Bool) → done_of (picture_draw_check numbers chars attrs f (length out)) ≡ t → length (draw out) ≡ length out
+      go : (t : Bool) → is_ok (picture_draw_check numbers chars attrs f (length out)) ≡ t → length (draw out) ≡ length out
       go true e =
           let zero = eqb-true _ _ e in
           same_length numbers chars attrs words flags unshifted shifted groups field out zero (draw out) (pictured numbers chars attrs words flags unshifted shifted groups field out zero)
       go false e = ap length (refused-kept out e)
 
   pub drawn-again : (out : List ℕ) → draw (draw out) ≡ draw out
-  drawn-again out = go (done_of (picture_draw_check numbers chars attrs f (length out))) refl
+  drawn-again out = go (is_ok (picture_draw_check numbers chars attrs f (length out))) refl
     where
-      go : (t : Bool) → done_of (picture_draw_check numbers chars attrs f (length out)) ≡ t → draw (draw out) ≡ draw out
+      go : (t : Bool) → is_ok (picture_draw_check numbers chars attrs f (length out)) ≡ t → draw (draw out) ≡ draw out
       go false e = ap draw (refused-kept out e)
       go true e =
           let b = numbers_board numbers in
@@ -107,16 +106,16 @@ module _ (numbers chars attrs words flags unshifted shifted groups : List ℕ) w
   start = (board_for numbers).board
 
   -- a step that is refused leaves the board, and so does the next one
-  stays : done_of (step_check start chars attrs font) ≡ false → (n : ℕ) → after_c numbers chars attrs words flags unshifted shifted groups n ≡ start
+  stays : is_ok (step_check start chars attrs font) ≡ false → (n : ℕ) → after_c numbers chars attrs words flags unshifted shifted groups n ≡ start
   unfolding after_c step_of
   stays e zero = refl
   stays e (suc n) = ap (λ (x : Board). (step_of x chars attrs font).board) (stays e n) ∙ rw e
 
   reached : (n : ℕ) → (stepped_to start chars attrs font n).board ≡ after_c numbers chars attrs words flags unshifted shifted groups n
   unfolding stepped_to
-  reached n = go (done_of (step_check start chars attrs font)) refl
+  reached n = go (is_ok (step_check start chars attrs font)) refl
     where
-      go : (t : Bool) → done_of (step_check start chars attrs font) ≡ t
+      go : (t : Bool) → is_ok (step_check start chars attrs font) ≡ t
           → pick t (state_of start chars attrs n).board start ≡ after_c numbers chars attrs words flags unshifted shifted groups n
       go true e = (at_once start chars attrs font (done-is _ e) n).1 ∙ sym (steps-made numbers chars attrs words flags unshifted shifted groups n)
       go false e = sym (stays e n)

@@ -1,12 +1,13 @@
 -- A line that is drawn again over its picture stands there already. Assumes nothing.
-use Rattle.std.specs.Prelude.{ℕ, zero, suc, ◌+◌, ◌*◌, ◌-◌, ◌≤◌, ◌<◌, ◌≡◌, List, ◌++◌, ltb, length, take, drop}
+use Rattle.std.specs.Prelude.{ℕ, zero, suc, ◌+◌, ◌*◌, ◌-◌, ◌≤◌, ◌<◌, ◌≡◌, List, ◌++◌, ltb, length, take, drop, Err}
 use Rattle.std.proofs.Math.Path.{refl, ap}
 use Rattle.std.proofs.Common.{◌∙◌, append_assoc, zero-mul, suc-mul, add-zero, zero-add, not-suc-le-zero, le_of_suc-le-suc, mul-le-mul, arith, take-append-drop, length-append, length-take, length-drop, take_at, drop-drop}
 use Rattle.std.proofs.Math.Bool.{false}
 use Rattle.std.proofs.Math.Seq.{drop-append-add}
 use Rattle.lists.specs.Fill.{lent}
 use Rattle.lists.specs.Join.{joined, length-joined, stretch-inside}
-use Rattle.refusal.specs.declared.Refusal.TheVariants.{Done, Size}
+use Rattle.refusal.specs.Number.{unrefused}
+use Rattle.refusal.specs.declared.Refusal.TheVariants.{Size}
 use Rattle.refusal.specs.Laws.{passed}
 use Rattle.board.specs.declared.Board.{Board}
 use Rattle.timing.specs.Fields.{visible_of}
@@ -52,15 +53,15 @@ module _ (numbers chars attrs words flags unshifted shifted groups : List ℕ) (
   abbrev f : Font
   f = font_of words flags unshifted shifted groups
 
-  taken : (numbers_refused numbers ≡ false) × (picture_check b (lent_check chars attrs f) (length out₀) ≡ Done)
+  taken : (numbers_refused numbers ≡ false) × (picture_check b (lent_check chars attrs f) (length out₀) ≡ unrefused)
   unfolding picture_draw_check
-  taken = passed (numbers_refused numbers) Size _ refl (zero-done _ done)
+  taken = passed (numbers_refused numbers) (Err Size) _ refl (zero-done _ done)
 
-  page-ok : page_check b.page ≡ Done
+  page-ok : page_check b.page ≡ unrefused
   unfolding picture_check
   page-ok = call-page b (lent_check chars attrs f) false (ltb (length out₀) (picture_length b.page)) taken.1
 
-  step_ok : step_check b chars attrs f ≡ Done
+  step_ok : step_check b chars attrs f ≡ unrefused
   unfolding numbers_check picture_check
   step_ok =
       fit-from-c numbers chars attrs words flags unshifted shifted groups (rw taken.0 page-ok)
@@ -85,7 +86,7 @@ module _ (numbers chars attrs words flags unshifted shifted groups : List ℕ) (
 
   -- where a line stands in the buffer
   module _ (size : SizeAnswer) (sized : size ≡ size_for numbers) (line : ℕ) (h : line < size.lines) where
-    size_is : size ≡ size_answer Done (visible_of b.page).0 (line_length b)
+    size_is : size ≡ size_answer unrefused (visible_of b.page).0 (line_length b)
     unfolding size_for size_of
     size_is = sized ∙ rw (taken.0, page-ok)
 

@@ -1,12 +1,11 @@
 -- The board stepped to is the board asked for. Assumes nothing.
-use Rattle.std.specs.Prelude.{ℕ, zero, suc, ◌+◌, ◌≡◌, List}
+use Rattle.std.specs.Prelude.{ℕ, zero, suc, ◌+◌, ◌≡◌, List, is_ok}
 use Rattle.std.proofs.Math.Path.{sym, ap}
 use Rattle.std.proofs.Common.{◌∙◌, add-zero, add-suc, add-one}
 use Rattle.std.proofs.Math.Bool.{false}
 use borrow.Author.Tests.{eq-eqb, ne_eqb}
 use Rattle.lists.specs.Choice.{pick}
-use Rattle.refusal.specs.declared.Refusal.TheVariants.{Done}
-use Rattle.refusal.specs.Number.{number_of, done_of}
+use Rattle.refusal.specs.Number.{unrefused, number_of}
 use Rattle.refusal.specs.Laws.{done-is}
 use Rattle.board.specs.declared.Board.{Board}
 use Rattle.shape.specs.Font.{Font, font_of}
@@ -23,7 +22,7 @@ use Rattle.callers_stepped.specs.Asked.{step-by-value, step-beside}
 -- what a step answers for the board; where that is 0, the board that is asked for at clock n, and else the old one
 unfoldable pub stepped_to : Board → (chars attrs : List ℕ) → Font → ℕ → BoardAnswer
 stepped_to b chars attrs f n =
-    board_answer (step_check b chars attrs f) (pick (done_of (step_check b chars attrs f)) (state_of b chars attrs n).board b)
+    board_answer (step_check b chars attrs f) (pick (is_ok (step_check b chars attrs f)) (state_of b chars attrs n).board b)
 
 -- the board after i single steps from where it stands
 unfoldable pub on : Board → (chars attrs : List ℕ) → Font → ℕ → Board
@@ -49,7 +48,7 @@ module _ (b : Board) (chars attrs words flags unshifted shifted groups : List �
     unfolding stepped_to
     not-stepped e =
         let r : s.answer.refusal ≡ number_of (step_check b chars attrs font) = step-by-value b chars attrs words flags unshifted shifted groups tried in
-        let refused : done_of (step_check b chars attrs font) ≡ false = ne_eqb _ _ (λ q. e (r ∙ q)) in
+        let refused : is_ok (step_check b chars attrs font) ≡ false = ne_eqb _ _ (λ q. e (r ∙ q)) in
         let k = step-beside b chars attrs words flags unshifted shifted groups tried in
         rw refused (λ i. record { refusal = r i; beside = k i; board = b })
 
@@ -59,7 +58,7 @@ module _ (b : Board) (chars attrs words flags unshifted shifted groups : List �
     unfolding stepped_to
     stepped e from i {a} asked here q =
         let r : s.answer.refusal ≡ number_of (step_check b chars attrs font) = step-by-value b chars attrs words flags unshifted shifted groups tried in
-        let ok : step_check b chars attrs font ≡ Done = done-is _ (eq-eqb _ _ (sym r ∙ e)) in
+        let ok : step_check b chars attrs font ≡ unrefused = done-is _ (eq-eqb _ _ (sym r ∙ e)) in
         let start : a.board ≡ after b chars attrs font from = ap (λ (x : BoardAnswer). x.board) asked ∙ (at_once b chars attrs font ok from).1 in
         let last = here ∙ ap (λ (x : Board). on x chars attrs font i) start ∙ later b chars attrs font from i ∙ ap (after b chars attrs font) q ∙ sym (at_once b chars attrs font ok n).1 in
         rw ok (λ k. record { refusal = 0; beside = 0; board = last k })

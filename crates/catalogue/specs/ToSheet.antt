@@ -1,10 +1,9 @@
 -- 02, R-5, moving back: a page whose rows follow one another becomes a sheet.
-use Rattle.std.specs.Prelude.{ℕ, ◌+◌, ◌-◌, ◌%◌, Bool, not, List, [], ◌∷◌, eqb, length, set}
+use Rattle.std.specs.Prelude.{ℕ, ◌+◌, ◌-◌, ◌%◌, Bool, not, List, [], ◌∷◌, eqb, length, set, is_ok, Err}
 use Rattle.lists.specs.Choice.{pick, first_of}
 use Rattle.lists.specs.Search.{any_below}
-use Rattle.refusal.specs.declared.Refusal.{Refusal}
-use Rattle.refusal.specs.declared.Refusal.TheVariants.{Done, Kind, Coded, Apart}
-use Rattle.refusal.specs.Number.{done_of}
+use Rattle.refusal.specs.declared.Refusal.TheVariants.{Kind, Coded, Apart}
+use Rattle.refusal.specs.Number.{unrefused, Checked}
 use Rattle.raster.specs.Moves.{advance_by}
 use Rattle.board.specs.declared.Page.{Page}
 use Rattle.board.specs.declared.Board.{Board}
@@ -36,14 +35,14 @@ as_sheet_page p chars = sheet_at p (entry_of p chars 0)
 
 -- [R-5 refusals]
 -- 16, 19, 18
-abbrev pub as_sheet_order : Page → (chars : List ℕ) → Refusal
-as_sheet_order p chars = first_of ((not (table_of p), Kind) ∷ (coded_of p, Coded) ∷ (rows_apart p chars, Apart) ∷ []) Done
+abbrev pub as_sheet_order : Page → (chars : List ℕ) → Checked
+as_sheet_order p chars = first_of ((not (table_of p), Err Kind) ∷ (coded_of p, Err Coded) ∷ (rows_apart p chars, Err Apart) ∷ []) unrefused
 
 -- [R-5 refusals]
 -- after the page's own
-unfoldable pub as_sheet_check : Board → (chars : List ℕ) → Refusal
-as_sheet_check b chars = pick (done_of (own_check b (length chars))) (as_sheet_order b.page chars) (own_check b (length chars))
+unfoldable pub as_sheet_check : Board → (chars : List ℕ) → Checked
+as_sheet_check b chars = pick (is_ok (own_check b (length chars))) (as_sheet_order b.page chars) (own_check b (length chars))
 
 -- [R-5 sheet]
 unfoldable pub as_sheet : Board → (chars : List ℕ) → Moved
-as_sheet b chars = moved_to (as_sheet_check b chars) (pick (done_of (as_sheet_check b chars)) (with_page b (as_sheet_page b.page chars)) b)
+as_sheet b chars = moved_to (as_sheet_check b chars) (pick (is_ok (as_sheet_check b chars)) (with_page b (as_sheet_page b.page chars)) b)

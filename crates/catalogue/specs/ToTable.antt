@@ -1,11 +1,10 @@
 -- 02, R-5, moving there: a sheet gets a row table, in the lowest stretch of consecutive cells that no row fetches.
-use Rattle.std.specs.Prelude.{◌≡◌, ℕ, ◌+◌, ◌-◌, ◌*◌, ◌/◌, ◌%◌, Bool, false, not, List, [], ◌∷◌, ◌++◌, eqb, length, set, take, drop}
+use Rattle.std.specs.Prelude.{◌≡◌, ℕ, ◌+◌, ◌-◌, ◌*◌, ◌/◌, ◌%◌, Bool, false, not, List, [], ◌∷◌, ◌++◌, eqb, length, set, take, drop, is_ok, Err}
 use Rattle.lists.specs.Choice.{pick, first_of}
 use Rattle.lists.specs.Tab.{tab}
 use Rattle.lists.specs.Search.{any_below, first_below}
-use Rattle.refusal.specs.declared.Refusal.{Refusal}
-use Rattle.refusal.specs.declared.Refusal.TheVariants.{Done, Kind, Coded, Stretch}
-use Rattle.refusal.specs.Number.{done_of, wrong_size}
+use Rattle.refusal.specs.declared.Refusal.TheVariants.{Kind, Coded, Stretch}
+use Rattle.refusal.specs.Number.{unrefused, Checked, wrong_size}
 use Rattle.board.specs.declared.Page.{Page}
 use Rattle.board.specs.declared.Board.{Board}
 use Rattle.board.specs.Parts.{with_irs, with_starts, with_page}
@@ -57,30 +56,30 @@ as_table_chars p chars a = take a chars ++ (tab (table_size p) (table_byte p cha
 
 -- [R-5 refusals]
 -- the page's own: 3 for character memory, 12, 4, 13, 14, 15, 6, 7
-unfoldable pub own_check : Board → (n : ℕ) → Refusal
+unfoldable pub own_check : Board → (n : ℕ) → Checked
 own_check b n = call_check b (wrong_size (memory_refused n)) false false
 
 -- [R-5 refusals] after the page's own 16, 19, 17 or 18, each exactly when its fact holds and none before it does
 -- then 16, 19, 17
-abbrev pub as_table_order : Page → (place : ℕ) → Refusal
-as_table_order p a = first_of ((table_of p, Kind) ∷ (coded_of p, Coded) ∷ (eqb a (table_places p), Stretch) ∷ []) Done
+abbrev pub as_table_order : Page → (place : ℕ) → Checked
+as_table_order p a = first_of ((table_of p, Err Kind) ∷ (coded_of p, Err Coded) ∷ (eqb a (table_places p), Err Stretch) ∷ []) unrefused
 
 -- [R-5 refusals]
-unfoldable pub as_table_check : Board → (chars : List ℕ) → Refusal
-as_table_check b chars = pick (done_of (own_check b (length chars))) (as_table_order b.page (table_place b.page chars)) (own_check b (length chars))
+unfoldable pub as_table_check : Board → (chars : List ℕ) → Checked
+as_table_check b chars = pick (is_ok (own_check b (length chars))) (as_table_order b.page (table_place b.page chars)) (own_check b (length chars))
 
-abbrev pub moved_to : Refusal → Board → Moved
+abbrev pub moved_to : Checked → Board → Moved
 moved_to r b = record { refusal = r; board = b }
 
 -- [R-5 same] typed sheets become row table pages with the same picture in every frame
 -- pointer, place and power state stay; a refusal gives the old board and leaves memory
 unfoldable pub as_table : Board → (chars : List ℕ) → Moved
 as_table b chars =
-    moved_to (as_table_check b chars) (pick (done_of (as_table_check b chars)) (with_page b (as_table_page b.page (table_place b.page chars))) b)
+    moved_to (as_table_check b chars) (pick (is_ok (as_table_check b chars)) (with_page b (as_table_page b.page (table_place b.page chars))) b)
 
 -- [R-5 same]
 unfoldable pub as_table_left : Board → (chars : List ℕ) → List ℕ
-as_table_left b chars = pick (done_of (as_table_check b chars)) (as_table_chars b.page chars (table_place b.page chars)) chars
+as_table_left b chars = pick (is_ok (as_table_check b chars)) (as_table_chars b.page chars (table_place b.page chars)) chars
 
 -- [demand untouched]
 -- the call: its answer, and character memory afterwards

@@ -1,7 +1,6 @@
 -- What a call for C answers: the refusal's number, the number beside it, and the results.
 use Rattle.std.specs.Prelude.{ℕ}
-use Rattle.refusal.specs.declared.Refusal.{Refusal}
-use Rattle.refusal.specs.Number.{number_of, beside_of}
+use Rattle.refusal.specs.Number.{Checked, number_of, beside_of}
 use Rattle.board.specs.declared.Board.{Board}
 use Rattle.feldrime.specs.declared.Answer.{Answer}
 use Rattle.feldrime.specs.declared.SizeAnswer.{SizeAnswer}
@@ -15,23 +14,23 @@ use Rattle.feldrime.specs.declared.ByteAnswer.{ByteAnswer}
 abbrev pub archive_version : ℕ
 archive_version = 8
 
-abbrev pub answer_of : Refusal → Answer
+abbrev pub answer_of : Checked → Answer
 answer_of r = record { refusal = number_of r; beside = beside_of r }
 
-abbrev pub size_answer : Refusal → (lines dots : ℕ) → SizeAnswer
+abbrev pub size_answer : Checked → (lines dots : ℕ) → SizeAnswer
 size_answer r l d = record { refusal = number_of r; beside = beside_of r; lines = l; dots = d }
 
-abbrev pub font_answer : Refusal → (groups : ℕ) → FontAnswer
+abbrev pub font_answer : Checked → (groups : ℕ) → FontAnswer
 font_answer r n = record { refusal = number_of r; beside = beside_of r; groups = n }
 
-abbrev pub run_answer : Refusal → (first count : ℕ) → RunAnswer
+abbrev pub run_answer : Checked → (first count : ℕ) → RunAnswer
 run_answer r f n = record { refusal = number_of r; beside = beside_of r; first = f; count = n }
 
-abbrev pub cells_answer : Refusal → ℕ → CellsAnswer
+abbrev pub cells_answer : Checked → ℕ → CellsAnswer
 cells_answer r n = record { refusal = number_of r; beside = beside_of r; count = n }
 
-abbrev pub board_answer : Refusal → Board → BoardAnswer
+abbrev pub board_answer : Checked → Board → BoardAnswer
 board_answer r b = record { refusal = number_of r; beside = beside_of r; board = b }
 
-abbrev pub byte_answer : Refusal → ℕ → ByteAnswer
+abbrev pub byte_answer : Checked → ℕ → ByteAnswer
 byte_answer r v = record { refusal = number_of r; beside = beside_of r; byte = v }

@@ -1,9 +1,9 @@
 -- A page moved to a row table and back, from its numbers (02, R-5).
 use Rattle.feldrime.specs.Answers.{answer_of}
 use Rattle.feldrime.specs.declared.Answer.{Answer}
-use Rattle.std.specs.Prelude.{◌≡◌, ℕ, List}
+use Rattle.std.specs.Prelude.{◌≡◌, ℕ, List, Err}
 use Rattle.lists.specs.Choice.{pick}
-use Rattle.refusal.specs.declared.Refusal.{Refusal}
+use Rattle.refusal.specs.Number.{Checked}
 use Rattle.refusal.specs.declared.Refusal.TheVariants.{Size}
 use Rattle.catalogue.specs.declared.Moved.{Moved}
 use Rattle.catalogue.specs.ToTable.{as_table, as_table_left}
@@ -15,11 +15,11 @@ abbrev pub moved_numbers : Moved → List ℕ → List ℕ
 moved_numbers m numbers = page_or_own m.refusal m.board.page numbers
 
 -- 3 for the numbers, then the move's own
-unfoldable pub to_table_check : (numbers chars : List ℕ) → Refusal
-to_table_check numbers chars = pick (numbers_refused numbers) Size (as_table (numbers_board numbers) chars).refusal
+unfoldable pub to_table_check : (numbers chars : List ℕ) → Checked
+to_table_check numbers chars = pick (numbers_refused numbers) (Err Size) (as_table (numbers_board numbers) chars).refusal
 
-unfoldable pub to_sheet_check : (numbers chars : List ℕ) → Refusal
-to_sheet_check numbers chars = pick (numbers_refused numbers) Size (as_sheet (numbers_board numbers) chars).refusal
+unfoldable pub to_sheet_check : (numbers chars : List ℕ) → Checked
+to_sheet_check numbers chars = pick (numbers_refused numbers) (Err Size) (as_sheet (numbers_board numbers) chars).refusal
 
 -- the numbers afterwards
 unfoldable pub to_table_numbers : (numbers chars : List ℕ) → List ℕ

@@ -1,9 +1,9 @@
 -- A whole line, drawn from a page's numbers.
 use Rattle.feldrime.specs.Answers.{answer_of}
 use Rattle.feldrime.specs.declared.Answer.{Answer}
-use Rattle.std.specs.Prelude.{length, ◌≡◌, ℕ, List}
+use Rattle.std.specs.Prelude.{length, ◌≡◌, ℕ, List, Err}
 use Rattle.lists.specs.Choice.{pick}
-use Rattle.refusal.specs.declared.Refusal.{Refusal}
+use Rattle.refusal.specs.Number.{Checked}
 use Rattle.refusal.specs.declared.Refusal.TheVariants.{Size}
 use Rattle.shape.specs.Font.{Font}
 use Rattle.video.specs.At.{lent_check}
@@ -11,9 +11,9 @@ use Rattle.line.specs.Line.{draw_check, drawn_of}
 use Rattle.numbers.specs.Numbers.{numbers_refused, numbers_board}
 
 -- 3 for the numbers, then the line's own refusals
-unfoldable pub line_draw_check : (numbers chars attrs : List ℕ) → Font → (line room : ℕ) → Refusal
+unfoldable pub line_draw_check : (numbers chars attrs : List ℕ) → Font → (line room : ℕ) → Checked
 line_draw_check numbers chars attrs f line room =
-    pick (numbers_refused numbers) Size (draw_check (numbers_board numbers) (lent_check chars attrs f) line room)
+    pick (numbers_refused numbers) (Err Size) (draw_check (numbers_board numbers) (lent_check chars attrs f) line room)
 
 -- the buffer afterwards, which stays where the numbers are refused
 unfoldable pub line_drawn : (numbers chars attrs : List ℕ) → Font → (line field : ℕ) → List ℕ → List ℕ

@@ -5,11 +5,10 @@ use Rattle.files.specs.FontFile.{group_count, font_short, font_check, font_read}
 use Rattle.files.specs.File.{read_check, chars_read, attrs_read}
 use Rattle.shape.specs.Font.{Font}
 use Rattle.board.specs.declared.Board.{Board}
-use Rattle.std.specs.Prelude.{length, ◌≡◌, ℕ, List}
+use Rattle.std.specs.Prelude.{length, ◌≡◌, ℕ, List, is_ok, Err}
 use Rattle.lists.specs.Choice.{pick}
-use Rattle.refusal.specs.declared.Refusal.{Refusal}
 use Rattle.refusal.specs.declared.Refusal.TheVariants.{Size}
-use Rattle.refusal.specs.Number.{done_of}
+use Rattle.refusal.specs.Number.{Checked}
 use Rattle.board.specs.State.{power_of}
 use Rattle.timing.specs.Check.{size_of}
 use Rattle.fetch.specs.Run.{span_of}
@@ -23,18 +22,18 @@ use Rattle.feldrime.specs.Answers.{size_answer, font_answer, run_answer, board_a
 
 unfoldable pub size_for : List ℕ → SizeAnswer
 size_for numbers =
-    pick (numbers_refused numbers) (size_answer Size 0 0)
+    pick (numbers_refused numbers) (size_answer (Err Size) 0 0)
     (size_answer (size_of (page_at numbers 1)).refusal (size_of (page_at numbers 1)).lines.0 (size_of (page_at numbers 1)).dots.0)
 
 -- a row's first run: its first address and how many cells, zeros on a refusal
 unfoldable pub run_for : (numbers chars : List ℕ) → ℕ → RunAnswer
 run_for numbers chars row =
-    pick (numbers_refused numbers) (run_answer Size 0 0)
+    pick (numbers_refused numbers) (run_answer (Err Size) 0 0)
     (run_answer (span_of (numbers_board numbers) chars row).refusal (span_of (numbers_board numbers) chars row).start (span_of (numbers_board numbers) chars row).count)
 
 -- a refusal gives the board that power gives
 unfoldable pub board_for : List ℕ → BoardAnswer
-board_for numbers = board_answer (numbers_check numbers) (pick (done_of (numbers_check numbers)) (numbers_board numbers) power_of)
+board_for numbers = board_answer (numbers_check numbers) (pick (is_ok (numbers_check numbers)) (numbers_board numbers) power_of)
 
 -- ---- files, and a board's numbers: the answer, and the lent buffers afterwards
 
@@ -50,8 +49,8 @@ WritesPageFor numbers chars attrs out r left =
     (r ≡ answer_of (page_write_check numbers (length chars) (length attrs) (length out))) × (left ≡ page_written numbers chars attrs out)
 
 -- how many groups the file has, none on a refusal
-abbrev pub groups_read : Refusal → (file : List ℕ) → ℕ
-groups_read r file = pick (done_of r) (group_count (version_in file)) 0
+abbrev pub groups_read : Checked → (file : List ℕ) → ℕ
+groups_read r file = pick (is_ok r) (group_count (version_in file)) 0
 
 abbrev pub font_for : (file : List ℕ) → Font → FontAnswer
 font_for file f = font_answer (font_check file (font_short file f)) (groups_read (font_check file (font_short file f)) file)

@@ -1,5 +1,5 @@
 -- All cells of a row, from a page's numbers.
-use Rattle.std.specs.Prelude.{length, ◌≡◌, ℕ, List}
+use Rattle.std.specs.Prelude.{length, ◌≡◌, ℕ, List, Err}
 use Rattle.lists.specs.Choice.{pick}
 use Rattle.refusal.specs.declared.Refusal.TheVariants.{Size}
 use Rattle.fetch.specs.RowCells.{cells_given, cells_put}
@@ -10,7 +10,7 @@ use Rattle.feldrime.specs.Answers.{cells_answer}
 -- 3 for the numbers, then the row's own refusals; how many cells there are
 unfoldable pub cells_for : (numbers chars : List ℕ) → (row room : ℕ) → CellsAnswer
 cells_for numbers chars row room =
-    pick (numbers_refused numbers) (cells_answer Size 0)
+    pick (numbers_refused numbers) (cells_answer (Err Size) 0)
     (cells_answer (cells_given (numbers_board numbers) chars row room).refusal (cells_given (numbers_board numbers) chars row room).count)
 
 -- the buffer afterwards, which stays where the numbers are refused

@@ -1,16 +1,14 @@
 -- What callers use of the fetch: an accepted page's cells are the beam's, and a run is empty on a refusal and only there. Assumes nothing.
 use Prim.Native.Nat.{ℕ, min, ◌+◌, ◌-◌, ◌*◌, ◌/◌, ◌^◌, ◌≤◌, ◌<◌}
-use Rattle.std.specs.Prelude.{◌≡◌, Bool, List, ltb, leb, take, drop}
+use Rattle.std.specs.Prelude.{◌≡◌, Bool, List, ltb, leb, take, drop, is_ok, Ok, Err}
 use Rattle.std.proofs.Math.Path.{refl}
-use Rattle.std.proofs.Common.{sym, ap, ◌∙◌, mul-le-mul, lt-ltb, leb-false, length-take-le}
+use Rattle.std.proofs.Common.{sym, ap, ◌∙◌, true≢false, mul-le-mul, lt-ltb, leb-false, length-take-le}
 use Rattle.std.proofs.Math.Bool.{true, false}
 use native.Mathlib.Omega.{arith}
 use Rattle.std.proofs.Math.ListN.{length, length-drop}
 use Rattle.lists.specs.Choice.{pick}
-use Rattle.refusal.specs.declared.Refusal.{Refusal}
-use Rattle.refusal.specs.declared.Refusal.TheVariants.{Done}
-use Rattle.refusal.specs.Number.{done_of, wrong_size}
-use Rattle.refusal.specs.Laws.{done-is, size-right}
+use Rattle.refusal.specs.Number.{Checked, unrefused, check_of, wrong_size}
+use Rattle.refusal.specs.Laws.{done-is, check-given, size-right}
 use Rattle.raster.specs.Moves.{advance_by, advance_by-lt}
 use Rattle.raster.specs.declared.Code.{Code}
 use Rattle.raster.specs.Wide.{code_of, is_wide}
@@ -24,7 +22,7 @@ use Rattle.timing.specs.Laws.{Accepted, call-passed}
 use Rattle.fetch.specs.Feed.{feed_in, tally_in, start-fed, accepted-fed, accepted-tallied}
 use Rattle.fetch.specs.declared.Span.{Span}
 use Rattle.fetch.specs.Rows.{entry_of, code_at, wide_at, row_start, fetch_at, fetched_of, fetched_before, moved_of, cell_at}
-use Rattle.fetch.specs.Run.{run_check, run_count, span, span_of, run_of}
+use Rattle.fetch.specs.Run.{run_check, run_count, span_of, span_in, run_of}
 
 pub entry_lt : (p : Page) (chars : List ℕ) (r : ℕ) → entry_of p chars r < 16384
 unfolding entry_of
@@ -129,7 +127,7 @@ pub record Run (b : Board) (n row : ℕ) : Type 0 where
   pub whole : n ≡ 16384
   pub row_lt : row < rows_of b.page
 
-pub run-passed : (b : Board) (n row : ℕ) → run_check b n row ≡ Done → Run b n row
+pub run-passed : (b : Board) (n row : ℕ) → run_check b n row ≡ unrefused → Run b n row
 unfolding run_check
 run-passed b n row e =
     let k = call-passed b (wrong_size (memory_refused n)) (leb (rows_of b.page) row) false e in
@@ -145,59 +143,52 @@ count_fits p n s h = omega arith
 
 module _ (b : Board) (chars : List ℕ) (row : ℕ) where
   -- the run lies in 16,384 cells, and in character memory whatever its size
-  pub span_small : ((span_of b chars row).start + (span_of b chars row).count ≤ 16384) × ((span_of b chars row).start + (span_of b chars row).count ≤ length chars)
+  pub span_small : ((span_in b chars row).start + (span_in b chars row).count ≤ 16384) × ((span_in b chars row).start + (span_in b chars row).count ≤ length chars)
   unfolding span_of
-  span_small = go (done_of (run_check b (length chars) row)) refl
+  span_small = go (run_check b (length chars) row) refl
     where
-      go : (t : Bool) → done_of (run_check b (length chars) row) ≡ t
-          → ((span_of b chars row).start + (span_of b chars row).count ≤ 16384) × ((span_of b chars row).start + (span_of b chars row).count ≤ length chars)
-      go true q =
-          let k : Run b (length chars) row = run-passed b (length chars) row (done-is _ q) in
+      go : (t : Checked) → run_check b (length chars) row ≡ t
+          → ((span_in b chars row).start + (span_in b chars row).count ≤ 16384) × ((span_in b chars row).start + (span_in b chars row).count ≤ length chars)
+      go (Ok tt) q =
+          let k : Run b (length chars) row = run-passed b (length chars) row q in
           let l : row_start b.page chars row < 16384 = row-start-lt b.page chars k.page row in
           let f = count_fits b.page (fetched_of b.page chars row) (row_start b.page chars row) l in
           rw q (f, omega (arith, f, k.whole))
-      go false q = rw q (omega arith, omega arith)
+      go (Err why) q = rw q (omega arith, omega arith)
 
-  pub span_fits : (span_of b chars row).start + (span_of b chars row).count ≤ length chars
+  pub span_fits : (span_in b chars row).start + (span_in b chars row).count ≤ length chars
   span_fits = span_small.1
 
   -- the same, as the code has it
-  pub run-part : (s : Span) → s ≡ span_of b chars row → take (s.start + s.count - s.start) (drop s.start chars) ≡ run_of b chars row
+  pub run-part : (s : Span) → s ≡ span_in b chars row → take (s.start + s.count - s.start) (drop s.start chars) ≡ run_of b chars row
   unfolding run_of
   run-part s e =
       let n : s.start + s.count - s.start ≡ s.count = omega arith in
       rw (n, e)
 
-  pub span-number : (s : Span) → s ≡ span_of b chars row → s.refusal ≡ run_check b (length chars) row
+  pub span-number : check_of (span_of b chars row) ≡ run_check b (length chars) row
   unfolding span_of
-  span-number s e = rw e (go (done_of (run_check b (length chars) row)))
-    where
-      x : Refusal
-      x = run_check b (length chars) row
-
-      a : ℕ
-      a = row_start b.page chars row
-
-      go : (t : Bool) → (pick t (span x a (run_count b.page (fetched_of b.page chars row) a)) (span x 0 0)).refusal ≡ x
-      go true = refl
-      go false = refl
-
-  counted : done_of (run_check b (length chars) row) ≡ true → row_start b.page chars row < 16384 → 0 < (span_of b chars row).count
-  unfolding span_of
-  counted e h = rw e (count-some b.page (fetched_of b.page chars row) (row_start b.page chars row) (fetched-small b.page chars row).0 h)
+  span-number = check-given (run_check b (length chars) row) _
 
   -- [fetch run]
   -- a refusal shows an empty part, and nothing else does
-  pub run-refused : done_of (run_check b (length chars) row) ≡ false → length (run_of b chars row) ≡ 0
+  pub run-refused : is_ok (run_check b (length chars) row) ≡ false → length (run_of b chars row) ≡ 0
   unfolding run_of span_of
-  run-refused q = rw q
+  run-refused q = go (run_check b (length chars) row) refl q
+    where
+      go : (t : Checked) → run_check b (length chars) row ≡ t → is_ok t ≡ false → length (run_of b chars row) ≡ 0
+      go (Ok tt) e f = absurd (true≢false f)
+      go (Err why) e f = rw e
 
   -- [fetch run]
   -- a run that is not refused has a cell
-  pub run-some : done_of (run_check b (length chars) row) ≡ true → 0 < length (run_of b chars row)
-  unfolding run_of
+  pub run-some : is_ok (run_check b (length chars) row) ≡ true → 0 < length (run_of b chars row)
+  unfolding run_of span_of
   run-some q =
-      let k : Run b (length chars) row = run-passed b (length chars) row (done-is _ q) in
+      let ok : run_check b (length chars) row ≡ unrefused = done-is _ q in
+      let k : Run b (length chars) row = run-passed b (length chars) row ok in
       let l : row_start b.page chars row < 16384 = row-start-lt b.page chars k.page row in
-      let room : (span_of b chars row).count ≤ length (drop (span_of b chars row).start chars) = rw length-drop (omega (arith, span_fits)) in
-      rw (length-take-le (span_of b chars row).count (drop (span_of b chars row).start chars) room) (counted q l)
+      let n : (span_in b chars row).count ≡ run_count b.page (fetched_of b.page chars row) (row_start b.page chars row) = rw ok in
+      let some = count-some b.page (fetched_of b.page chars row) (row_start b.page chars row) (fetched-small b.page chars row).0 l in
+      let room : (span_in b chars row).count ≤ length (drop (span_in b chars row).start chars) = rw length-drop (omega (arith, span_fits)) in
+      rw (length-take-le (span_in b chars row).count (drop (span_in b chars row).start chars) room, n) some

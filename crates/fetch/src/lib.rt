@@ -8,18 +8,12 @@ ghost use Rattle.fetch.specs.Run.{row_check, run_check, run_count, one_run, Give
 ghost use Rattle.fetch.specs.RowCells.{cells_check, GivesCells};
 ghost use Rattle.fetch.specs.RowLaws.{column_by};
 
+use refusal::Refusal;
+
 // A row's first run: from a cell on, so many.
 #[derive(Clone, Copy)]
 pub struct Span {
-    pub refusal: refusal::Refusal,
     pub start: usize,
-    pub count: usize,
-}
-
-// How many cells a row has; their addresses are put into a lent buffer.
-#[derive(Clone, Copy)]
-pub struct RowCells {
-    pub refusal: refusal::Refusal,
     pub count: usize,
 }
 
@@ -158,7 +152,7 @@ pub fn one_run(b: raster::Buffer, start: raster::Cell, n: usize) -> bool
 }
 
 // What a call for a row is refused by; whether a lent part has a wrong size is the call's to say.
-fn row_check(b: board::Board, size: bool, row: u32) -> refusal::Refusal
+fn row_check(b: board::Board, size: bool, row: u32) -> Result<(), Refusal>
     ensures { result ≡ row_check b size row }
 {
     let page = b.page;
@@ -166,48 +160,45 @@ fn row_check(b: board::Board, size: bool, row: u32) -> refusal::Refusal
     timing::call_check(b, refusal::wrong_size(size), t.counts.rows <= row, false)
 }
 
-fn run_check(b: board::Board, n: usize, row: u32) -> refusal::Refusal
+fn run_check(b: board::Board, n: usize, row: u32) -> Result<(), Refusal>
     ensures { result ≡ run_check b n row }
 {
     row_check(b, n != 16384, row)
 }
 
-pub fn span_of(b: board::Board, chars: &[u8], row: u32) -> Span
+#[tactic(auto, unfolding(crate::specs::Run::span_of))]
+pub fn span_of(b: board::Board, chars: &[u8], row: u32) -> Result<Span, Refusal>
     ensures { GivesSpan b chars.now row result }
 {
-    let page = b.page;
-    let refused = run_check(b, chars.len(), row);
-    if refusal::is_done(refused) {
-        let cells = fetched_of(page, chars, row);
-        let start = row_start(page, chars, row);
-        return Span {
-            refusal: refused,
-            start: start.address as usize,
-            count: run_count(page, cells, start.address) as usize,
-        };
-    }
-    Span {
-        refusal: refused,
-        start: 0,
-        count: 0,
-    }
+    run_check(b, chars.len(), row)?;
+    let cells = fetched_of(b.page, chars, row);
+    let start = row_start(b.page, chars, row);
+    Ok(Span {
+        start: start.address as usize,
+        count: run_count(b.page, cells, start.address) as usize,
+    })
 }
 
 // A row's first run of cells, as that part of the caller's character memory: its cells, and where it stands.
 // It is empty on a refusal, whose number is set beside it.
+#[tactic(auto, unfolding(crate::specs::Run::span_of, crate::specs::Run::run_of))]
 pub fn row_run<'a>(b: board::Board, chars: &'a [u8], row: u32, refusal: &mut u32) -> &'a [u8]
     ensures { GivesRun b chars.now row chars.entry.ref_ptr.0 chars.entry.ref_ptr.1
         result.now result.ref_ptr.0 result.ref_ptr.1 refusal.new }
 {
-    let s = span_of(b, chars, row);
-    let refused = s.refusal;
-    *refusal = refusal::number(refused);
-    let from = s.start;
-    let to = from + s.count;
-    &chars[from..to]
+    match span_of(b, chars, row) {
+        Ok(span) => {
+            *refusal = 0;
+            &chars[span.start..span.start + span.count]
+        }
+        Err(why) => {
+            *refusal = refusal::number(Err(why));
+            &chars[0..0]
+        }
+    }
 }
 
-fn cells_check(b: board::Board, n: usize, row: u32, room: usize) -> refusal::Refusal
+fn cells_check(b: board::Board, n: usize, row: u32, room: usize) -> Result<(), Refusal>
     ensures { result ≡ cells_check b n row room }
 {
     row_check(b, (n != 16384) | (room < 256), row)
@@ -227,23 +218,19 @@ fn put_cells(cells: &mut [u16], buffer: raster::Buffer, start: raster::Cell, n: 
     }
 }
 
-// The addresses of all cells that a row fetches, one after the other, at the front of cells.
-pub fn row_cells(b: board::Board, chars: &[u8], row: u32, cells: &mut [u16]) -> RowCells
+// The addresses of all cells that a row fetches, one after the other, at the front of cells; and how many they are.
+#[tactic(auto, unfolding(crate::specs::RowCells::cells_given, crate::specs::RowCells::cells_put))]
+pub fn row_cells(
+    b: board::Board,
+    chars: &[u8],
+    row: u32,
+    cells: &mut [u16],
+) -> Result<usize, Refusal>
     ensures { GivesCells b chars.now row cells.old result cells.new }
 {
-    let page = b.page;
-    let refused = cells_check(b, chars.len(), row, cells.len());
-    if refusal::is_done(refused) {
-        let count = fetched_of(page, chars, row) as usize;
-        let start = row_start(page, chars, row);
-        put_cells(cells, timing::buffer_of(page), start, count);
-        return RowCells {
-            refusal: refused,
-            count,
-        };
-    }
-    RowCells {
-        refusal: refused,
-        count: 0,
-    }
+    cells_check(b, chars.len(), row, cells.len())?;
+    let count = fetched_of(b.page, chars, row) as usize;
+    let start = row_start(b.page, chars, row);
+    put_cells(cells, timing::buffer_of(b.page), start, count);
+    Ok(count)
 }

@@ -1,9 +1,8 @@
 -- 01, "Files": the page file. A file is exactly its size.
-use Rattle.std.specs.Prelude.{◌≡◌, ℕ, ◌+◌, ◌*◌, Bool, false, ◌||◌, not, List, [], ◌∷◌, ◌++◌, length, take, drop, eqb, ltb}
+use Rattle.std.specs.Prelude.{◌≡◌, ℕ, ◌+◌, ◌*◌, Bool, false, ◌||◌, not, List, [], ◌∷◌, ◌++◌, length, take, drop, eqb, ltb, is_ok, Err}
 use Rattle.lists.specs.Choice.{pick, first_of, within}
-use Rattle.refusal.specs.declared.Refusal.{Refusal}
 use Rattle.refusal.specs.declared.Refusal.TheVariants.{Version, Length, Size}
-use Rattle.refusal.specs.Number.{done_of, wrong_size}
+use Rattle.refusal.specs.Number.{Checked, wrong_size}
 use Rattle.board.specs.declared.Page.{Page}
 use Rattle.board.specs.declared.Board.{Board}
 use Rattle.board.specs.State.{power_of}
@@ -30,27 +29,27 @@ length_refused file n = not (eqb (length file) (n + 5)) || not (eqb (long_at fil
 
 -- [refusal order]
 -- 1, 2, 3 in this order, then the rest; versions from 1 to the newest are known, n bytes follow the length, and size says that a lent part has a wrong size
-unfoldable pub file_check : List ℕ → (newest n : ℕ) → (size : Bool) → Refusal → Refusal
-file_check file newest n size rest = first_of ((version_refused file newest, Version) ∷ (length_refused file n, Length) ∷ (size, Size) ∷ []) rest
+unfoldable pub file_check : List ℕ → (newest n : ℕ) → (size : Bool) → Checked → Checked
+file_check file newest n size rest = first_of ((version_refused file newest, Err Version) ∷ (length_refused file n, Err Length) ∷ (size, Err Size) ∷ []) rest
 
 -- [refusal kinds]
 -- 1, 2, 3, then the page's own 12, 4, 13, 14, 15, 6; the version says how many bytes follow the length
-unfoldable pub read_check : List ℕ → (size : Bool) → Refusal
+unfoldable pub read_check : List ℕ → (size : Bool) → Checked
 read_check file size = file_check file newest_version (length_field (version_in file)) size (page_check (page_at file 5))
 
-abbrev pub page_read : Refusal → Board → PageRead
+abbrev pub page_read : Checked → Board → PageRead
 page_read r b = record { refusal = r; board = b }
 
 -- a refused read gives the board that power gives
 unfoldable pub read_page_of : List ℕ → (size : Bool) → PageRead
-read_page_of file size = page_read (read_check file size) (pick (done_of (read_check file size)) (board_at file 5) power_of)
+read_page_of file size = page_read (read_check file size) (pick (is_ok (read_check file size)) (board_at file 5) power_of)
 
 -- the memories afterwards: those of the file, and on a refusal as they were
 unfoldable pub chars_read : List ℕ → (size : Bool) → List ℕ → List ℕ
-chars_read file size chars = pick (done_of (read_check file size)) (take 16384 (drop (chars_place (version_in file)) file)) chars
+chars_read file size chars = pick (is_ok (read_check file size)) (take 16384 (drop (chars_place (version_in file)) file)) chars
 
 unfoldable pub attrs_read : List ℕ → (size : Bool) → List ℕ → List ℕ
-attrs_read file size attrs = pick (done_of (read_check file size)) (take 16384 (drop (attrs_place (version_in file)) file)) attrs
+attrs_read file size attrs = pick (is_ok (read_check file size)) (take 16384 (drop (attrs_place (version_in file)) file)) attrs
 
 -- ---- writing
 
@@ -70,14 +69,14 @@ file_of p chars attrs = head_of p ++ (chars ++ attrs)
 
 -- [refusal kinds]
 -- 3, the page's own 12, 4, 13, 14, 15, 6, then 7 for the state
-unfoldable pub write_check : Board → (chars attrs out : ℕ) → Refusal
+unfoldable pub write_check : Board → (chars attrs out : ℕ) → Checked
 write_check b chars attrs out = call_check b (wrong_size (memories_refused chars attrs || ltb out (file_size b.page.version))) false false
 
 -- [file beyond] bytes beyond a written file stay
 -- the buffer afterwards: the file, and what stood beyond it; on a refusal as it was
 unfoldable pub written : Board → (chars attrs out : List ℕ) → List ℕ
 written b chars attrs out =
-    pick (done_of (write_check b (length chars) (length attrs) (length out))) (file_of b.page chars attrs ++ drop (file_size b.page.version) out) out
+    pick (is_ok (write_check b (length chars) (length attrs) (length out))) (file_of b.page chars attrs ++ drop (file_size b.page.version) out) out
 
 -- ---- the calls: what is answered, and the lent buffers afterwards
 
@@ -89,6 +88,6 @@ ReadsPage file chars attrs r chars_left attrs_left =
     × (attrs_left ≡ attrs_read file (memories_refused (length chars) (length attrs)) attrs)
 
 -- [demand untouched]
-abbrev pub WritesPage : Board → (chars attrs out : List ℕ) → Refusal → (left : List ℕ) → Type 0
+abbrev pub WritesPage : Board → (chars attrs out : List ℕ) → Checked → (left : List ℕ) → Type 0
 WritesPage b chars attrs out r left =
     (r ≡ write_check b (length chars) (length attrs) (length out)) × (left ≡ written b chars attrs out)

@@ -1,10 +1,9 @@
 -- 01, "Files": the font file.
-use Rattle.std.specs.Prelude.{◌≡◌, ℕ, ◌+◌, ◌*◌, ◌/◌, ◌%◌, Bool, ◌&&◌, ◌||◌, List, ◌∷◌, ◌++◌, length, get_or, take, drop, eqb, ltb}
+use Rattle.std.specs.Prelude.{◌≡◌, ℕ, ◌+◌, ◌*◌, ◌/◌, ◌%◌, Bool, ◌&&◌, ◌||◌, List, ◌∷◌, ◌++◌, length, get_or, take, drop, eqb, ltb, is_ok, Err}
 use Rattle.lists.specs.Choice.{pick}
 use Rattle.lists.specs.Tab.{tab}
-use Rattle.refusal.specs.declared.Refusal.{Refusal}
 use Rattle.refusal.specs.declared.Refusal.TheVariants.{Size}
-use Rattle.refusal.specs.Number.{done_of}
+use Rattle.refusal.specs.Number.{Checked}
 use Rattle.shape.specs.Font.{Font, font_of, font_refused, groups_check}
 use Rattle.files.specs.Page.{word_at, version_in, long_bytes}
 use Rattle.files.specs.File.{file_check}
@@ -42,7 +41,7 @@ font_short file f = font_refused f || (eqb (version_in file) 2 && eqb (length f.
 
 -- [R-7 refusals]
 -- 1, 2, 3, then 12 for a group above 4; versions 1 and 2 are known, and size says that a lent part has a wrong size
-unfoldable pub font_check : List ℕ → (size : Bool) → Refusal
+unfoldable pub font_check : List ℕ → (size : Bool) → Checked
 font_check file size = file_check file 2 (font_length (version_in file)) size (groups_check (file_groups file))
 
 -- [file font] the font file, byte by byte
@@ -54,7 +53,7 @@ font_in file lent =
 
 -- the font afterwards: the file's, and on a refusal as it was
 unfoldable pub font_read : List ℕ → Font → Font
-font_read file f = pick (done_of (font_check file (font_short file f))) (font_in file f.groups) f
+font_read file f = pick (is_ok (font_check file (font_short file f))) (font_in file f.groups) f
 
 -- ---- writing
 
@@ -72,13 +71,13 @@ unfoldable pub font_file_of : Font → List ℕ
 font_file_of f = font_head (font_version f) ++ (bytes_in f.words ++ (f.flags ++ (f.unshifted ++ (f.shifted ++ f.groups))))
 
 -- 3: a font part of wrong size, or room for less than the file; then 12 for a group above 4
-unfoldable pub font_write_check : Font → (out : ℕ) → Refusal
-font_write_check f out = pick (font_refused f || ltb out (font_size (font_version f))) Size (groups_check f.groups)
+unfoldable pub font_write_check : Font → (out : ℕ) → Checked
+font_write_check f out = pick (font_refused f || ltb out (font_size (font_version f))) (Err Size) (groups_check f.groups)
 
 -- [file beyond]
 -- the buffer afterwards: the file, and what stood beyond it; on a refusal as it was
 unfoldable pub font_written : Font → List ℕ → List ℕ
-font_written f out = pick (done_of (font_write_check f (length out))) (font_file_of f ++ drop (font_size (font_version f)) out) out
+font_written f out = pick (is_ok (font_write_check f (length out))) (font_file_of f ++ drop (font_size (font_version f)) out) out
 
 -- the font of a file that was read: as many of the groups that were lent as the file has
 abbrev pub file_font : List ℕ → Font → Font
@@ -87,9 +86,9 @@ file_font file left = font_of left.words left.flags left.unshifted left.shifted 
 -- ---- the calls: the refusal, and what was lent afterwards
 
 -- [demand untouched]
-abbrev pub ReadsFont : (file : List ℕ) → Font → Refusal → (left : Font) → Type 0
+abbrev pub ReadsFont : (file : List ℕ) → Font → Checked → (left : Font) → Type 0
 ReadsFont file f r left = (r ≡ font_check file (font_short file f)) × (left ≡ font_read file f)
 
 -- [demand untouched]
-abbrev pub WritesFont : Font → (out : List ℕ) → Refusal → (left : List ℕ) → Type 0
+abbrev pub WritesFont : Font → (out : List ℕ) → Checked → (left : List ℕ) → Type 0
 WritesFont f out r left = (r ≡ font_write_check f (length out)) × (left ≡ font_written f out)

@@ -1,10 +1,10 @@
 -- What the proofs of the font calls use. Assumes nothing.
-use Rattle.std.specs.Prelude.{ℕ, ◌+◌, ◌-◌, ◌≤◌, ◌≡◌, refl, Bool, true, false, ◌&&◌, ◌||◌, List, [], ◌++◌, eqb, ltb, length, take, drop}
+use Rattle.std.specs.Prelude.{ℕ, ◌+◌, ◌-◌, ◌≤◌, ◌≡◌, refl, Bool, true, false, ◌&&◌, ◌||◌, List, [], ◌++◌, eqb, ltb, length, take, drop, is_ok, Err}
 use Rattle.std.proofs.Common.{ap, ◌∙◌, true≢false, append_assoc, arith, eqb-true, ltb-false, length-drop, take_all}
 use Rattle.lists.specs.Choice.{pick, neither, pick-le}
 use Rattle.lists.specs.Tab.{tab, length-tab}
-use Rattle.refusal.specs.declared.Refusal.TheVariants.{Done, Size}
-use Rattle.refusal.specs.Number.{done_of}
+use Rattle.refusal.specs.declared.Refusal.TheVariants.{Size}
+use Rattle.refusal.specs.Number.{unrefused}
 use Rattle.refusal.specs.Laws.{passed}
 use Rattle.shape.specs.Font.{Font, font_of, font_refused, groups_check, Whole}
 use Rattle.shape.specs.Laws.{font-whole}
@@ -33,7 +33,7 @@ pub record FontTaken (file : List ℕ) (f : Font) : Type 0 where
   pub whole : Whole f
   pub groups-room : version_in file ≡ 2 → length f.groups ≡ 16
 
-pub font-passed : (file : List ℕ) (f : Font) → font_check file (font_short file f) ≡ Done → FontTaken file f
+pub font-passed : (file : List ℕ) (f : Font) → font_check file (font_short file f) ≡ unrefused → FontTaken file f
 unfolding font_check
 font-passed file f e =
     let p = file-passed file 2 (font_length (version_in file)) (font_short file f) (groups_check (file_groups file)) e in
@@ -51,13 +51,13 @@ font-passed file f e =
 
 -- what a read leaves
 module _ (file : List ℕ) (f : Font) where
-  pub font-done : done_of (font_check file (font_short file f)) ≡ true → Whole f → (w : List ℕ) → w ≡ words_of (length f.words) (take 2304 (drop 5 file))
+  pub font-done : is_ok (font_check file (font_short file f)) ≡ true → Whole f → (w : List ℕ) → w ≡ words_of (length f.words) (take 2304 (drop 5 file))
       → (g u s k : List ℕ) → g ≡ take 128 (drop 2309 file) → u ≡ take 9 (drop 2437 file) → s ≡ take 9 (drop 2446 file)
       → k ≡ pick (eqb (version_in file) 2) (file_groups file) f.groups → font_of w g u s k ≡ font_read file f
   unfolding font_read font_in
   font-done t all w ew g u s k eg eu es ek = rw (t, ew, all.words-all, eg, eu, es, ek)
 
-  pub font-kept : done_of (font_check file (font_short file f)) ≡ false → f ≡ font_read file f
+  pub font-kept : is_ok (font_check file (font_short file f)) ≡ false → f ≡ font_read file f
   unfolding font_read
   font-kept t = rw t
 
@@ -100,19 +100,19 @@ font-put f w out h e₁ e₂ e₃ e₄ e₅ e₆ =
     rw end at l₆.1 ∙ ap (λ (x : List ℕ). x ++ drop (font_size v) out) (in_order head b f.flags f.unshifted f.shifted f.groups)
 
 -- a write that nothing refuses
-pub font-write-passed : (f : Font) (n : ℕ) → font_write_check f n ≡ Done → Whole f × (font_size (font_version f) ≤ n)
+pub font-write-passed : (f : Font) (n : ℕ) → font_write_check f n ≡ unrefused → Whole f × (font_size (font_version f) ≤ n)
 unfolding font_write_check
 font-write-passed f n e =
-    let p = passed (font_refused f || ltb n (font_size (font_version f))) Size _ refl e in
+    let p = passed (font_refused f || ltb n (font_size (font_version f))) (Err Size) _ refl e in
     let s = neither (font_refused f) (ltb n (font_size (font_version f))) p.0 in
     (font-whole f s.0, ltb-false _ _ s.1)
 
 -- what a write leaves
 module _ (f : Font) (out₀ : List ℕ) where
-  pub font-write-done : done_of (font_write_check f (length out₀)) ≡ true → {out : List ℕ} → out ≡ font_file_of f ++ drop (font_size (font_version f)) out₀ → out ≡ font_written f out₀
+  pub font-write-done : is_ok (font_write_check f (length out₀)) ≡ true → {out : List ℕ} → out ≡ font_file_of f ++ drop (font_size (font_version f)) out₀ → out ≡ font_written f out₀
   unfolding font_written
   font-write-done t p = rw t p
 
-  pub font-write-kept : done_of (font_write_check f (length out₀)) ≡ false → out₀ ≡ font_written f out₀
+  pub font-write-kept : is_ok (font_write_check f (length out₀)) ≡ false → out₀ ≡ font_written f out₀
   unfolding font_written
   font-write-kept t = rw t

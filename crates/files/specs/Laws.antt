@@ -1,12 +1,11 @@
 -- What the proofs of the file calls use. Assumes nothing.
-use Rattle.std.specs.Prelude.{ℕ, ◌+◌, ◌-◌, ◌/◌, ◌%◌, ◌≤◌, ◌<◌, ◌≡◌, refl, Bool, true, false, ◌||◌, not, List, [], ◌∷◌, ◌++◌, eqb, leb, ltb, length, take, drop, replicate}
+use Rattle.std.specs.Prelude.{ℕ, ◌+◌, ◌-◌, ◌/◌, ◌%◌, ◌≤◌, ◌<◌, ◌≡◌, refl, Bool, true, false, ◌||◌, not, List, [], ◌∷◌, ◌++◌, eqb, leb, ltb, length, take, drop, replicate, is_ok, Err}
 use Rattle.std.proofs.Common.{sym, ap, ap₂, ◌∙◌, true≢false, append_assoc, append-nil, arith, eqb-true, leb-true, ltb-false, length-append, take_all, length-take-le}
 use Rattle.std.proofs.lemmas.Bool.{not-false}
 use Rattle.std.proofs.lemmas.List.{length-replicate}
 use Rattle.lists.specs.Choice.{pick, first_of, both, neither}
-use Rattle.refusal.specs.declared.Refusal.{Refusal}
-use Rattle.refusal.specs.declared.Refusal.TheVariants.{Done, Version, Length, Size}
-use Rattle.refusal.specs.Number.{done_of, wrong_size}
+use Rattle.refusal.specs.declared.Refusal.TheVariants.{Version, Length, Size}
+use Rattle.refusal.specs.Number.{unrefused, Checked, wrong_size}
 use Rattle.refusal.specs.Laws.{done-is, passed, size-right}
 use Rattle.board.specs.declared.Page.{Page}
 use Rattle.board.specs.declared.Layout.{Layout}
@@ -42,36 +41,36 @@ unfolding length_refused
 file-sized file n e = eqb-true _ _ (not-false _ (neither (not (eqb (length file) (n + 5))) (not (eqb (long_at file 1) n)) e).0)
 
 -- a file that 1, 2 and 3 pass
-pub record FilePassed (file : List ℕ) (newest n : ℕ) (size : Bool) (rest : Refusal) : Type 0 where
+pub record FilePassed (file : List ℕ) (newest n : ℕ) (size : Bool) (rest : Checked) : Type 0 where
   pub version-ok : version_refused file newest ≡ false
   pub length-ok : length_refused file n ≡ false
   pub size_ok : size ≡ false
-  pub rest_ok : rest ≡ Done
+  pub rest_ok : rest ≡ unrefused
 
-pub file-passed : (file : List ℕ) (newest n : ℕ) (size : Bool) (rest : Refusal) → file_check file newest n size rest ≡ Done → FilePassed file newest n size rest
+pub file-passed : (file : List ℕ) (newest n : ℕ) (size : Bool) (rest : Checked) → file_check file newest n size rest ≡ unrefused → FilePassed file newest n size rest
 unfolding file_check
 file-passed file newest n size rest e =
-    let v = passed (version_refused file newest) Version _ refl e in
-    let l = passed (length_refused file n) Length _ refl v.1 in
-    let s = passed size Size _ refl l.1 in
+    let v = passed (version_refused file newest) (Err Version) _ refl e in
+    let l = passed (length_refused file n) (Err Length) _ refl v.1 in
+    let s = passed size (Err Size) _ refl l.1 in
     record { version-ok = v.0; length-ok = l.0; size_ok = s.0; rest_ok = s.1 }
 
 -- the rest counts where 1, 2 and 3 pass, and only there
-module _ (file : List ℕ) (newest n : ℕ) (size : Bool) (rest : Refusal) where
-  pub file-rest : done_of (file_check file newest n size Done) ≡ true → rest ≡ file_check file newest n size rest
+module _ (file : List ℕ) (newest n : ℕ) (size : Bool) (rest : Checked) where
+  pub file-rest : is_ok (file_check file newest n size unrefused) ≡ true → rest ≡ file_check file newest n size rest
   unfolding file_check
   file-rest e =
-      let p = file-passed file newest n size Done (done-is _ e) in
+      let p = file-passed file newest n size unrefused (done-is _ e) in
       rw (p.version-ok, p.length-ok, p.size_ok)
 
-  pub file-first : done_of (file_check file newest n size Done) ≡ false → file_check file newest n size Done ≡ file_check file newest n size rest
+  pub file-first : is_ok (file_check file newest n size unrefused) ≡ false → file_check file newest n size unrefused ≡ file_check file newest n size rest
   unfolding file_check
   file-first = go (version_refused file newest) (length_refused file n) size
     where
-      order : (v l s : Bool) → Refusal → Refusal
-      order v l s last = first_of ((v, Version) ∷ (l, Length) ∷ (s, Size) ∷ []) last
+      order : (v l s : Bool) → Checked → Checked
+      order v l s last = first_of ((v, Err Version) ∷ (l, Err Length) ∷ (s, Err Size) ∷ []) last
 
-      go : (v l s : Bool) → done_of (order v l s Done) ≡ false → order v l s Done ≡ order v l s rest
+      go : (v l s : Bool) → is_ok (order v l s unrefused) ≡ false → order v l s unrefused ≡ order v l s rest
       go true l s q = refl
       go false true s q = refl
       go false false true q = refl
@@ -83,7 +82,7 @@ pub record Taken (file : List ℕ) (chars attrs : ℕ) : Type 0 where
   pub chars-all : chars ≡ 16384
   pub attrs-all : attrs ≡ 16384
 
-pub read-passed : (file : List ℕ) (chars attrs : ℕ) → read_check file (memories_refused chars attrs) ≡ Done → Taken file chars attrs
+pub read-passed : (file : List ℕ) (chars attrs : ℕ) → read_check file (memories_refused chars attrs) ≡ unrefused → Taken file chars attrs
 unfolding read_check
 read-passed file chars attrs e =
     let p = file-passed file newest_version (length_field (version_in file)) (memories_refused chars attrs) (page_check (page_at file 5)) e in
@@ -91,14 +90,14 @@ read-passed file chars attrs e =
     record { file-all = file-sized file (length_field (version_in file)) p.length-ok; chars-all = m.0; attrs-all = m.1 }
 
 -- what a read gives and leaves
-module _ (file : List ℕ) (size : Bool) (chars attrs : List ℕ) (x : Refusal) (e : x ≡ read_check file size) where
-  pub read_done : done_of (read_check file size) ≡ true → (b : Board) → b ≡ board_at file 5 → (c a : List ℕ)
+module _ (file : List ℕ) (size : Bool) (chars attrs : List ℕ) (x : Checked) (e : x ≡ read_check file size) where
+  pub read_done : is_ok (read_check file size) ≡ true → (b : Board) → b ≡ board_at file 5 → (c a : List ℕ)
       → c ≡ take 16384 (drop (chars_place (version_in file)) file) → a ≡ take 16384 (drop (attrs_place (version_in file)) file)
       → (page_read x b ≡ read_page_of file size) × (c ≡ chars_read file size chars) × (a ≡ attrs_read file size attrs)
   unfolding read_page_of chars_read attrs_read
   read_done t b eb c a ec ea = (rw (t, e, eb), rw t ec, rw t ea)
 
-  pub read-refused : done_of (read_check file size) ≡ false → (b : Board) → b ≡ power_of
+  pub read-refused : is_ok (read_check file size) ≡ false → (b : Board) → b ≡ power_of
       → (page_read x b ≡ read_page_of file size) × (chars ≡ chars_read file size chars) × (attrs ≡ attrs_read file size attrs)
   unfolding read_page_of chars_read attrs_read
   read-refused t b eb = (rw (t, e, eb), rw t, rw t)
@@ -189,7 +188,7 @@ page-put p n chars attrs out nc na place q v e₁ e₂ e₃ e₄ =
     rw end at l₄.1 ∙ ap (λ (x : List ℕ). x ++ drop (file_size p.version) out) (append_assoc (page_head p ++ page_bytes p) chars attrs)
 
 -- a write that nothing refuses
-pub write-passed : (b : Board) (chars attrs out : ℕ) → write_check b chars attrs out ≡ Done
+pub write-passed : (b : Board) (chars attrs out : ℕ) → write_check b chars attrs out ≡ unrefused
     → (b.page.video.dots.0 ≤ 12) × (chars ≡ 16384) × (attrs ≡ 16384) × (file_size b.page.version ≤ out)
 unfolding write_check
 write-passed b chars attrs out e =
@@ -200,11 +199,11 @@ write-passed b chars attrs out e =
 
 -- what a write leaves
 module _ (b : Board) (chars attrs out₀ : List ℕ) where
-  pub write_done : done_of (write_check b (length chars) (length attrs) (length out₀)) ≡ true
+  pub write_done : is_ok (write_check b (length chars) (length attrs) (length out₀)) ≡ true
       → (out : List ℕ) → out ≡ file_of b.page chars attrs ++ drop (file_size b.page.version) out₀ → out ≡ written b chars attrs out₀
   unfolding written
   write_done t out e = rw t e
 
-  pub write-refused : done_of (write_check b (length chars) (length attrs) (length out₀)) ≡ false → out₀ ≡ written b chars attrs out₀
+  pub write-refused : is_ok (write_check b (length chars) (length attrs) (length out₀)) ≡ false → out₀ ≡ written b chars attrs out₀
   unfolding written
   write-refused t = rw t

@@ -1,6 +1,6 @@
 -- The line as the drawer makes it, from the row's cells and the levels of their marks, and that this is the line of `Line.antt`. Assumes nothing.
 use Prim.Native.Nat.{ℕ, zero, suc, min, ◌+◌, ◌*◌, ◌/◌, ◌%◌, ◌≤◌, ◌<◌}
-use Rattle.std.specs.Prelude.{◌≡◌, Bool, ◌&&◌, ◌||◌, not, length, get_or, eqb, leb}
+use Rattle.std.specs.Prelude.{◌≡◌, Bool, ◌&&◌, ◌||◌, not, length, get_or, eqb, leb, is_ok, Err}
 use Rattle.std.proofs.Math.Path.{refl, ap}
 use Rattle.std.proofs.Common.{sym, ◌∙◌, true≢false, leb-false, ltb-false, le-ltb, eq-eqb, ne_eqb}
 use Rattle.std.proofs.Math.Bool.{true, false}
@@ -14,9 +14,8 @@ use Rattle.units.specs.Units.{lines}
 use Rattle.lists.specs.Choice.{pick, first_of, neither}
 use Rattle.lists.specs.Join.{joined, same-joined}
 use Rattle.lists.specs.Tab.{tab, same-tab}
-use Rattle.refusal.specs.declared.Refusal.{Refusal}
-use Rattle.refusal.specs.declared.Refusal.TheVariants.{Done, Range, Room}
-use Rattle.refusal.specs.Number.{done_of}
+use Rattle.refusal.specs.declared.Refusal.TheVariants.{Range, Room}
+use Rattle.refusal.specs.Number.{unrefused, Checked}
 use Rattle.refusal.specs.Laws.{passed, not-refused}
 use Rattle.raster.specs.declared.Buffer.{Buffer}
 use Rattle.raster.specs.declared.Cell.{Cell}
@@ -90,31 +89,31 @@ module _ (w : Walk) (row looks words flags : List ℕ) (columns : ℕ) {wide : B
 
 -- ---- the check in two stages, as the code has it: the call's own, then 7 and 8 for the line
 
-abbrev pub last_of : (asked room : Bool) → Refusal
-last_of asked room = pick asked Range (pick room Room Done)
+abbrev pub last_of : (asked room : Bool) → Checked
+last_of asked room = pick asked (Err Range) (pick room (Err Room) unrefused)
 
-module _ (b : Board) (lent : Refusal) (asked room : Bool) where
-  pub check-last : call_check b lent false false ≡ Done → last_of asked room ≡ call_check b lent asked room
+module _ (b : Board) (lent : Checked) (asked room : Bool) where
+  pub check-last : call_check b lent false false ≡ unrefused → last_of asked room ≡ call_check b lent asked room
   unfolding call_check
   check-last e =
       let s = not-refused lent _ e in
       let p = not-refused (page_check b.page) _ s.1 in
-      let r = passed (state_refused b || false) Range _ refl p.1 in
+      let r = passed (state_refused b || false) (Err Range) _ refl p.1 in
       let q = neither (state_refused b) false r.0 in
       rw (s.0, p.0, q.0)
 
-  pub check-first : done_of (call_check b lent false false) ≡ false → call_check b lent false false ≡ call_check b lent asked room
+  pub check-first : is_ok (call_check b lent false false) ≡ false → call_check b lent false false ≡ call_check b lent asked room
   unfolding call_check
-  check-first = go (not (done_of lent)) (page_check b.page) (state_refused b)
+  check-first = go (not (is_ok lent)) (page_check b.page) (state_refused b)
     where
-      order : (short : Bool) → Refusal → (range room : Bool) → Refusal
-      order short page range room = first_of ((short, lent) ∷ (not (done_of page), page) ∷ (range, Range) ∷ (room, Room) ∷ []) Done
+      order : (short : Bool) → Checked → (range room : Bool) → Checked
+      order short page range room = first_of ((short, lent) ∷ (not (is_ok page), page) ∷ (range, Err Range) ∷ (room, Err Room) ∷ []) unrefused
 
-      go : (s : Bool) (p : Refusal) (t : Bool) → done_of (order s p (t || false) false) ≡ false → order s p (t || false) false ≡ order s p (t || asked) room
+      go : (s : Bool) (p : Checked) (t : Bool) → is_ok (order s p (t || false) false) ≡ false → order s p (t || false) false ≡ order s p (t || asked) room
       go true p t q = refl
-      go false p t q = by-page (done_of p) refl t q
+      go false p t q = by-page (is_ok p) refl t q
         where
-          by-page : (d : Bool) → done_of p ≡ d → (t : Bool) → done_of (order false p (t || false) false) ≡ false → order false p (t || false) false ≡ order false p (t || asked) room
+          by-page : (d : Bool) → is_ok p ≡ d → (t : Bool) → is_ok (order false p (t || false) false) ≡ false → order false p (t || false) false ≡ order false p (t || asked) room
           by-page false e t q = rw e
           by-page true e true q = rw e
           by-page true e false q = absurd (true≢false (rw e at q))
@@ -122,7 +121,7 @@ module _ (b : Board) (lent : Refusal) (asked room : Bool) where
 -- ---- a call that is not refused
 
 -- a line that the check takes is visible, and there is room for it
-pub draw-passed : (b : Board) (chars attrs : List ℕ) (f : Font) (line room : ℕ) → draw_check b (lent_check chars attrs f) line room ≡ Done
+pub draw-passed : (b : Board) (chars attrs : List ℕ) (f : Font) (line room : ℕ) → draw_check b (lent_check chars attrs f) line room ≡ unrefused
     → Lent b chars attrs f.words f.flags × (row_for b line < rows_of b.page) × (line_length b ≤ room)
 unfolding draw_check
 draw-passed b chars attrs f line room e =
@@ -343,11 +342,11 @@ module _ (b : Board) (chars attrs words flags : List ℕ) (font : FontLine) (lin
 -- ---- what the call leaves
 
 module _ (b : Board) (chars attrs : List ℕ) (f : Font) (line field : ℕ) (out₀ : List ℕ) where
-  pub left-drawn : done_of (draw_check b (lent_check chars attrs f) line (length out₀)) ≡ true
+  pub left-drawn : is_ok (draw_check b (lent_check chars attrs f) line (length out₀)) ≡ true
       → (out : List ℕ) → out ≡ line_dots b chars attrs f line field ++ drop (line_length b) out₀ → out ≡ drawn_of b chars attrs f line field out₀
   unfolding drawn_of
   left-drawn t out e = rw t e
 
-  pub left_alone : done_of (draw_check b (lent_check chars attrs f) line (length out₀)) ≡ false → out₀ ≡ drawn_of b chars attrs f line field out₀
+  pub left_alone : is_ok (draw_check b (lent_check chars attrs f) line (length out₀)) ≡ false → out₀ ≡ drawn_of b chars attrs f line field out₀
   unfolding drawn_of
   left_alone t = rw t

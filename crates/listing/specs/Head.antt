@@ -1,12 +1,11 @@
 -- What the proofs use of the listing's first line. Assumes nothing.
-use Rattle.std.specs.Prelude.{ℕ, ◌+◌, ◌-◌, ◌≤◌, ◌<◌, ◌≡◌, refl, false, List, [], ◌∷◌, ◌++◌, length, take, drop, ltb}
+use Rattle.std.specs.Prelude.{ℕ, ◌+◌, ◌-◌, ◌≤◌, ◌<◌, ◌≡◌, refl, false, List, [], ◌∷◌, ◌++◌, length, take, drop, ltb, is_ok, Err}
 use Rattle.std.proofs.Math.Path.{sym}
 use Rattle.std.proofs.Common.{ap, ◌∙◌, arith, length-append, length-take}
 use borrow.Author.Tests.{lt-ltb, le-ltb, ltb-false}
 use Rattle.lists.specs.Choice.{pick}
-use Rattle.refusal.specs.declared.Refusal.{Refusal}
-use Rattle.refusal.specs.declared.Refusal.TheVariants.{Done, Room}
-use Rattle.refusal.specs.Number.{done_of}
+use Rattle.refusal.specs.declared.Refusal.TheVariants.{Room}
+use Rattle.refusal.specs.Number.{unrefused, Checked}
 use Rattle.refusal.specs.Laws.{passed, not-refused}
 use Rattle.board.specs.declared.Page.{Page}
 use Rattle.timing.specs.declared.PageSize.{PageSize}
@@ -18,7 +17,7 @@ use Rattle.listing.specs.Listing.{line_feed, space, listing_head, head_check, li
 use Rattle.listing.specs.Bytes.{two-parts}
 use Rattle.listing.specs.Answers.{listed, refused-so, done-so, listed-within}
 
-pub head-fits : (p : Page) (room : ℕ) → page_check p ≡ Done → length (listing_head p) ≤ room → head_check p room ≡ Done
+pub head-fits : (p : Page) (room : ℕ) → page_check p ≡ unrefused → length (listing_head p) ≤ room → head_check p room ≡ unrefused
 unfolding head_check
 head-fits p room e h = rw (e, le-ltb room (length (listing_head p)) h)
 
@@ -27,25 +26,25 @@ unfolding head_check
 head-within p room =
     let t = ltb room (length (listing_head p)) in
     listed-within (head_check p room) (listing_head p) room
-    (λ e. ltb-false room (length (listing_head p)) (passed t Room Done refl (not-refused (page_check p) (pick t Room Done) e).1).0)
+    (λ e. ltb-false room (length (listing_head p)) (passed t (Err Room) unrefused refl (not-refused (page_check p) (pick t (Err Room) unrefused) e).1).0)
 
 -- an accepted page's size, and its two numbers in digits
 pub record Measured (p : Page) (size : PageSize) (l d : Digits) : Type 0 where
-  pub page : page_check p ≡ Done
+  pub page : page_check p ≡ unrefused
   pub whole : size ≡ size_of p
   pub lines : Spelled l size.lines.0
   pub dots : Spelled d size.dots.0
 
 module _ (p : Page) (out : List ℕ) where
-  abbrev check : Refusal
+  abbrev check : Checked
   check = head_check p (length out)
 
-  pub head-refused : (r : Refusal) → r ≡ page_check p → done_of (page_check p) ≡ false → (x : Listed) → x ≡ listed r 0
+  pub head-refused : (r : Checked) → r ≡ page_check p → is_ok (page_check p) ≡ false → (x : Listed) → x ≡ listed r 0
       → (x ≡ listed_of check (listing_head p)) × (out ≡ listed_in check (listing_head p) out)
   unfolding head_check
   head-refused r e t x q =
       let same : check ≡ page_check p = rw t in
-      refused-so r check (listing_head p) out (e ∙ sym same) (ap done_of same ∙ t) x q
+      refused-so r check (listing_head p) out (e ∙ sym same) (ap is_ok same ∙ t) x q
 
   module _ (size : PageSize) (l d : Digits) (m : Measured p size l d) where
     abbrev first : List ℕ
@@ -73,17 +72,17 @@ module _ (p : Page) (out : List ℕ) where
     length-head : length (listing_head p) ≡ n
     length-head = rw (← is-head, length-append first second, length-first, length-second) (omega arith)
 
-    pub head-short : length out < n → (x : Listed) → x ≡ listed Room 0 → (x ≡ listed_of check (listing_head p)) × (out ≡ listed_in check (listing_head p) out)
+    pub head-short : length out < n → (x : Listed) → x ≡ listed (Err Room) 0 → (x ≡ listed_of check (listing_head p)) × (out ≡ listed_in check (listing_head p) out)
     unfolding head_check
     head-short h x q =
-        let short : check ≡ Room = rw (m.page, lt-ltb (length out) (length (listing_head p)) (omega (arith, length-head))) in
-        refused-so Room check (listing_head p) out (sym short) (ap done_of short) x q
+        let short : check ≡ Err Room = rw (m.page, lt-ltb (length out) (length (listing_head p)) (omega (arith, length-head))) in
+        refused-so (Err Room) check (listing_head p) out (sym short) (ap is_ok short) x q
 
-    pub head-put : (r : Refusal) (x y : List ℕ) → r ≡ page_check p → n ≤ length out
+    pub head-put : (r : Checked) (x y : List ℕ) → r ≡ page_check p → n ≤ length out
         → x ≡ first ++ drop a out → y ≡ second ++ drop (d.count + 1) (take (length x - a) (drop a x))
         → (listed r n ≡ listed_of check (listing_head p)) × (take a x ++ (y ++ drop (length x - a) (drop a x)) ≡ listed_in check (listing_head p) out)
     head-put r x y e h ex ey =
-        let fits : check ≡ Done = head-fits p (length out) m.page (omega (arith, length-head)) in
+        let fits : check ≡ unrefused = head-fits p (length out) m.page (omega (arith, length-head)) in
         let same : a + (d.count + 1) ≡ n = omega arith in
-        done-so r check (listing_head p) out (e ∙ (m.page ∙ sym fits)) (ap done_of fits) _ n length-head
+        done-so r check (listing_head p) out (e ∙ (m.page ∙ sym fits)) (ap is_ok fits) _ n length-head
         (two-parts out x y first second a (d.count + 1) length-first (omega arith) ex ey ∙ rw (is-head, same))

@@ -1,12 +1,10 @@
 -- What the proofs use of a line of the listing. Assumes nothing.
-use Rattle.std.specs.Prelude.{ℕ, ◌+◌, ◌-◌, ◌≤◌, ◌<◌, ◌≡◌, refl, Bool, true, false, length, ltb, leb}
+use Rattle.std.specs.Prelude.{ℕ, ◌+◌, ◌-◌, ◌≤◌, ◌<◌, ◌≡◌, refl, Bool, true, false, length, ltb, leb, is_ok}
 use Rattle.std.proofs.Common.{sym, ap, ◌∙◌, mul-le-mul, arith, lt-ltb, le-ltb, ltb-true, ltb-false, length-append, length-take, length-drop}
 use mathlib.Core.List.{List, [], ◌∷◌, ◌++◌, map, append_assoc}
 use Rattle.std.proofs.Math.ListN.{take, drop, length-map, take-append-drop}
 use Rattle.std.proofs.Math.Seq.{take_at, drop_at, drop-drop, drop-append-le}
-use Rattle.refusal.specs.declared.Refusal.{Refusal}
-use Rattle.refusal.specs.declared.Refusal.TheVariants.{Done}
-use Rattle.refusal.specs.Number.{done_of}
+use Rattle.refusal.specs.Number.{unrefused, Checked}
 use Rattle.refusal.specs.Laws.{done-is, not-refused}
 use Rattle.board.specs.declared.Board.{Board}
 use Rattle.timing.specs.declared.PageSize.{PageSize}
@@ -35,7 +33,7 @@ one_less room n h = go (ltb room (n + 1)) refl
     go true e = lt-ltb (room - 1) n (omega (arith, ltb-true room (n + 1) e))
     go false e = le-ltb (room - 1) n (omega (arith, ltb-false room (n + 1) e))
 
-feed-kept : (b : Board) (lent : Refusal) (line room : ℕ) → draw_check b lent line (room - 1) ≡ line_check b lent line room
+feed-kept : (b : Board) (lent : Checked) (line room : ℕ) → draw_check b lent line (room - 1) ≡ line_check b lent line room
 unfolding draw_check line_check
 feed-kept b lent line room = asked-last b lent _ _ _ _ (λ e. (refl, one_less room (line_length b) (line-some b (accepted b.page e))))
 
@@ -53,14 +51,14 @@ pub record Fitting (b : Board) (room : ℕ) : Type 0 where
   pub page : Accepted b.page
   pub roomy : line_length b + 1 ≤ room
 
-line-passed : (b : Board) (lent : Refusal) (line room : ℕ) → line_check b lent line room ≡ Done → Fitting b room
+line-passed : (b : Board) (lent : Checked) (line room : ℕ) → line_check b lent line room ≡ unrefused → Fitting b room
 unfolding line_check call_check size_of
 line-passed b lent line room e =
     let k = call-passed b lent (leb (visible_of b.page).0 line) (ltb room (line_length b + 1)) e in
     let p = not-refused (page_check b.page) _ (not-refused lent _ e).1 in
     record { long = rw p.0; page = k.page; roomy = ltb-false room (line_length b + 1) k.roomy }
 
-pub line-within : (b : Board) (chars attrs : List ℕ) (f : Font) (lent : Refusal) (line field room : ℕ)
+pub line-within : (b : Board) (chars attrs : List ℕ) (f : Font) (lent : Checked) (line field room : ℕ)
     → (listed_of (line_check b lent line room) (listing_line b chars attrs f line field)).count ≤ room
 line-within b chars attrs f lent line field room =
     listed-within (line_check b lent line room) (listing_line b chars attrs f line field) room (λ e.
@@ -69,9 +67,9 @@ line-within b chars attrs f lent line field room =
 
 -- ---- what the call leaves: the drawer, which answered r, was lent the first k bytes, all but one, and left `part` there
 
-module _ (b : Board) (chars attrs : List ℕ) (f : Font) (line field : ℕ) (out : List ℕ) (k : ℕ) (less : k ≡ length out - 1) (r : Refusal) (part : List ℕ)
+module _ (b : Board) (chars attrs : List ℕ) (f : Font) (line field : ℕ) (out : List ℕ) (k : ℕ) (less : k ≡ length out - 1) (r : Checked) (part : List ℕ)
     (drew : (r ≡ draw_check b (lent_check chars attrs f) line (length (take k out))) × (part ≡ drawn_of b chars attrs f line field (take k out))) where
-  abbrev check : Refusal
+  abbrev check : Checked
   check = line_check b (lent_check chars attrs f) line (length out)
 
   abbrev dots : List ℕ
@@ -86,14 +84,14 @@ module _ (b : Board) (chars attrs : List ℕ) (f : Font) (line field : ℕ) (out
   same : r ≡ check
   same = drew.0 ∙ rw length-lent (feed-kept b (lent_check chars attrs f) line (length out))
 
-  pub line_refused : done_of r ≡ false → (l : Listed) → l ≡ listed r 0 → (l ≡ listed_of check bytes) × (part ++ drop k out ≡ listed_in check bytes out)
+  pub line_refused : is_ok r ≡ false → (l : Listed) → l ≡ listed r 0 → (l ≡ listed_of check bytes) × (part ++ drop k out ≡ listed_in check bytes out)
   unfolding drawn_of
   line_refused t l q =
       let left : part ≡ take k out = drew.1 ∙ rw (← drew.0, t) in
-      let so = refused-so r check bytes out same (ap done_of (sym same) ∙ t) l q in
+      let so = refused-so r check bytes out same (ap is_ok (sym same) ∙ t) l q in
       (so.0, rw left (take-append-drop k out) ∙ so.1)
 
-  module _ (t : done_of r ≡ true) (size : PageSize) (whole : size ≡ size_of b.page) where
+  module _ (t : is_ok r ≡ true) (size : PageSize) (whole : size ≡ size_of b.page) where
     abbrev n : ℕ
     n = size.dots.0
 
@@ -123,5 +121,5 @@ module _ (b : Board) (chars attrs : List ℕ) (f : Font) (line field : ℕ) (out
         → (listed r (n + 1) ≡ listed_of check bytes) × (x ≡ listed_in check bytes out)
     unfolding listing_line
     line-put x e =
-        done-so r check bytes out same (ap done_of (sym same) ∙ t) x (n + 1) (rw (← long) (length-listing b chars attrs f line field fitting.page))
+        done-so r check bytes out same (ap is_ok (sym same) ∙ t) x (n + 1) (rw (← long) (length-listing b chars attrs f line field fitting.page))
         (e ∙ rw (drawn, take_at dots (drop n out) n length-dots, ← drop-drop 1 n (dots ++ drop n out), drop_at dots (drop n out) n length-dots, drop-drop 1 n out))

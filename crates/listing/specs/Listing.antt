@@ -1,10 +1,9 @@
 -- 01's listing: the visible lines, one space, the dots in a line; then the lines, black `.`, gray `o`, white `#`; each ends with a line feed.
 use Rattle.video.specs.At.{lent_check}
-use Rattle.std.specs.Prelude.{◌≡◌, ℕ, ◌+◌, not, List, [], ◌∷◌, ◌++◌, map, length, drop, eqb, ltb, leb}
+use Rattle.std.specs.Prelude.{◌≡◌, ℕ, ◌+◌, not, List, [], ◌∷◌, ◌++◌, map, length, drop, eqb, ltb, leb, is_ok, Err}
 use Rattle.lists.specs.Choice.{pick, first_of}
-use Rattle.refusal.specs.declared.Refusal.{Refusal}
-use Rattle.refusal.specs.declared.Refusal.TheVariants.{Done, Room}
-use Rattle.refusal.specs.Number.{done_of}
+use Rattle.refusal.specs.declared.Refusal.TheVariants.{Room}
+use Rattle.refusal.specs.Number.{unrefused, Checked}
 use Rattle.board.specs.declared.Page.{Page}
 use Rattle.board.specs.declared.Board.{Board}
 use Rattle.timing.specs.Fields.{visible_of}
@@ -33,24 +32,24 @@ listing_line b chars attrs f line field = map letter_of (line_dots b chars attrs
 -- ---- the calls
 
 -- the page's own 12, 4, 13, 14, 15, 6, then 8 for a buffer of room bytes that is too short
-unfoldable pub head_check : Page → (room : ℕ) → Refusal
-head_check p room = first_of ((not (done_of (page_check p)), page_check p) ∷ (ltb room (length (listing_head p)), Room) ∷ []) Done
+unfoldable pub head_check : Page → (room : ℕ) → Checked
+head_check p room = first_of ((not (is_ok (page_check p)), page_check p) ∷ (ltb room (length (listing_head p)), Err Room) ∷ []) unrefused
 
 -- as a line is drawn: 3, 12, 4, 13, 14, 15, 6, 7; then 8, where the line feed needs room too
-unfoldable pub line_check : Board → (lent : Refusal) → (line room : ℕ) → Refusal
+unfoldable pub line_check : Board → (lent : Checked) → (line room : ℕ) → Checked
 line_check b lent line room = call_check b lent (leb (visible_of b.page).0 line) (ltb room (line_length b + 1))
 
 -- [case listing] the listing, its printed example, and `refused N`
 -- what a call with this check answers, where these are its bytes
-unfoldable pub listed_of : Refusal → List ℕ → Listed
-listed_of r bytes = record { refusal = r; count = pick (done_of r) (length bytes) 0 }
+unfoldable pub listed_of : Checked → List ℕ → Listed
+listed_of r bytes = record { refusal = r; count = pick (is_ok r) (length bytes) 0 }
 
 -- the buffer afterwards: bytes beyond those written stay, and all of it on a refusal
-unfoldable pub listed_in : Refusal → List ℕ → List ℕ → List ℕ
-listed_in r bytes out = pick (done_of r) (bytes ++ drop (length bytes) out) out
+unfoldable pub listed_in : Checked → List ℕ → List ℕ → List ℕ
+listed_in r bytes out = pick (is_ok r) (bytes ++ drop (length bytes) out) out
 
 -- the answer, and the buffer afterwards
-abbrev pub Lists : Refusal → (bytes out : List ℕ) → Listed → (left : List ℕ) → Type 0
+abbrev pub Lists : Checked → (bytes out : List ℕ) → Listed → (left : List ℕ) → Type 0
 Lists check bytes out r left = (r ≡ listed_of check bytes) × (left ≡ listed_in check bytes out)
 
 -- [case listing]

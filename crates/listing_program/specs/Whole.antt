@@ -1,10 +1,9 @@
 -- The listing of an accepted page file, line by line, fits 3,073 bytes: nothing that the listing program calls for is refused. Assumes nothing.
-use Rattle.std.specs.Prelude.{ℕ, ◌+◌, ◌*◌, ◌≤◌, ◌<◌, ◌≡◌, Bool, true, false, List, length}
+use Rattle.std.specs.Prelude.{ℕ, ◌+◌, ◌*◌, ◌≤◌, ◌<◌, ◌≡◌, Bool, true, false, List, length, is_ok}
 use Rattle.std.proofs.Common.{arith, le-ltb, length-append}
 use Rattle.std.proofs.lemmas.Bool.{lt-leb}
 use Rattle.lists.specs.Choice.{pick}
-use Rattle.refusal.specs.declared.Refusal.TheVariants.{Done}
-use Rattle.refusal.specs.Number.{done_of}
+use Rattle.refusal.specs.Number.{unrefused}
 use Rattle.units.specs.Units.{clocks, lines, dots, dots_of}
 use Rattle.board.specs.declared.Page.{Page}
 use Rattle.board.specs.Layout.{last_ir}
@@ -21,7 +20,7 @@ use Rattle.listing.specs.Head.{head-fits}
 -- a page has few enough lines to count, and none where it is refused
 pub lines-small : (p : Page) (z : PageSize) → z ≡ size_of p → z.lines.0 ≤ 2048
 unfolding size_of
-lines-small p z e = rw e (go (done_of (page_check p)))
+lines-small p z e = rw e (go (is_ok (page_check p)))
   where
     go : (t : Bool) → (pick t (sized (page_check p) (visible_of p) (dots_of (clocks (hact_of p)) p.video.dots)) (sized (page_check p) (lines 0) (dots 0))).lines.0 ≤ 2048
     go true = visible-bound p
@@ -29,7 +28,7 @@ lines-small p z e = rw e (go (done_of (page_check p)))
 
 -- [case listing]
 -- the buffer has room for the head of every accepted page
-pub head-answers : (p : Page) → page_check p ≡ Done → head_check p 3073 ≡ Done
+pub head-answers : (p : Page) → page_check p ≡ unrefused → head_check p 3073 ≡ unrefused
 unfolding listing_head size_of
 head-answers p e =
     let high = rows_of p * lines_of p in
@@ -40,7 +39,7 @@ head-answers p e =
 
 -- [case listing]
 -- and for every visible line
-pub line-answers : (file : List ℕ) → page_check (page_at file 5) ≡ Done → (line : ℕ) → line < (visible_of (page_at file 5)).0 → line_check (board_at file 5) Done line 3073 ≡ Done
+pub line-answers : (file : List ℕ) → page_check (page_at file 5) ≡ unrefused → (line : ℕ) → line < (visible_of (page_at file 5)).0 → line_check (board_at file 5) unrefused line 3073 ≡ unrefused
 unfolding line_check call_check state_refused
 line-answers file e line h =
     let p = page_at file 5 in

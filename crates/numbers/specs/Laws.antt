@@ -5,7 +5,7 @@
 --     file-read, numbers-kept        what a read leaves
 --     saved-page, saved-numbers      a page as numbers is the page that is kept, and numbers come back
 --     put-fine, put-page, put_rest   numbers with a page in the place of their own
-use Rattle.std.specs.Prelude.{ℕ, ◌+◌, ◌-◌, ◌*◌, ◌<◌, ◌≤◌, ◌≡◌, refl, Bool, true, false, not, List, [], ◌∷◌, ◌++◌, eqb, length, get_or, take, drop, replicate}
+use Rattle.std.specs.Prelude.{ℕ, ◌+◌, ◌-◌, ◌*◌, ◌<◌, ◌≤◌, ◌≡◌, refl, Bool, true, false, not, List, [], ◌∷◌, ◌++◌, eqb, length, get_or, take, drop, replicate, is_ok, Err}
 use Rattle.std.proofs.Common.{sym, ap₂, ◌∙◌, arith, length-append, take-take, take-add, drop-cons, drop-drop, drop_at, get_or-take, get_or-drop}
 use Rattle.std.proofs.Math.Path.{ap}
 use borrow.Author.Tests.{eqb-true, ne_eqb, not-false}
@@ -13,9 +13,8 @@ use Rattle.std.proofs.Math.ListN.{length-drop, length-replicate, get_or-append}
 use Rattle.std.proofs.lemmas.List.{take-append-le}
 use Rattle.lists.specs.Choice.{pick, neither}
 use Rattle.units.specs.Units.{dots}
-use Rattle.refusal.specs.declared.Refusal.{Refusal}
-use Rattle.refusal.specs.declared.Refusal.TheVariants.{Done, Size}
-use Rattle.refusal.specs.Number.{done_of}
+use Rattle.refusal.specs.declared.Refusal.TheVariants.{Size}
+use Rattle.refusal.specs.Number.{unrefused, Checked}
 use Rattle.refusal.specs.Laws.{passed}
 use Rattle.board.specs.declared.Page.{Page}
 use Rattle.board.specs.declared.Board.{Board}
@@ -36,9 +35,9 @@ pub numbers-all : (numbers : List ℕ) → numbers_refused numbers ≡ false →
 unfolding numbers_refused
 numbers-all numbers e = eqb-true _ _ (not-false _ (neither _ _ e).0)
 
-pub numbers-passed : (numbers : List ℕ) → numbers_check numbers ≡ Done → numbers_refused numbers ≡ false
+pub numbers-passed : (numbers : List ℕ) → numbers_check numbers ≡ unrefused → numbers_refused numbers ≡ false
 unfolding numbers_check
-numbers-passed numbers e = (passed (numbers_refused numbers) Size _ refl e).0
+numbers-passed numbers e = (passed (numbers_refused numbers) (Err Size) _ refl e).0
 
 -- the page's bytes lie inside
 pub numbers-room : (numbers : List ℕ) → numbers_refused numbers ≡ false → 1 + page_length (version_in numbers) ≤ length numbers
@@ -127,7 +126,7 @@ numbers-page file l = λ i. record {
         ap (λ (x : List ℕ). x ++ replicate (15 - n) 0) (take-append-le n part zeros (omega (arith, all, rest)) ∙ take-take n size (drop 5 file) (omega (arith, rest)))
 
 -- a page that is read: the sizes are right, and they are those that the memories are read by
-module _ (file : List ℕ) (n c a : ℕ) (ok : read_check file (page_read_size n c a) ≡ Done) where
+module _ (file : List ℕ) (n c a : ℕ) (ok : read_check file (page_read_size n c a) ≡ unrefused) where
   read-passed : FilePassed file newest_version (length_field (version_in file)) (page_read_size n c a) (page_check (page_at file 5))
   unfolding read_check
   read-passed = file-passed file newest_version (length_field (version_in file)) (page_read_size n c a) (page_check (page_at file 5)) ok
@@ -149,7 +148,7 @@ module _ (file : List ℕ) (n c a : ℕ) (ok : read_check file (page_read_size n
   file-read numbers₀ chars₀ attrs₀ e f g =
       (rw ok e, f ∙ ap (λ (s : Bool). chars_read file s chars₀) same_size, g ∙ ap (λ (s : Bool). attrs_read file s attrs₀) same_size)
 
-pub numbers-kept : (file : List ℕ) (size : Bool) (numbers₀ : List ℕ) → done_of (read_check file size) ≡ false → numbers₀ ≡ numbers_read file size numbers₀
+pub numbers-kept : (file : List ℕ) (size : Bool) (numbers₀ : List ℕ) → is_ok (read_check file size) ≡ false → numbers₀ ≡ numbers_read file size numbers₀
 unfolding numbers_read
 numbers-kept file size numbers₀ t = rw t
 
@@ -210,15 +209,15 @@ saved-numbers numbers fits fine =
 
 -- what the call leaves
 module _ (b : Board) (numbers₀ : List ℕ) where
-  pub not-room : (length numbers₀ ≡ 32 → ⊥) → (Size ≡ numbers_of_check b (length numbers₀)) × (numbers₀ ≡ numbers_of b numbers₀)
+  pub not-room : (length numbers₀ ≡ 32 → ⊥) → ((Err Size) ≡ numbers_of_check b (length numbers₀)) × (numbers₀ ≡ numbers_of b numbers₀)
   unfolding numbers_of_check numbers_of
   not-room e = let t = ne_eqb _ _ e in (rw t, rw t)
 
-  module _ (room : length numbers₀ ≡ 32) {r : Refusal} (e : r ≡ page_check b.page) where
-    pub saved : done_of (page_check b.page) ≡ true → {numbers : List ℕ} → numbers ≡ page_numbers b.page → (r ≡ numbers_of_check b (length numbers₀)) × (numbers ≡ numbers_of b numbers₀)
+  module _ (room : length numbers₀ ≡ 32) {r : Checked} (e : r ≡ page_check b.page) where
+    pub saved : is_ok (page_check b.page) ≡ true → {numbers : List ℕ} → numbers ≡ page_numbers b.page → (r ≡ numbers_of_check b (length numbers₀)) × (numbers ≡ numbers_of b numbers₀)
     unfolding numbers_of_check numbers_of
     saved t q = (rw room e, rw (room, t) q)
 
-    pub not_saved : done_of (page_check b.page) ≡ false → (r ≡ numbers_of_check b (length numbers₀)) × (numbers₀ ≡ numbers_of b numbers₀)
+    pub not_saved : is_ok (page_check b.page) ≡ false → (r ≡ numbers_of_check b (length numbers₀)) × (numbers₀ ≡ numbers_of b numbers₀)
     unfolding numbers_of_check numbers_of
     not_saved t = (rw room e, rw (room, t))

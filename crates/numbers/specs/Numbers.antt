@@ -1,9 +1,8 @@
 -- A page's numbers in one buffer: the version byte, then the bytes of that version's page file between the length and the character memory, then zeros, which are ignored.
-use Rattle.std.specs.Prelude.{◌≡◌, ℕ, ◌+◌, ◌-◌, Bool, ◌||◌, not, List, ◌∷◌, ◌++◌, length, take, drop, replicate, eqb}
+use Rattle.std.specs.Prelude.{◌≡◌, ℕ, ◌+◌, ◌-◌, Bool, ◌||◌, not, List, ◌∷◌, ◌++◌, length, take, drop, replicate, eqb, is_ok, Err}
 use Rattle.lists.specs.Choice.{pick}
-use Rattle.refusal.specs.declared.Refusal.{Refusal}
 use Rattle.refusal.specs.declared.Refusal.TheVariants.{Size}
-use Rattle.refusal.specs.Number.{done_of}
+use Rattle.refusal.specs.Number.{Checked}
 use Rattle.board.specs.declared.Page.{Page}
 use Rattle.board.specs.declared.Board.{Board}
 use Rattle.board.specs.Layout.{newest_version, page_length}
@@ -17,8 +16,8 @@ unfoldable pub numbers_refused : List ℕ → Bool
 numbers_refused numbers = not (eqb (length numbers) 32) || version_refused numbers newest_version
 
 -- 3 for the numbers, then the page's own 12, 4, 13, 14, 15, 6
-unfoldable pub numbers_check : List ℕ → Refusal
-numbers_check numbers = pick (numbers_refused numbers) Size (page_check (page_at numbers 1))
+unfoldable pub numbers_check : List ℕ → Checked
+numbers_check numbers = pick (numbers_refused numbers) (Err Size) (page_check (page_at numbers 1))
 
 -- their page, on an active board at clock 0
 abbrev pub numbers_board : List ℕ → Board
@@ -54,22 +53,22 @@ abbrev pub cleared : List ℕ → List ℕ
 cleared numbers = take (counted (version_in numbers)) numbers ++ zeros_after (version_in numbers)
 
 -- only where nothing refuses it
-abbrev pub page_or_own : Refusal → Page → List ℕ → List ℕ
-page_or_own r p numbers = pick (done_of r) (page_in p numbers) numbers
+abbrev pub page_or_own : Checked → Page → List ℕ → List ℕ
+page_or_own r p numbers = pick (is_ok r) (page_in p numbers) numbers
 
 -- ---- a board's page as numbers
 
 -- [more numbers]
 -- 3 where there is room for another number than 32, then the page's own 12, 4, 13, 14, 15, 6; the board's place is not judged
-unfoldable pub numbers_of_check : Board → (room : ℕ) → Refusal
-numbers_of_check b room = pick (not (eqb room 32)) Size (page_check b.page)
+unfoldable pub numbers_of_check : Board → (room : ℕ) → Checked
+numbers_of_check b room = pick (not (eqb room 32)) (Err Size) (page_check b.page)
 
 -- [more numbers] a board's page as numbers, and back
 -- the numbers afterwards: the page's, and on a refusal as they were
 unfoldable pub numbers_of : Board → List ℕ → List ℕ
-numbers_of b numbers = pick (done_of (numbers_of_check b (length numbers))) (page_numbers b.page) numbers
+numbers_of b numbers = pick (is_ok (numbers_of_check b (length numbers))) (page_numbers b.page) numbers
 
 -- [demand untouched] [more numbers]
 -- the call: the refusal, and the numbers afterwards
-abbrev pub GivesNumbers : Board → (numbers : List ℕ) → Refusal → (left : List ℕ) → Type 0
+abbrev pub GivesNumbers : Board → (numbers : List ℕ) → Checked → (left : List ℕ) → Type 0
 GivesNumbers b numbers r left = (r ≡ numbers_of_check b (length numbers)) × (left ≡ numbers_of b numbers)

@@ -12,7 +12,7 @@ use Rattle.std.proofs.Math.Decide.{dec_lt}
 use borrow.Author.Tests.{lt-ltb, le-leb, ltb-true, leb-true, not-true, not-false}
 use Rattle.lists.specs.Choice.{both}
 use Rattle.lists.specs.Search.{any_below, first_below, any_none, any_some, none_of, first-at, first-is, first-lt}
-use Rattle.refusal.specs.declared.Refusal.TheVariants.{Done}
+use Rattle.refusal.specs.Number.{unrefused}
 use Rattle.board.specs.declared.Page.{Page}
 use Rattle.board.specs.declared.Board.{Board}
 use Rattle.fetch.specs.Rows.{fetched_of, fetch_at}
@@ -88,7 +88,7 @@ module _ {A : Type 0} (refused found : ℕ → A) (nothing : A) (bad good : ℕ 
 
 -- ---- the record of a row that is accepted
 
-module _ (b : Board) (chars : List ℕ) (rs : List Phrase) (row : ℕ) (done : run_check b (length chars) row ≡ Done) where
+module _ (b : Board) (chars : List ℕ) (rs : List Phrase) (row : ℕ) (done : run_check b (length chars) row ≡ unrefused) where
   holding : Phrase → Bool
   holding = holds_row b.page chars row
 

@@ -5,14 +5,14 @@
 --     mate-begins, mate-turn, mate-fours, mate-all      the search for a later record that disagrees with one
 --     pairs-all      and for the first two
 use Prim.Native.Nat.{ℕ, zero, suc, ◌+◌, ◌<◌}
-use Rattle.std.specs.Prelude.{◌≡◌, Bool, not, ◌&&◌, ◌||◌, List, length, get_or}
+use Rattle.std.specs.Prelude.{◌≡◌, Bool, not, ◌&&◌, ◌||◌, List, length, get_or, is_ok}
 use Rattle.std.proofs.Math.Path.{refl}
 use Rattle.std.proofs.Common.{ap, ◌∙◌, arith, eq-eqb, eqb-true, lt-ltb, le-ltb}
 use Rattle.std.proofs.Math.Bool.{true, false}
 use Rattle.std.proofs.Math.Dec.{eqb}
 use Rattle.lists.specs.Choice.{pick}
 use Rattle.lists.specs.Search.{any_below, first_below, any_none, first-kept, first-new, same-any, same_first}
-use Rattle.refusal.specs.Number.{number_of, beside_of, done_of}
+use Rattle.refusal.specs.Number.{unrefused, number_of, beside_of}
 use Rattle.board.specs.declared.Board.{Board}
 use Rattle.fetch.specs.Rows.{fetched_of, fetch_at}
 use Rattle.fetch.specs.Run.{run_check}
@@ -87,9 +87,9 @@ module _ (b : Board) (chars : List ℕ) (rs : List Phrase) (row : ℕ) where
 
   pub row-held : search_of rs (asked_of b chars row) ≡ phrase_of_row b chars rs row
   unfolding phrase_of_row asked_of ends
-  row-held = go (done_of (run_check b (length chars) row)) refl
+  row-held = go (is_ok (run_check b (length chars) row)) refl
     where
-      go : (t : Bool) → done_of (run_check b (length chars) row) ≡ t
+      go : (t : Bool) → is_ok (run_check b (length chars) row) ≡ t
           → search_of rs (pick t ends (asked (number_of (run_check b (length chars) row)) (beside_of (run_check b (length chars) row)) 0 0))
           ≡ pick t (phrase_among (phrase_answer 0 0 0 0) (at rs bad_record) (at rs (holds_row b.page chars row)) (length rs))
           (phrase_answer (number_of (run_check b (length chars) row)) (beside_of (run_check b (length chars) row)) 0 0)

@@ -1,5 +1,5 @@
 -- The picture as the drawer makes it is the picture of `Picture.antt`. Assumes nothing.
-use Rattle.std.specs.Prelude.{ℕ, ◌+◌, ◌*◌, ◌/◌, ◌%◌, ◌≤◌, ◌<◌, ◌≡◌, refl, true, false, ltb, length, get_or}
+use Rattle.std.specs.Prelude.{ℕ, ◌+◌, ◌*◌, ◌/◌, ◌%◌, ◌≤◌, ◌<◌, ◌≡◌, refl, true, false, ltb, length, get_or, is_ok}
 use Rattle.std.proofs.Math.Path.{sym, ap}
 use Rattle.std.proofs.Common.{◌∙◌, mod-lt, mul_assoc, arith, ltb-false}
 use mathlib.Core.List.{List, ◌++◌}
@@ -8,8 +8,7 @@ use Rattle.std.proofs.Math.Arith.{digits_div, digits_mod}
 use Rattle.std.proofs.Math.ListN.{drop}
 use Rattle.lists.specs.Join.{joined, same-joined, join-all}
 use Rattle.lists.specs.Tab.{tab}
-use Rattle.refusal.specs.declared.Refusal.TheVariants.{Done}
-use Rattle.refusal.specs.Number.{done_of}
+use Rattle.refusal.specs.Number.{unrefused}
 use Rattle.raster.specs.declared.Code.{Code}
 use Rattle.raster.specs.Wide.{code_of, is_wide}
 use Rattle.board.specs.declared.Board.{Board}
@@ -38,7 +37,7 @@ use Rattle.picture.specs.Picture.{picture_dots, picture_length, picture_check, p
 
 -- ---- a call that is not refused
 
-pub picture-passed : (b : Board) (chars attrs : List ℕ) (f : Font) (room : ℕ) → picture_check b (lent_check chars attrs f) room ≡ Done
+pub picture-passed : (b : Board) (chars attrs : List ℕ) (f : Font) (room : ℕ) → picture_check b (lent_check chars attrs f) room ≡ unrefused
     → Lent b chars attrs f.words f.flags × (picture_length b.page ≤ room)
 unfolding picture_check
 picture-passed b chars attrs f room e =
@@ -46,12 +45,12 @@ picture-passed b chars attrs f room e =
     (lent b chars attrs f false short e, ltb-false _ _ (call-passed b (lent_check chars attrs f) false short e).roomy)
 
 module _ (b : Board) (chars attrs : List ℕ) (f : Font) (field : ℕ) (out₀ : List ℕ) where
-  pub left-pictured : done_of (picture_check b (lent_check chars attrs f) (length out₀)) ≡ true
+  pub left-pictured : is_ok (picture_check b (lent_check chars attrs f) (length out₀)) ≡ true
       → (out : List ℕ) → out ≡ picture_dots b chars attrs f field ++ drop (picture_length b.page) out₀ → out ≡ pictured_of b chars attrs f field out₀
   unfolding pictured_of
   left-pictured t out e = rw t e
 
-  pub left_alone : done_of (picture_check b (lent_check chars attrs f) (length out₀)) ≡ false → out₀ ≡ pictured_of b chars attrs f field out₀
+  pub left_alone : is_ok (picture_check b (lent_check chars attrs f) (length out₀)) ≡ false → out₀ ≡ pictured_of b chars attrs f field out₀
   unfolding pictured_of
   left_alone t = rw t
 

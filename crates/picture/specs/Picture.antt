@@ -1,9 +1,8 @@
 -- A picture is its visible lines, end to end.
-use Rattle.std.specs.Prelude.{◌≡◌, ℕ, ◌*◌, false, List, ◌++◌, length, drop, ltb}
+use Rattle.std.specs.Prelude.{◌≡◌, ℕ, ◌*◌, false, List, ◌++◌, length, drop, ltb, is_ok}
 use Rattle.lists.specs.Choice.{pick}
 use Rattle.lists.specs.Join.{joined}
-use Rattle.refusal.specs.declared.Refusal.{Refusal}
-use Rattle.refusal.specs.Number.{done_of}
+use Rattle.refusal.specs.Number.{Checked}
 use Rattle.board.specs.declared.Page.{Page}
 use Rattle.board.specs.declared.Board.{Board}
 use Rattle.timing.specs.Fields.{hact_of, visible_of}
@@ -22,7 +21,7 @@ picture_length p = (visible_of p).0 * (hact_of p * p.video.dots.0)
 
 -- [more picture]
 -- 3, 12, 4, 13, 14, 15, 6, 7, 8 for a buffer of room bytes that is too short
-unfoldable pub picture_check : Board → (lent : Refusal) → (room : ℕ) → Refusal
+unfoldable pub picture_check : Board → (lent : Checked) → (room : ℕ) → Checked
 picture_check b lent room = call_check b lent false (ltb room (picture_length b.page))
 
 -- the picture at the front of a buffer; bytes beyond it stay
@@ -33,12 +32,12 @@ picture_over b chars attrs f field out = picture_dots b chars attrs f field ++ d
 -- the buffer afterwards, which stays on a refusal
 unfoldable pub pictured_of : Board → (chars attrs : List ℕ) → Font → (field : ℕ) → List ℕ → List ℕ
 pictured_of b chars attrs f field out =
-    pick (done_of (picture_check b (lent_check chars attrs f) (length out)))
+    pick (is_ok (picture_check b (lent_check chars attrs f) (length out)))
     (picture_over b chars attrs f field out)
     out
 
 -- [demand untouched] [more picture]
 -- the call: the refusal, and the buffer afterwards
-abbrev pub DrawsPicture : Board → (chars attrs : List ℕ) → Font → (field : ℕ) → (out : List ℕ) → Refusal → (left : List ℕ) → Type 0
+abbrev pub DrawsPicture : Board → (chars attrs : List ℕ) → Font → (field : ℕ) → (out : List ℕ) → Checked → (left : List ℕ) → Type 0
 DrawsPicture b chars attrs f field out r left =
     (r ≡ picture_check b (lent_check chars attrs f) (length out)) × (left ≡ pictured_of b chars attrs f field out)

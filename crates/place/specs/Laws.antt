@@ -10,8 +10,7 @@ use Rattle.lists.specs.Choice.{pick, pick-lt, both}
 use Rattle.units.specs.declared.Clocks.{Clocks}
 use Rattle.units.specs.declared.Lines.{Lines}
 use Rattle.units.specs.Units.{clocks, lines}
-use Rattle.refusal.specs.declared.Refusal.TheVariants.{Done}
-use Rattle.refusal.specs.Number.{wrong_size}
+use Rattle.refusal.specs.Number.{unrefused, wrong_size}
 use Rattle.refusal.specs.Laws.{size-right}
 use Rattle.raster.specs.declared.Row.{Row}
 use Rattle.raster.specs.declared.Cell.{Cell}
@@ -224,7 +223,7 @@ module _ (p : Page) (chars attrs : List ℕ) where
     unfolding place_at timing_of counts_of
     place_at_lem x e = rw (e, ec, el, ef, ew, et)
 
-pub state-whole : (b : Board) (chars attrs : List ℕ) → state_check b chars attrs ≡ Done → (length chars ≡ 16384) × (length attrs ≡ 16384)
+pub state-whole : (b : Board) (chars attrs : List ℕ) → state_check b chars attrs ≡ unrefused → (length chars ≡ 16384) × (length attrs ≡ 16384)
 state-whole b chars attrs e =
     let k = call-passed b (wrong_size (memories_refused (length chars) (length attrs))) false false e in
     memories-all (length chars) (length attrs) (size-right _ k.lent-fine)

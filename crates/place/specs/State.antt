@@ -1,8 +1,7 @@
 -- The state for clock n.
-use Rattle.std.specs.Prelude.{ℕ, false, List, length}
+use Rattle.std.specs.Prelude.{ℕ, false, List, length, is_ok}
 use Rattle.lists.specs.Choice.{pick}
-use Rattle.refusal.specs.declared.Refusal.{Refusal}
-use Rattle.refusal.specs.Number.{done_of, wrong_size}
+use Rattle.refusal.specs.Number.{Checked, wrong_size}
 use Rattle.board.specs.declared.Board.{Board}
 use Rattle.board.specs.Parts.{with_place}
 use Rattle.board.specs.Range.{memories_refused}
@@ -11,10 +10,10 @@ use Rattle.place.specs.declared.StateAt.{StateAt}
 use Rattle.place.specs.Place.{place_at}
 
 -- 3 for the memories, 12, 4, 13, 14, 15, 6, 7
-abbrev pub state_check : Board → (chars attrs : List ℕ) → Refusal
+abbrev pub state_check : Board → (chars attrs : List ℕ) → Checked
 state_check b chars attrs = call_check b (wrong_size (memories_refused (length chars) (length attrs))) false false
 
-abbrev pub stated : Refusal → Board → StateAt
+abbrev pub stated : Checked → Board → StateAt
 stated r b = record { refusal = r; board = b }
 
 -- [clock zero]
@@ -22,4 +21,4 @@ stated r b = record { refusal = r; board = b }
 unfoldable pub state_of : Board → (chars attrs : List ℕ) → ℕ → StateAt
 state_of b chars attrs n =
     stated (state_check b chars attrs)
-    (pick (done_of (state_check b chars attrs)) (with_place b (place_at b.page chars attrs n)) b)
+    (pick (is_ok (state_check b chars attrs)) (with_place b (place_at b.page chars attrs n)) b)

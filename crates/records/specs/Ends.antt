@@ -3,7 +3,7 @@
 --     asked-row     what a row asks, as the code has it
 --     holds_row_lem     a record holds every cell exactly where it holds these two
 use Prim.Native.Nat.{ℕ, zero, suc, min, max, ◌+◌, ◌≤◌, ◌<◌}
-use Rattle.std.specs.Prelude.{◌≡◌, refl, Bool, true, false, not, ◌&&◌, List, ltb, leb, length}
+use Rattle.std.specs.Prelude.{◌≡◌, refl, Bool, true, false, not, ◌&&◌, List, ltb, leb, length, is_ok}
 use Rattle.std.proofs.Common.{sym, ◌∙◌, true≢false, eq-or-lt_of_le, le_of_suc-le-suc, arith, lt-ltb, le-leb, ltb-true, leb-true}
 use Rattle.std.proofs.Math.Logic.{⊎_elim}
 use Rattle.std.proofs.Math.Numerals.{add-one}
@@ -13,7 +13,7 @@ use Rattle.lists.specs.Search.{any_below, any_none, none_of}
 use Rattle.raster.specs.declared.Buffer.{Buffer}
 use Rattle.raster.specs.declared.Cell.{Cell}
 use Rattle.raster.specs.Moves.{cell, advance_by}
-use Rattle.refusal.specs.Number.{number_of, beside_of, done_of}
+use Rattle.refusal.specs.Number.{number_of, beside_of}
 use Rattle.board.specs.declared.Page.{Page}
 use Rattle.board.specs.declared.Board.{Board}
 use Rattle.timing.specs.Fields.{buffer_of}
@@ -47,7 +47,7 @@ asked r b l h = record { refusal = r; beside = b; low = l; high = h }
 -- what a row asks of each record
 unfoldable pub asked_of : Board → (chars : List ℕ) → (row : ℕ) → Asked
 asked_of b chars row =
-    pick (done_of (run_check b (length chars) row))
+    pick (is_ok (run_check b (length chars) row))
     (asked 0 0 (low_to (fetch_at b.page chars row) (fetched_of b.page chars row)) (high_to (fetch_at b.page chars row) (fetched_of b.page chars row)))
     (asked (number_of (run_check b (length chars) row)) (beside_of (run_check b (length chars) row)) 0 0)
 
@@ -117,12 +117,12 @@ module _ (b : Buffer) (a i : ℕ) {x : ℕ} (xe : x ≡ advance_by b i a) where
   high-more he e = e ∙ rw (he, xe, add-one i)
 
 module _ (b : Board) (chars : List ℕ) (row : ℕ) where
-  pub asked-row : done_of (run_check b (length chars) row) ≡ true → {u : Buffer} {x : Cell} {n : ℕ} {e : Ends} → u ≡ buffer_of b.page → x ≡ cell (row_start b.page chars row) → n ≡ fetched_of b.page chars row
+  pub asked-row : is_ok (run_check b (length chars) row) ≡ true → {u : Buffer} {x : Cell} {n : ℕ} {e : Ends} → u ≡ buffer_of b.page → x ≡ cell (row_start b.page chars row) → n ≡ fetched_of b.page chars row
       → e ≡ ends_by u x.address n → asked 0 0 e.low e.high ≡ asked_of b chars row
   unfolding asked_of ends_by fetch_at
   asked-row t ue xe ne e = rw (t, e, ue, xe, ne)
 
-  pub asked-refused : done_of (run_check b (length chars) row) ≡ false → {n m : ℕ} → n ≡ number_of (run_check b (length chars) row) → m ≡ beside_of (run_check b (length chars) row) → asked n m 0 0 ≡ asked_of b chars row
+  pub asked-refused : is_ok (run_check b (length chars) row) ≡ false → {n m : ℕ} → n ≡ number_of (run_check b (length chars) row) → m ≡ beside_of (run_check b (length chars) row) → asked n m 0 0 ≡ asked_of b chars row
   unfolding asked_of
   asked-refused t ne me = rw (t, ne, me)
 

@@ -1,8 +1,8 @@
 -- 02, R-6: for a row, the lowest record whose cells hold the whole of what the row fetches; and the first two records with the same language and number that differ in first cell or length.
-use Rattle.std.specs.Prelude.{ℕ, ◌+◌, Bool, not, ◌&&◌, ◌||◌, List, [], ◌∷◌, eqb, ltb, leb, length, get_or}
+use Rattle.std.specs.Prelude.{ℕ, ◌+◌, Bool, not, ◌&&◌, ◌||◌, List, [], ◌∷◌, eqb, ltb, leb, length, get_or, is_ok}
 use Rattle.lists.specs.Choice.{pick, first_of}
 use Rattle.lists.specs.Search.{any_below, first_below}
-use Rattle.refusal.specs.Number.{number_of, beside_of, done_of}
+use Rattle.refusal.specs.Number.{number_of, beside_of}
 use Rattle.board.specs.declared.Page.{Page}
 use Rattle.board.specs.declared.Board.{Board}
 use Rattle.fetch.specs.Rows.{fetched_of, fetch_at}
@@ -56,7 +56,7 @@ phrase_answer r b f i = record { refusal = r; beside = b; found = f; position = 
 -- the page's and the row's own refusals, then 20 for the first bad record; else the lowest that holds the row
 unfoldable pub phrase_of_row : Board → (chars : List ℕ) → List Phrase → (row : ℕ) → PhraseAnswer
 phrase_of_row b chars rs row =
-    pick (done_of (run_check b (length chars) row))
+    pick (is_ok (run_check b (length chars) row))
     (among (phrase_answer 20 0 0) (phrase_answer 0 0 1) (phrase_answer 0 0 0 0) (at rs bad_record) (at rs (holds_row b.page chars row)) (length rs))
     (phrase_answer (number_of (run_check b (length chars) row)) (beside_of (run_check b (length chars) row)) 0 0)
 

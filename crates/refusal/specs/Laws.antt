@@ -1,47 +1,35 @@
--- What callers use of a refusal: which test was passed where nothing is refused. Assumes nothing.
-use Rattle.std.specs.Prelude.{◌≡◌, refl, Bool, true, false, not}
+-- What callers use of a check's answer: which test was passed where nothing is refused. Assumes nothing.
+use Rattle.std.specs.Prelude.{◌≡◌, refl, Bool, true, false, not, is_ok, Ok, Err}
 use Rattle.std.proofs.Common.{sym, ap, ◌∙◌, true≢false}
 use Rattle.lists.specs.Choice.{pick}
-use Rattle.refusal.specs.declared.Refusal.{Refusal}
-use Rattle.refusal.specs.declared.Refusal.TheVariants.{Done, Version, Length, Size, Reserved, BackPorch, LineShort, FrontPorch, Width, Range, Room, Register, Command, Address, Kind, Stretch, Apart, Coded}
-use Rattle.refusal.specs.Number.{done_of, wrong_size}
+use Rattle.refusal.specs.declared.Refusal.TheVariants.{Size}
+use Rattle.refusal.specs.Number.{Checked, unrefused, given, check_of, wrong_size}
 
-pub done-is : (r : Refusal) → done_of r ≡ true → r ≡ Done
-done-is Done e = refl
-done-is Version e = absurd (true≢false (sym e))
-done-is Length e = absurd (true≢false (sym e))
-done-is Size e = absurd (true≢false (sym e))
-done-is Reserved e = absurd (true≢false (sym e))
-done-is BackPorch e = absurd (true≢false (sym e))
-done-is (LineShort missing) e = absurd (true≢false (sym e))
-done-is (FrontPorch missing) e = absurd (true≢false (sym e))
-done-is Width e = absurd (true≢false (sym e))
-done-is Range e = absurd (true≢false (sym e))
-done-is Room e = absurd (true≢false (sym e))
-done-is Register e = absurd (true≢false (sym e))
-done-is Command e = absurd (true≢false (sym e))
-done-is Address e = absurd (true≢false (sym e))
-done-is Kind e = absurd (true≢false (sym e))
-done-is Stretch e = absurd (true≢false (sym e))
-done-is Apart e = absurd (true≢false (sym e))
-done-is Coded e = absurd (true≢false (sym e))
+pub done-is : (r : Checked) → is_ok r ≡ true → r ≡ unrefused
+done-is (Ok tt) e = refl
+done-is (Err why) e = absurd (true≢false (sym e))
 
--- a choice of a refusal x, which came out as Done, was not taken; so a list of tests is gone through one by one
-pub passed : (t : Bool) (x r : Refusal) → done_of x ≡ false → pick t x r ≡ Done → (t ≡ false) × (r ≡ Done)
-passed true x r q e = absurd (true≢false (sym (ap done_of e) ∙ q))
+-- the check of what a call answers is the check that it was given by
+pub check-given : {A : Type 0} (r : Checked) (a : A) → check_of (given r a) ≡ r
+check-given (Ok tt) a = refl
+check-given (Err why) a = refl
+
+-- a choice of a refusal x, which came out as unrefused, was not taken; so a list of tests is gone through one by one
+pub passed : (t : Bool) (x r : Checked) → is_ok x ≡ false → pick t x r ≡ unrefused → (t ≡ false) × (r ≡ unrefused)
+passed true x r q e = absurd (true≢false (sym (ap is_ok e) ∙ q))
 passed false x r q e = (refl, e)
 
-pub size-right : (wrong : Bool) → wrong_size wrong ≡ Done → wrong ≡ false
-size-right wrong e = (passed wrong Size Done refl e).0
+pub size-right : (wrong : Bool) → wrong_size wrong ≡ unrefused → wrong ≡ false
+size-right wrong e = (passed wrong (Err Size) unrefused refl e).0
 
 -- the same for another check's answer x, which is given where it refuses
-pub not-refused : (x r : Refusal) → pick (not (done_of x)) x r ≡ Done → (x ≡ Done) × (r ≡ Done)
-not-refused x r e = go (done_of x) refl e
+pub not-refused : (x r : Checked) → pick (not (is_ok x)) x r ≡ unrefused → (x ≡ unrefused) × (r ≡ unrefused)
+not-refused x r e = go (is_ok x) refl e
   where
-    go : (t : Bool) → done_of x ≡ t → pick (not t) x r ≡ Done → (x ≡ Done) × (r ≡ Done)
+    go : (t : Bool) → is_ok x ≡ t → pick (not t) x r ≡ unrefused → (x ≡ unrefused) × (r ≡ unrefused)
     go true d q = (done-is x d, q)
-    go false d q = absurd (true≢false (sym (ap done_of q) ∙ d))
+    go false d q = absurd (true≢false (sym (ap is_ok q) ∙ d))
 
--- the usual way into a call: r is what the check x gave, and t whether that is Done
-pub checked : {r x : Refusal} {t b : Bool} → r ≡ x → t ≡ done_of r → t ≡ b → done_of x ≡ b
-checked e d q = ap done_of (sym e) ∙ sym d ∙ q
+-- the usual way into a call: r is what the check x gave, and t whether that is Ok
+pub checked : {r x : Checked} {t b : Bool} → r ≡ x → t ≡ is_ok r → t ≡ b → is_ok x ≡ b
+checked e d q = ap is_ok (sym e) ∙ sym d ∙ q

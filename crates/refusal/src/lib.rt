@@ -1,12 +1,11 @@
 #![tactic(auto)]
-// The answer numbers of documents 01 and 02, by name.
+// The answer numbers of documents 01 and 02, by name. A check answers `Ok(())`, or why it refuses.
 ghost use Rattle.std.specs.Prelude.{◌≡◌};
-ghost use Rattle.refusal.specs.Number.{number_of, beside_of, done_of, wrong_size};
+ghost use Rattle.refusal.specs.Number.{number_of, beside_of, wrong_size};
 
 // A line that is too short, and a front porch that is, tell by how many clocks the front porch misses 2.
 #[derive(Clone, Copy)]
 pub enum Refusal {
-    Done,
     Version,
     Length,
     Size,
@@ -26,70 +25,46 @@ pub enum Refusal {
     Coded,
 }
 
-pub fn number(r: Refusal) -> u32
-    ensures { result ≡ number_of r }
+// A check's number: 0 where nothing is refused.
+pub fn number(checked: Result<(), Refusal>) -> u32
+    ensures { result ≡ number_of checked }
 {
-    match r {
-        Refusal::Done => 0,
-        Refusal::Version => 1,
-        Refusal::Length => 2,
-        Refusal::Size => 3,
-        Refusal::Reserved => 4,
-        Refusal::BackPorch => 13,
-        Refusal::LineShort(_) => 14,
-        Refusal::FrontPorch(_) => 15,
-        Refusal::Width => 6,
-        Refusal::Range => 7,
-        Refusal::Room => 8,
-        Refusal::Register => 9,
-        Refusal::Command => 10,
-        Refusal::Address => 12,
-        Refusal::Kind => 16,
-        Refusal::Stretch => 17,
-        Refusal::Apart => 18,
-        Refusal::Coded => 19,
+    match checked {
+        Ok(()) => 0,
+        Err(Refusal::Version) => 1,
+        Err(Refusal::Length) => 2,
+        Err(Refusal::Size) => 3,
+        Err(Refusal::Reserved) => 4,
+        Err(Refusal::BackPorch) => 13,
+        Err(Refusal::LineShort(_)) => 14,
+        Err(Refusal::FrontPorch(_)) => 15,
+        Err(Refusal::Width) => 6,
+        Err(Refusal::Range) => 7,
+        Err(Refusal::Room) => 8,
+        Err(Refusal::Register) => 9,
+        Err(Refusal::Command) => 10,
+        Err(Refusal::Address) => 12,
+        Err(Refusal::Kind) => 16,
+        Err(Refusal::Stretch) => 17,
+        Err(Refusal::Apart) => 18,
+        Err(Refusal::Coded) => 19,
     }
 }
 
 // The number that belongs to a refusal, or 0.
-pub fn beside(r: Refusal) -> u32
-    ensures { result ≡ beside_of r }
+pub fn beside(checked: Result<(), Refusal>) -> u32
+    ensures { result ≡ beside_of checked }
 {
-    match r {
-        Refusal::Done => 0,
-        Refusal::Version => 0,
-        Refusal::Length => 0,
-        Refusal::Size => 0,
-        Refusal::Reserved => 0,
-        Refusal::BackPorch => 0,
-        Refusal::LineShort(missing) => missing.0,
-        Refusal::FrontPorch(missing) => missing.0,
-        Refusal::Width => 0,
-        Refusal::Range => 0,
-        Refusal::Room => 0,
-        Refusal::Register => 0,
-        Refusal::Command => 0,
-        Refusal::Address => 0,
-        Refusal::Kind => 0,
-        Refusal::Stretch => 0,
-        Refusal::Apart => 0,
-        Refusal::Coded => 0,
+    match checked {
+        Err(Refusal::LineShort(missing)) => missing.0,
+        Err(Refusal::FrontPorch(missing)) => missing.0,
+        _ => 0,
     }
 }
 
 // 3, for a lent part of wrong size.
-pub fn wrong_size(wrong: bool) -> Refusal
+pub fn wrong_size(wrong: bool) -> Result<(), Refusal>
     ensures { result ≡ wrong_size wrong }
 {
-    if wrong {
-        return Refusal::Size;
-    }
-    Refusal::Done
-}
-
-// Nothing is refused.
-pub fn is_done(r: Refusal) -> bool
-    ensures { result ≡ done_of r }
-{
-    number(r) == 0
+    if wrong { Err(Refusal::Size) } else { Ok(()) }
 }

@@ -1,5 +1,4 @@
 -- The register calls.
-pub mod Answers
 pub mod Write
 pub mod Read
 pub mod Video

@@ -1,12 +1,11 @@
 -- A read at a register address (003 Tables 1 and 4).
-use Rattle.std.specs.Prelude.{ℕ, ◌/◌, ◌%◌, eqb}
+use Rattle.std.specs.Prelude.{ℕ, ◌/◌, ◌%◌, eqb, Result, Ok, Err}
 use Rattle.lists.specs.Choice.{pick, within}
-use Rattle.refusal.specs.declared.Refusal.TheVariants.{Done, Register}
-use Rattle.refusal.specs.Number.{done_of}
+use Rattle.refusal.specs.declared.Refusal.{Refusal}
+use Rattle.refusal.specs.declared.Refusal.TheVariants.{Register}
+use Rattle.refusal.specs.Number.{after}
 use Rattle.board.specs.declared.Starts.{Starts}
 use Rattle.board.specs.declared.Board.{Board}
-use Rattle.registers.specs.declared.ByteRead.{ByteRead}
-use Rattle.registers.specs.Answers.{byte_read}
 use Rattle.registers.specs.Write.{register_check}
 
 -- bits 7 and 6 of an upper register read 0
@@ -29,12 +28,12 @@ shown_at s a =
     (upper_shown s.start2)))))
 
 -- reads at 0 and 1 give 0; a register address above 7 is 9
-unfoldable pub read_at : Starts → ℕ → ByteRead
+unfoldable pub read_at : Starts → ℕ → Result ℕ Refusal
 read_at s a =
-    pick (within 0 1 a) (byte_read Done 0)
-    (pick (within 2 7 a) (byte_read Done (shown_at s a))
-    (byte_read Register 0))
+    pick (within 0 1 a) (Ok 0)
+    (pick (within 2 7 a) (Ok (shown_at s a))
+    (Err Register))
 
 -- [register reads]
-unfoldable pub read_of : Board → ℕ → ByteRead
-read_of b a = pick (done_of (register_check b)) (read_at b.page.starts a) (byte_read (register_check b) 0)
+unfoldable pub read_of : Board → ℕ → Result ℕ Refusal
+read_of b a = after (register_check b) (read_at b.page.starts a)

@@ -1,22 +1,20 @@
 -- The call that sets dots, strike line, BKGND and RBLANK: 12, then 6. What it replaces is not judged, and the power state plays no part.
-use Rattle.std.specs.Prelude.{ℕ, ◌+◌, ◌*◌, ◌/◌, ◌%◌, Bool, [], ◌∷◌}
+use Rattle.std.specs.Prelude.{ℕ, ◌+◌, ◌*◌, ◌/◌, ◌%◌, Bool, [], ◌∷◌, Result, Err}
 use Rattle.lists.specs.Choice.{pick, first_of}
 use Rattle.units.specs.declared.Dots.{Dots}
 use Rattle.refusal.specs.declared.Refusal.{Refusal}
-use Rattle.refusal.specs.declared.Refusal.TheVariants.{Done, Width, Address}
-use Rattle.refusal.specs.Number.{done_of}
+use Rattle.refusal.specs.declared.Refusal.TheVariants.{Width, Address}
+use Rattle.refusal.specs.Number.{Checked, unrefused, given}
 use Rattle.board.specs.declared.Page.{Page}
 use Rattle.board.specs.declared.Board.{Board}
 use Rattle.board.specs.Range.{address_refused}
 use Rattle.timing.specs.Check.{width_refused}
-use Rattle.registers.specs.declared.Written.{Written}
 use Rattle.board.specs.Parts.{with_switches, with_video, with_page}
-use Rattle.registers.specs.Answers.{answer}
 
 -- [register video] a call of its own sets dots, strike line, BKGND and RBLANK, refusing 12, then 6
 -- the page is judged with the numbers that are handed over
-unfoldable pub video_check : Page → Refusal
-video_check p = first_of ((address_refused p, Address) ∷ (width_refused p.video.dots, Width) ∷ []) Done
+unfoldable pub video_check : Page → Checked
+video_check p = first_of ((address_refused p, Err Address) ∷ (width_refused p.video.dots, Err Width) ∷ []) unrefused
 
 -- the page with other dots and another strike line
 abbrev pub with_dots : Page → Dots → (strike : ℕ) → Page
@@ -31,8 +29,5 @@ video_set b dots strike bkgnd rblank =
     with_page b (with_dots (with_switches b.page (switches_set b.page.switches bkgnd rblank)) dots strike)
 
 -- [register video]
-unfoldable pub set_video_of : Board → Dots → ℕ → Bool → Bool → Written
-set_video_of b dots strike bkgnd rblank =
-    pick (done_of (video_check (with_dots b.page dots strike)))
-    (answer Done (video_set b dots strike bkgnd rblank))
-    (answer (video_check (with_dots b.page dots strike)) b)
+unfoldable pub set_video_of : Board → Dots → ℕ → Bool → Bool → Result Board Refusal
+set_video_of b dots strike bkgnd rblank = given (video_check (with_dots b.page dots strike)) (video_set b dots strike bkgnd rblank)

@@ -1,22 +1,20 @@
 -- A write at a register address (003 Tables 1, 4 and 6; 01, "Register fields").
-use Rattle.std.specs.Prelude.{ℕ, ◌+◌, ◌-◌, ◌*◌, ◌/◌, ◌%◌, ◌&&◌, not, [], ◌∷◌, set, eqb, ltb, leb}
+use Rattle.std.specs.Prelude.{ℕ, ◌+◌, ◌-◌, ◌*◌, ◌/◌, ◌%◌, ◌&&◌, not, [], ◌∷◌, set, eqb, ltb, leb, Result, Ok, Err}
 use Rattle.lists.specs.Choice.{pick, first_of, within}
 use Rattle.refusal.specs.declared.Refusal.{Refusal}
-use Rattle.refusal.specs.declared.Refusal.TheVariants.{Done, Range, Register, Command, Address}
-use Rattle.refusal.specs.Number.{done_of}
+use Rattle.refusal.specs.declared.Refusal.TheVariants.{Range, Register, Command, Address}
+use Rattle.refusal.specs.Number.{Checked, unrefused, after}
 use Rattle.board.specs.declared.Starts.{Starts}
 use Rattle.board.specs.declared.Board.{Board}
 use Rattle.board.specs.State.{clock_zero}
 use Rattle.board.specs.Layout.{last_ir}
 use Rattle.board.specs.Range.{address_refused, pointer_refused}
-use Rattle.registers.specs.declared.Written.{Written}
 use Rattle.board.specs.Parts.{with_irs, with_starts, with_switches, with_page, with_pointer, with_resets}
-use Rattle.registers.specs.Answers.{answer}
 
 -- [refusal kinds] which numbers each kind of call gives; after 9 an inactive board answers 0
 -- register calls give 12, then 7 for the pointer
-unfoldable pub register_check : Board → Refusal
-register_check b = first_of ((address_refused b.page, Address) ∷ (pointer_refused b.page b.pointer, Range) ∷ []) Done
+unfoldable pub register_check : Board → Checked
+register_check b = first_of ((address_refused b.page, Err Address) ∷ (pointer_refused b.page b.pointer, Err Range) ∷ []) unrefused
 
 -- ---- the commands
 
@@ -40,8 +38,8 @@ abbrev pub pointed_of : Board → ℕ → Board
 pointed_of b n = with_pointer b n
 
 -- a pointer above the last IR of the page is not carried
-abbrev pub point_of : Board → ℕ → Written
-point_of b n = pick (pointer_refused b.page n) (answer Command b) (answer Done (pointed_of b n))
+abbrev pub point_of : Board → ℕ → Result Board Refusal
+point_of b n = pick (pointer_refused b.page n) (Err Command) (Ok (pointed_of b n))
 
 -- [register commands]
 -- bit 3 names the display, bit 4 the cursor, bit 0 says on
@@ -55,13 +53,13 @@ switched_of b v = with_page b (with_switches b.page (switches_after b.page.switc
 
 -- [register commands] the six commands; a byte that combines display and cursor does both, with any other it is not carried
 -- 003 Table 6: 00 is master reset, 10 to 1F load the pointer; of 20 to 3F those that name display or cursor and not graphics
-unfoldable pub command_of : Board → ℕ → Written
+unfoldable pub command_of : Board → ℕ → Result Board Refusal
 command_of b v =
-    pick (eqb v 0) (answer Done (reset_of b))
+    pick (eqb v 0) (Ok (reset_of b))
     (pick (within 16 31 v) (point_of b (v - 16))
     (pick (within 32 63 v)
-    (pick (eqb (v / 2 % 2) 0 && not (eqb (v / 8 % 4) 0)) (answer Done (switched_of b v)) (answer Command b))
-    (answer Command b)))
+    (pick (eqb (v / 2 % 2) 0 && not (eqb (v / 8 % 4) 0)) (Ok (switched_of b v)) (Err Command))
+    (Err Command)))
 
 -- ---- the registers
 
@@ -102,25 +100,23 @@ started_of b a v = with_page b (with_starts b.page (starts_after b.page.starts a
 
 -- [register addresses] address 1 is the command; 2 to 7 are screen start 1, cursor, screen start 2, lower then upper
 -- address 0 is the pointed register, 1 the command
-unfoldable pub active_of : Board → ℕ → ℕ → Written
+unfoldable pub active_of : Board → ℕ → ℕ → Result Board Refusal
 active_of b a v =
-    pick (eqb a 0) (answer Done (loaded_of b v))
+    pick (eqb a 0) (Ok (loaded_of b v))
     (pick (eqb a 1) (command_of b v)
-    (pick (within 2 7 a) (answer Done (started_of b a v))
-    (answer Register b)))
+    (pick (within 2 7 a) (Ok (started_of b a v))
+    (Err Register)))
 
 -- [register inactive] inactive until two master resets in a row; until then another write answers 0 and breaks that run
 -- until two resets in a row any other write answers 0 and only breaks that run
-unfoldable pub inactive_of : Board → ℕ → ℕ → Written
+unfoldable pub inactive_of : Board → ℕ → ℕ → Result Board Refusal
 inactive_of b a v =
     pick (within 0 7 a)
-    (pick (eqb a 1 && eqb v 0) (answer Done (reset_of b)) (answer Done (broken_of b)))
-    (answer Register b)
+    (pick (eqb a 1 && eqb v 0) (Ok (reset_of b)) (Ok (broken_of b)))
+    (Err Register)
 
 -- [refusal kinds]
 -- 2 resets in a row, or more, and the board is active
-unfoldable pub write_of : Board → ℕ → ℕ → Written
+unfoldable pub write_of : Board → ℕ → ℕ → Result Board Refusal
 write_of b a v =
-    pick (done_of (register_check b))
-    (pick (leb 2 b.resets) (active_of b a v) (inactive_of b a v))
-    (answer (register_check b) b)
+    after (register_check b) (pick (leb 2 b.resets) (active_of b a v) (inactive_of b a v))

@@ -1,47 +1,26 @@
 #![tactic(auto)]
 // What the processor writes and reads (003 Tables 1, 4 and 6), and the video setting.
-ghost use Rattle.std.specs.Prelude.{◌≡◌, [], ◌∷◌, max, ◌≤◌, ◌-◌, ◌+◌};
-ghost use Rattle.lists.specs.Choice.{pick, first_of};
-ghost use Rattle.refusal.specs.declared.Refusal.{Refusal};
+ghost use Rattle.std.specs.Prelude.{◌≡◌, max, ◌≤◌, ◌-◌, ◌+◌};
+ghost use Rattle.lists.specs.Choice.{pick};
 ghost use Rattle.board.specs.Layout.{last_ir};
 ghost use Rattle.registers.specs.Write.{register_check, broken_of, reset_of, pointed_of, point_of, next_pointer, loaded_of, lower_of, upper_of, starts_after, started_of, switches_after, switched_of, command_of, active_of, inactive_of, write_of};
 ghost use Rattle.registers.specs.Read.{shown_at, read_at, read_of};
-ghost use Rattle.registers.specs.Answers.{answer, byte_read};
 ghost use Rattle.registers.specs.Video.{video_check, with_dots, video_set, set_video_of};
 
-#[derive(Clone, Copy)]
-pub struct Written {
-    pub refusal: refusal::Refusal,
-    pub board: board::Board,
-}
-
-#[derive(Clone, Copy)]
-pub struct ByteRead {
-    pub refusal: refusal::Refusal,
-    pub byte: u8,
-}
+use refusal::Refusal;
 
 // What every register call asks of the board: 12, then 7 for the pointer.
-fn first_of_two(address: bool, range: bool) -> refusal::Refusal
-    ensures { result ≡ first_of ((address, Refusal.Address) ∷ (range, Refusal.Range) ∷ []) Refusal.Done }
-{
-    if address {
-        refusal::Refusal::Address
-    } else if range {
-        refusal::Refusal::Range
-    } else {
-        refusal::Refusal::Done
-    }
-}
-
-fn register_check(b: board::Board) -> refusal::Refusal
+#[tactic(auto, unfolding(crate::specs::Write::register_check))]
+fn register_check(b: board::Board) -> Result<(), Refusal>
     ensures { result ≡ register_check b }
 {
-    let p = b.page;
-    first_of_two(
-        board::address_refused(p),
-        board::pointer_refused(p, b.pointer),
-    )
+    if board::address_refused(b.page) {
+        return Err(Refusal::Address);
+    }
+    if board::pointer_refused(b.page, b.pointer) {
+        return Err(Refusal::Range);
+    }
+    Ok(())
 }
 
 fn choose(t: bool, a: u8, b: u8) -> u8
@@ -179,101 +158,73 @@ fn switched(b: board::Board, v: u8) -> board::Board
     n
 }
 
-fn done(b: board::Board) -> Written
-    ensures { result ≡ answer Refusal.Done b }
-{
-    Written {
-        refusal: refusal::Refusal::Done,
-        board: b,
-    }
-}
-
 // A pointer above the last IR of the page is not carried.
-fn point(b: board::Board, at: u8) -> Written
+fn point(b: board::Board, at: u8) -> Result<board::Board, Refusal>
     ensures { result ≡ point_of b at }
 {
     let p = b.page;
     if board::pointer_refused(p, at) {
-        return Written {
-            refusal: refusal::Refusal::Command,
-            board: b,
-        };
+        return Err(Refusal::Command);
     }
-    done(pointed(b, at))
+    Ok(pointed(b, at))
 }
 
 // The command byte (003 Table 6).
-fn command(b: board::Board, v: u8) -> Written
+fn command(b: board::Board, v: u8) -> Result<board::Board, Refusal>
     ensures { result ≡ command_of b v }
 {
     match v {
-        0 => done(reset(b)),
+        0 => Ok(reset(b)),
         16..=31 => point(b, v - 16),
         32..=63 => {
             if (v / 2 % 2 == 0) & !(v / 8 % 4 == 0) {
-                done(switched(b, v))
+                Ok(switched(b, v))
             } else {
-                Written {
-                    refusal: refusal::Refusal::Command,
-                    board: b,
-                }
+                Err(Refusal::Command)
             }
         }
-        _ => Written {
-            refusal: refusal::Refusal::Command,
-            board: b,
-        },
+        _ => Err(Refusal::Command),
     }
 }
 
 // The register address (003 Table 1), on an active board.
-fn active(b: board::Board, a: u8, v: u8) -> Written
+fn active(b: board::Board, a: u8, v: u8) -> Result<board::Board, Refusal>
     requires { b.pointer ≤ last_ir b.page.version }
     ensures { result ≡ active_of b a v }
 {
     match a {
-        0 => done(loaded(b, v)),
+        0 => Ok(loaded(b, v)),
         1 => command(b, v),
-        2..=7 => done(started(b, a, v)),
-        _ => Written {
-            refusal: refusal::Refusal::Register,
-            board: b,
-        },
+        2..=7 => Ok(started(b, a, v)),
+        _ => Err(Refusal::Register),
     }
 }
 
-fn inactive(b: board::Board, a: u8, v: u8) -> Written
+fn inactive(b: board::Board, a: u8, v: u8) -> Result<board::Board, Refusal>
     ensures { result ≡ inactive_of b a v }
 {
     match a {
         0..=7 => {
             if (a == 1) & (v == 0) {
-                done(reset(b))
+                Ok(reset(b))
             } else {
-                done(broken(b))
+                Ok(broken(b))
             }
         }
-        _ => Written {
-            refusal: refusal::Refusal::Register,
-            board: b,
-        },
+        _ => Err(Refusal::Register),
     }
 }
 
-// A write at a register address.
-pub fn write(b: board::Board, a: u8, v: u8) -> Written
+// The board after a write at a register address.
+#[tactic(auto, unfolding(crate::specs::Write::write_of))]
+pub fn write(b: board::Board, a: u8, v: u8) -> Result<board::Board, Refusal>
     ensures { result ≡ write_of b a v }
 {
-    let refused = register_check(b);
-    if refusal::is_done(refused) {
-        if 2 <= b.resets {
-            return active(b, a, v);
-        }
-        return inactive(b, a, v);
-    }
-    Written {
-        refusal: refused,
-        board: b,
+    register_check(b)?;
+    if 2 <= b.resets {
+        active(b, a, v)
+    } else {
+        inactive(b, a, v)
     }
 }
 
@@ -291,55 +242,38 @@ fn shown_at(s: board::Starts, a: u8) -> u8
     }
 }
 
-fn byte_read(v: u8) -> ByteRead
-    ensures { result ≡ byte_read Refusal.Done v }
-{
-    ByteRead {
-        refusal: refusal::Refusal::Done,
-        byte: v,
-    }
-}
-
 // The register address of a read.
 #[tactic(auto, unfolding(crate::specs::Read::read_at))]
-fn read_at(s: board::Starts, a: u8) -> ByteRead
+fn read_at(s: board::Starts, a: u8) -> Result<u8, Refusal>
     ensures { result ≡ read_at s a }
 {
     match a {
-        0..=1 => byte_read(0),
-        2..=7 => byte_read(shown_at(s, a)),
-        _ => ByteRead {
-            refusal: refusal::Refusal::Register,
-            byte: 0,
-        },
+        0..=1 => Ok(0),
+        2..=7 => Ok(shown_at(s, a)),
+        _ => Err(Refusal::Register),
     }
 }
 
 // A read at a register address. It never changes the board.
-pub fn read(b: board::Board, a: u8) -> ByteRead
+#[tactic(auto, unfolding(crate::specs::Read::read_of))]
+pub fn read(b: board::Board, a: u8) -> Result<u8, Refusal>
     ensures { result ≡ read_of b a }
 {
-    let refused = register_check(b);
-    if refusal::is_done(refused) {
-        let s = b.page.starts;
-        return read_at(s, a);
-    }
-    ByteRead {
-        refusal: refused,
-        byte: 0,
-    }
+    register_check(b)?;
+    read_at(b.page.starts, a)
 }
 
-fn video_check(p: board::Page) -> refusal::Refusal
+#[tactic(auto, unfolding(crate::specs::Video::video_check))]
+fn video_check(p: board::Page) -> Result<(), Refusal>
     ensures { result ≡ video_check p }
 {
     if board::address_refused(p) {
-        return refusal::Refusal::Address;
+        return Err(Refusal::Address);
     }
     if timing::width_refused(p.video.dots) {
-        return refusal::Refusal::Width;
+        return Err(Refusal::Width);
     }
-    refusal::Refusal::Done
+    Ok(())
 }
 
 // A page with other dots and another strike line.
@@ -378,21 +312,16 @@ fn with_video(
 }
 
 // The board's own setting of dots, strike line, BKGND and RBLANK.
+#[tactic(auto, unfolding(crate::specs::Video::set_video_of))]
 pub fn set_video(
     b: board::Board,
     dots: units::Dots,
     strike: u8,
     bkgnd: bool,
     rblank: bool,
-) -> Written
+) -> Result<board::Board, Refusal>
     ensures { result ≡ set_video_of b dots strike bkgnd rblank }
 {
-    let refused = video_check(with_dots(b.page, dots, strike));
-    if refusal::is_done(refused) {
-        return done(with_video(b, dots, strike, bkgnd, rblank));
-    }
-    Written {
-        refusal: refused,
-        board: b,
-    }
+    video_check(with_dots(b.page, dots, strike))?;
+    Ok(with_video(b, dots, strike, bkgnd, rblank))
 }

@@ -1,11 +1,11 @@
 -- 01, "From cell to dots", the character (002): which font word a code shows on a scan line.
-use Rattle.std.specs.Prelude.{ℕ, suc, ◌+◌, ◌*◌, ◌/◌, ◌%◌, ◌≡◌, Bool, true, false, ◌&&◌, ◌||◌, not, List, [], ◌∷◌, length, get_or, eqb, ltb}
+use Rattle.std.specs.Prelude.{ℕ, suc, ◌+◌, ◌*◌, ◌/◌, ◌%◌, ◌≡◌, Bool, true, false, ◌&&◌, ◌||◌, not, List, [], ◌∷◌, length, get_or, eqb, ltb, Err}
 use Rattle.std.specs.Borrow.{Bor, MutBor}
 use denote.Triple.Both.{Both}
 use Rattle.lists.specs.Choice.{pick}
 use Rattle.lists.specs.Tab.{tab}
-use Rattle.refusal.specs.declared.Refusal.{Refusal}
-use Rattle.refusal.specs.declared.Refusal.TheVariants.{Done, Address}
+use Rattle.refusal.specs.Number.{Checked, unrefused}
+use Rattle.refusal.specs.declared.Refusal.TheVariants.{Address}
 use Rattle.shape.specs.declared.FontLine.{FontLine}
 use Rattle.shape.specs.declared.FontLines.{FontLines}
 
@@ -54,8 +54,8 @@ unfoldable pub groups_refused : List ℕ → Bool
 groups_refused [] = false
 groups_refused (g ∷ gs) = ltb 4 g || groups_refused gs
 
-abbrev pub groups_check : List ℕ → Refusal
-groups_check groups = pick (groups_refused groups) Address Done
+abbrev pub groups_check : List ℕ → Checked
+groups_check groups = pick (groups_refused groups) (Err Address) unrefused
 
 -- [board font]
 -- the first position in a list that equals the scan line (low four bits count), or the list's length where none does

@@ -5,6 +5,8 @@ ghost use Rattle.lists.specs.Tab.{tab};
 ghost use Rattle.shape.specs.Font.{font_refused, groups_refused, groups_check, position_of, group_in, font_line_of, font_lines_of, font_line_at, chosen_by, font_word, pair_of, graphics_word, word_by, lent_font};
 ghost use Rattle.shape.specs.Laws.{weight_of};
 
+use refusal::Refusal;
+
 // What a scan line takes from a font: the first position in each of its two lists that equals the scan line, or the list's length; and its group.
 #[derive(Clone, Copy)]
 pub struct FontLine {
@@ -136,13 +138,13 @@ fn groups_refused(groups: &[u8]) -> bool
 }
 
 // 12, for the groups.
-pub fn groups_check(groups: &[u8]) -> refusal::Refusal
+pub fn groups_check(groups: &[u8]) -> Result<(), Refusal>
     ensures { result ≡ groups_check groups.now }
 {
     if groups_refused(groups) {
-        return refusal::Refusal::Address;
+        return Err(Refusal::Address);
     }
-    refusal::Refusal::Done
+    Ok(())
 }
 
 // The font word at a position of a character; past the nine there is none.

@@ -8,7 +8,7 @@ use Rattle.std.proofs.Math.Path.{ap}
 use Rattle.std.proofs.Common.{◌∙◌}
 use Rattle.std.proofs.Math.Nat.{mod-lt, zero-div, zero-mod}
 use native.Mathlib.Omega.{arith}
-use Rattle.refusal.specs.declared.Refusal.TheVariants.{Done}
+use Rattle.refusal.specs.Number.{unrefused}
 use Rattle.board.specs.declared.Board.{Board}
 use Rattle.board.specs.State.{clock_zero}
 use Rattle.board.specs.Parts.{with_place}
@@ -26,14 +26,14 @@ unfoldable pub after : Board → (chars attrs : List ℕ) → Font → ℕ → B
 after b chars attrs f zero = with_place b clock_zero
 after b chars attrs f (suc n) = (step_of (after b chars attrs f n) chars attrs f).board
 
-module _ (b : Board) (chars attrs : List ℕ) (f : Font) (ok : step_check b chars attrs f ≡ Done) where
+module _ (b : Board) (chars attrs : List ℕ) (f : Font) (ok : step_check b chars attrs f ≡ unrefused) where
   pub fits : Lent b chars attrs f.words f.flags
   fits = lent b chars attrs f false false ok
 
-  pub page-ok : page_check b.page ≡ Done
+  pub page-ok : page_check b.page ≡ unrefused
   page-ok = call-page b (lent_check chars attrs f) false false ok
 
-  lent_ok : lent_check chars attrs f ≡ Done
+  lent_ok : lent_check chars attrs f ≡ unrefused
   lent_ok = (call-passed b (lent_check chars attrs f) false false ok).lent-fine
 
   -- the board at clock n, at once
@@ -55,7 +55,7 @@ module _ (b : Board) (chars attrs : List ℕ) (f : Font) (ok : step_check b char
         pointer-le = fits.state.pointer-le;
       }
 
-  pub accepts : (n : ℕ) → step_check (at_clock n) chars attrs f ≡ Done
+  pub accepts : (n : ℕ) → step_check (at_clock n) chars attrs f ≡ unrefused
   accepts n = call_ok (at_clock n) (lent_check chars attrs f) lent_ok page-ok (range-ok (at_clock n) (clock-in-range n))
 
   -- a step that nothing refuses
@@ -76,6 +76,6 @@ module _ (b : Board) (chars attrs : List ℕ) (f : Font) (ok : step_check b char
   steps-are zero = begins-at-zero
   steps-are (suc n) = ap (λ (x : Board). (step_of x chars attrs f).board) (steps-are n) ∙ step-on n
 
-  pub step-answers : (n : ℕ) → (step_of (after b chars attrs f n) chars attrs f).refusal ≡ Done
+  pub step-answers : (n : ℕ) → (step_of (after b chars attrs f n) chars attrs f).refusal ≡ unrefused
   unfolding stepped_of
   step-answers n = rw (steps-are n, step_is n)

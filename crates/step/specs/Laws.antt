@@ -1,5 +1,5 @@
 -- What the proofs of the step use. Assumes nothing.
-use Rattle.std.specs.Prelude.{ℕ, zero, suc, ◌-◌, ◌≤◌, ◌<◌, ◌≡◌, Bool, ◌&&◌, ◌||◌, not, List, [], ◌∷◌, ◌++◌, map, eqb, drop}
+use Rattle.std.specs.Prelude.{ℕ, zero, suc, ◌-◌, ◌≤◌, ◌<◌, ◌≡◌, Bool, ◌&&◌, ◌||◌, not, List, [], ◌∷◌, ◌++◌, map, eqb, drop, is_ok, Err}
 use Rattle.std.proofs.Math.Path.{refl, sym, ap}
 use Rattle.std.proofs.Common.{◌∙◌, true≢false, not-suc-le-zero, le_of_suc-le-suc}
 use Rattle.std.proofs.Math.Bool.{true, false}
@@ -9,9 +9,8 @@ use Rattle.std.proofs.Math.ListN.{length, replicate}
 use Rattle.std.proofs.lemmas.List.{length-map}
 use Rattle.lists.specs.Choice.{pick}
 use Rattle.lists.specs.Tab.{tab}
-use Rattle.refusal.specs.declared.Refusal.{Refusal}
-use Rattle.refusal.specs.declared.Refusal.TheVariants.{Done, Range}
-use Rattle.refusal.specs.Number.{done_of}
+use Rattle.refusal.specs.declared.Refusal.TheVariants.{Range}
+use Rattle.refusal.specs.Number.{unrefused, Checked}
 use Rattle.raster.specs.Wide.{code_of, is_wide}
 use Rattle.board.specs.declared.Place.{Place}
 use Rattle.board.specs.declared.Board.{Board}
@@ -110,7 +109,7 @@ pub clock-parts : (b : Board) (chars attrs words flags : List ℕ) (line : FontL
     → (q : Place) → q ≡ turned_in b.page b.place (moved_in b.page attrs b.place c)
     → (s : Shown) → s ≡ shown_in b chars attrs words flags line c.beam.code c.beam.latch c.beam.address
     → (g : Signals) → g ≡ signals_with b s.cursor → (d : List ℕ) → d ≡ dots_shown b c.beam.code s
-    → ◌≡◌ {A = Clock} (record { refusal = Done; signals = g; address = c.beam.address; dots = d; place = q }) (clock_with b chars attrs words flags line)
+    → ◌≡◌ {A = Clock} (record { refusal = unrefused; signals = g; address = c.beam.address; dots = d; place = q }) (clock_with b chars attrs words flags line)
 unfolding clock_with
 clock-parts b chars attrs words flags line c ec q eq s es g eg d ed = rw (eq, eg, ed, es, ec)
 
@@ -138,12 +137,12 @@ dots-shown b chars attrs f code held a most = ap (λ (l : List ℕ). padded l d)
 -- ---- the check
 
 -- nothing refuses a clock
-clear-check : (b : Board) (lent : Refusal) → ((done_of lent && done_of (page_check b.page)) && not (state_refused b)) ≡ done_of (call_check b lent false false)
+clear-check : (b : Board) (lent : Checked) → ((is_ok lent && is_ok (page_check b.page)) && not (state_refused b)) ≡ is_ok (call_check b lent false false)
 unfolding call_check
-clear-check b lent = go (done_of lent) refl (done_of (page_check b.page)) refl (state_refused b)
+clear-check b lent = go (is_ok lent) refl (is_ok (page_check b.page)) refl (state_refused b)
   where
-    go : (s : Bool) → done_of lent ≡ s → (d : Bool) → done_of (page_check b.page) ≡ d → (r : Bool)
-        → ((s && d) && not r) ≡ done_of (pick (not s) lent (pick (not d) (page_check b.page) (pick (r || false) Range Done)))
+    go : (s : Bool) → is_ok lent ≡ s → (d : Bool) → is_ok (page_check b.page) ≡ d → (r : Bool)
+        → ((s && d) && not r) ≡ is_ok (pick (not s) lent (pick (not d) (page_check b.page) (pick (r || false) (Err Range) unrefused)))
     go false e d q r = sym e
     go true e true q true = refl
     go true e true q false = refl
@@ -152,7 +151,7 @@ clear-check b lent = go (done_of lent) refl (done_of (page_check b.page)) refl (
 -- judged with the groups last
 module _ (b : Board) (size : Bool) (groups : List ℕ) where
   abbrev early : Bool
-  early = (size || not (done_of (page_check b.page))) || state_refused b
+  early = (size || not (is_ok (page_check b.page))) || state_refused b
 
   order : (s d r g : Bool) → ((pick s false g && d) && not r) ≡ pick ((s || not d) || r) false g
   order true d r g = refl
@@ -163,29 +162,29 @@ module _ (b : Board) (size : Bool) (groups : List ℕ) where
   order false true false true = refl
   order false true false false = refl
 
-  lent-done : (s : Bool) → done_of (lent_by s groups) ≡ pick s false (done_of (groups_check groups))
+  lent-done : (s : Bool) → is_ok (lent_by s groups) ≡ pick s false (is_ok (groups_check groups))
   lent-done true = refl
   lent-done false = refl
 
-  all : pick early false (done_of (groups_check groups)) ≡ done_of (call_check b (lent_by size groups) false false)
+  all : pick early false (is_ok (groups_check groups)) ≡ is_ok (call_check b (lent_by size groups) false false)
   all =
-      sym (order size (done_of (page_check b.page)) (state_refused b) (done_of (groups_check groups)))
-      ∙ ap (λ (g : Bool). (g && done_of (page_check b.page)) && not (state_refused b)) (sym (lent-done size))
+      sym (order size (is_ok (page_check b.page)) (state_refused b) (is_ok (groups_check groups)))
+      ∙ ap (λ (g : Bool). (g && is_ok (page_check b.page)) && not (state_refused b)) (sym (lent-done size))
       ∙ clear-check b (lent_by size groups)
 
-  pub not-clear : early ≡ true → false ≡ done_of (call_check b (lent_by size groups) false false)
-  not-clear e = ap (λ (t : Bool). pick t false (done_of (groups_check groups))) (sym e) ∙ all
+  pub not-clear : early ≡ true → false ≡ is_ok (call_check b (lent_by size groups) false false)
+  not-clear e = ap (λ (t : Bool). pick t false (is_ok (groups_check groups))) (sym e) ∙ all
 
-  pub clear-but : early ≡ false → done_of (groups_check groups) ≡ done_of (call_check b (lent_by size groups) false false)
-  clear-but e = ap (λ (t : Bool). pick t false (done_of (groups_check groups))) (sym e) ∙ all
+  pub clear-but : early ≡ false → is_ok (groups_check groups) ≡ is_ok (call_check b (lent_by size groups) false false)
+  clear-but e = ap (λ (t : Bool). pick t false (is_ok (groups_check groups))) (sym e) ∙ all
 
 -- where neither the sizes nor the page refuse it, the state does
-pub range-left : (b : Board) (lent : Refusal) → done_of (call_check b lent false false) ≡ false → done_of lent ≡ true → done_of (page_check b.page) ≡ true
-    → Range ≡ call_check b lent false false
+pub range-left : (b : Board) (lent : Checked) → is_ok (call_check b lent false false) ≡ false → is_ok lent ≡ true → is_ok (page_check b.page) ≡ true
+    → (Err Range) ≡ call_check b lent false false
 unfolding call_check
 range-left b lent n s d = rw (s, d) (go (state_refused b) (rw (s, d) at n))
   where
-    go : (r : Bool) → done_of (pick (r || false) Range Done) ≡ false → Range ≡ pick (r || false) Range Done
+    go : (r : Bool) → is_ok (pick (r || false) (Err Range) unrefused) ≡ false → (Err Range) ≡ pick (r || false) (Err Range) unrefused
     go true e = refl
     go false e = absurd (true≢false e)
 
@@ -205,13 +204,13 @@ module _ (b : Board) (chars attrs : List ℕ) (f : Font) where
   unfolding stepped_of clock_with
   clocked most = rw (signals-shown b chars attrs f.words f.flags (line_in b (active_at b.page b.place) (code_in b chars) f.unshifted f.shifted f.groups) (code_in b chars) (held_of b chars) (address_of b chars), dots-shown b chars attrs f (code_in b chars) (held_of b chars) (address_of b chars) most)
 
-  pub clock-done : done_of (step_check b chars attrs f) ≡ true → b.page.video.dots.0 ≤ 12 → (c : Carried) → c ≡ loaded_in b.page chars b.place
+  pub clock-done : is_ok (step_check b chars attrs f) ≡ true → b.page.video.dots.0 ≤ 12 → (c : Carried) → c ≡ loaded_in b.page chars b.place
       → (active : Bool) → active ≡ active_at b.page b.place → (line : FontLine) → line ≡ line_in b active c.beam.code f.unshifted f.shifted f.groups
       → (r : Clock) → r ≡ clock_with b chars attrs f.words f.flags line → r ≡ clock_in (step_of b chars attrs f)
   unfolding step_of
   clock-done e most c ec active ea line el r h = rw e (h ∙ (rw (el, ea, ec) (clocked most)))
 
-  pub clock-refused : done_of (step_check b chars attrs f) ≡ false → (r : Refusal) → r ≡ step_check b chars attrs f
+  pub clock-refused : is_ok (step_check b chars attrs f) ≡ false → (r : Checked) → r ≡ step_check b chars attrs f
       → ◌≡◌ {A = Clock} (record { refusal = r; signals = no_signals; address = 0; dots = replicate 12 0; place = b.place }) (clock_in (step_of b chars attrs f))
   unfolding step_of
   clock-refused e r h = rw (h, e)
@@ -228,4 +227,4 @@ module _ (b : Board) (chars attrs : List ℕ) (f : Font) where
   pub stepped : (c : Clock) → c ≡ clock_in (step_of b chars attrs f) → (n : Board) → n ≡ with_place b c.place
       → ◌≡◌ {A = Stepped} (record { refusal = c.refusal; signals = c.signals; address = c.address; dots = c.dots; board = n }) (step_of b chars attrs f)
   unfolding step_of
-  stepped c ec n en = rw (en, ec) (again_by (done_of (step_check b chars attrs f)) _ refl)
+  stepped c ec n en = rw (en, ec) (again_by (is_ok (step_check b chars attrs f)) _ refl)

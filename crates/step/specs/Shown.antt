@@ -2,7 +2,7 @@
 -- Laws ties it to the signals and dots of Signals.
 use Rattle.std.specs.Prelude.{ℕ, Bool, false, ◌&&◌, ◌||◌, not, List, get_or}
 use Rattle.lists.specs.Choice.{pick}
-use Rattle.refusal.specs.declared.Refusal.TheVariants.{Done}
+use Rattle.refusal.specs.Number.{unrefused}
 use Rattle.raster.specs.Wide.{code_of, is_wide}
 use Rattle.board.specs.declared.Board.{Board}
 use Rattle.board.specs.Modes.{setters_hidden}
@@ -66,7 +66,7 @@ dots_shown b k s =
 -- a clock that nothing refuses
 unfoldable pub clock_with : Board → (chars attrs words flags : List ℕ) → FontLine → Clock
 clock_with b chars attrs words flags line = record {
-  refusal = Done;
+  refusal = unrefused;
   signals = signals_with b (shown_in b chars attrs words flags line (code_in b chars) (held_of b chars) (address_of b chars)).cursor;
   address = address_of b chars;
   dots = dots_shown b (code_in b chars) (shown_in b chars attrs words flags line (code_in b chars) (held_of b chars) (address_of b chars));

@@ -1,13 +1,13 @@
 -- The page check of 01, and the size of an accepted page's picture.
-use Rattle.std.specs.Prelude.{◌+◌, ◌-◌, ◌/◌, ◌%◌, Bool, ◌&&◌, ◌||◌, not, [], ◌∷◌, eqb, ltb, leb}
+use Rattle.std.specs.Prelude.{◌+◌, ◌-◌, ◌/◌, ◌%◌, Bool, ◌&&◌, ◌||◌, not, [], ◌∷◌, eqb, ltb, leb, is_ok, Err, Result}
 use Rattle.lists.specs.Choice.{pick, first_of}
 use Rattle.units.specs.declared.Clocks.{Clocks}
 use Rattle.units.specs.declared.Dots.{Dots}
 use Rattle.units.specs.declared.Lines.{Lines}
 use Rattle.units.specs.Units.{clocks, lines, dots, dots_of}
 use Rattle.refusal.specs.declared.Refusal.{Refusal}
-use Rattle.refusal.specs.declared.Refusal.TheVariants.{Done, Reserved, BackPorch, LineShort, FrontPorch, Width, Range, Room, Address}
-use Rattle.refusal.specs.Number.{done_of}
+use Rattle.refusal.specs.declared.Refusal.TheVariants.{Reserved, BackPorch, LineShort, FrontPorch, Width, Range, Room, Address}
+use Rattle.refusal.specs.Number.{unrefused, Checked, given}
 use Rattle.board.specs.declared.Page.{Page}
 use Rattle.board.specs.declared.Board.{Board}
 use Rattle.board.specs.Range.{address_refused, cells_refused, pointer_refused}
@@ -46,28 +46,21 @@ width_refused d = ltb d.0 6 || ltb 12 d.0
 
 -- [refusal order] lowest number first, except that 12 precedes 4, and 13, 14 and 15 stand in 5's place
 -- 12, 4, 13, 14, 15, 6
-unfoldable pub page_check : Page → Refusal
+unfoldable pub page_check : Page → Checked
 page_check p =
     first_of
-    ((address_refused p, Address)
-    ∷ (reserved_refused p, Reserved)
-    ∷ (back_porch_refused p, BackPorch)
-    ∷ (line_short p, LineShort (missing p))
-    ∷ (front_porch_refused p, FrontPorch (missing p))
-    ∷ (width_refused p.video.dots, Width)
+    ((address_refused p, Err Address)
+    ∷ (reserved_refused p, Err Reserved)
+    ∷ (back_porch_refused p, Err BackPorch)
+    ∷ (line_short p, Err (LineShort (missing p)))
+    ∷ (front_porch_refused p, Err (FrontPorch (missing p)))
+    ∷ (width_refused p.video.dots, Err Width)
     ∷ [])
-    Done
+    unrefused
 
-abbrev pub sized : Refusal → Lines → Dots → PageSize
-sized r l d = record { refusal = r; lines = l; dots = d }
-
--- [refusal zeros]
--- rows x lines visible lines of HACT x dots; zeros on a refusal
-unfoldable pub size_of : Page → PageSize
-size_of p =
-    pick (done_of (page_check p))
-    (sized (page_check p) (visible_of p) (dots_of (clocks (hact_of p)) p.video.dots))
-    (sized (page_check p) (lines 0) (dots 0))
+-- rows x lines visible lines of HACT x dots
+unfoldable pub size_of : Page → Result PageSize Refusal
+size_of p = given (page_check p) (record { lines = visible_of p; dots = dots_of (clocks (hact_of p)) p.video.dots })
 
 -- [refusal numbers]
 -- 7: a state's line, clock in the line, address, row start or IR pointer out of range
@@ -80,12 +73,12 @@ state_refused b =
 
 -- [refusal order]
 -- drawing, stepping, states and runs give what refuses a lent part, 3, then the page's own 12, 4, 13, 14, 15, 6, then 7 for the state and for what is asked, then 8
-unfoldable pub call_check : Board → (lent : Refusal) → (asked room : Bool) → Refusal
+unfoldable pub call_check : Board → (lent : Checked) → (asked room : Bool) → Checked
 call_check b lent asked room =
     first_of
-    ((not (done_of lent), lent)
-    ∷ (not (done_of (page_check b.page)), page_check b.page)
-    ∷ (state_refused b || asked, Range)
-    ∷ (room, Room)
+    ((not (is_ok lent), lent)
+    ∷ (not (is_ok (page_check b.page)), page_check b.page)
+    ∷ (state_refused b || asked, Err Range)
+    ∷ (room, Err Room)
     ∷ [])
-    Done
+    unrefused

@@ -1,15 +1,14 @@
 -- What callers use of the definitions: bounds that hold of any registers, and what an accepted page gives. Assumes nothing.
-use Rattle.std.specs.Prelude.{ℕ, ◌*◌, ◌/◌, ◌%◌, ◌≤◌, ◌<◌, ◌≡◌, refl, Bool, true, false, not, ◌&&◌, ◌||◌, eqb, ltb, leb}
+use Rattle.std.specs.Prelude.{ℕ, ◌*◌, ◌/◌, ◌%◌, ◌≤◌, ◌<◌, ◌≡◌, refl, Bool, true, false, not, ◌&&◌, ◌||◌, eqb, ltb, leb, is_ok, Err}
 use Rattle.std.proofs.Common.{true≢false, mul-le-mul, div-lt_iff_lt-mul, arith, ltb-false, leb-false, le-ltb}
 use Rattle.std.proofs.lemmas.Bool.{eqb-false, lt-leb}
 use Rattle.lists.specs.Choice.{pick, neither, pick-le}
 use Rattle.units.specs.declared.Lines.{Lines}
 use Rattle.units.specs.declared.Dots.{Dots}
 use Rattle.units.specs.Units.{clocks_of}
-use Rattle.refusal.specs.declared.Refusal.{Refusal}
-use Rattle.refusal.specs.declared.Refusal.TheVariants.{Done, Reserved, BackPorch, LineShort, FrontPorch, Width, Range, Room, Address}
-use Rattle.refusal.specs.Number.{done_of}
-use Rattle.refusal.specs.Laws.{done-is, passed, not-refused}
+use Rattle.refusal.specs.declared.Refusal.TheVariants.{Reserved, BackPorch, LineShort, FrontPorch, Width, Range, Room, Address}
+use Rattle.refusal.specs.Number.{Checked, unrefused, check_of}
+use Rattle.refusal.specs.Laws.{done-is, check-given, passed, not-refused}
 use Rattle.raster.specs.Moves.{Bounded}
 use Rattle.raster.specs.Raster.{Good}
 use Rattle.board.specs.declared.Page.{Page}
@@ -17,7 +16,7 @@ use Rattle.board.specs.declared.Board.{Board}
 use Rattle.board.specs.Layout.{last_ir}
 use Rattle.board.specs.Range.{starts_refused, switches_refused, video_refused, address_refused, cells_refused, pointer_refused}
 use Rattle.timing.specs.Fields.{ir, coded_of, scans_of, lines_of, table_of, hbp_of, blink_of, rows_of, hact_of, cursor_of, ht_of, hfp_of, vsync_by, vsync_of, visible_of, vt_of, buffer_of, counts_of}
-use Rattle.timing.specs.Check.{reserved_refused, back_porch_refused, line_short, front_porch_refused, missing, width_refused, page_check, sized, size_of, state_refused, call_check}
+use Rattle.timing.specs.Check.{reserved_refused, back_porch_refused, line_short, front_porch_refused, missing, width_refused, page_check, size_of, state_refused, call_check}
 
 -- ---- any registers
 
@@ -110,17 +109,17 @@ no_code c true e off = absurd (true≢false off)
 no_code true false e off = e
 no_code false false e off = refl
 
-pub accepted : (p : Page) → page_check p ≡ Done → Accepted p
+pub accepted : (p : Page) → page_check p ≡ unrefused → Accepted p
 unfolding page_check address_refused
 accepted p e =
     let s = p.starts in
     let d = p.video.dots.0 in
-    let a = passed (address_refused p) Address _ refl e in
-    let b = passed (reserved_refused p) Reserved _ refl a.1 in
-    let c = passed (back_porch_refused p) BackPorch _ refl b.1 in
-    let l = passed (line_short p) (LineShort (missing p)) _ refl c.1 in
-    let f = passed (front_porch_refused p) (FrontPorch (missing p)) _ refl l.1 in
-    let w = passed (width_refused p.video.dots) Width _ refl f.1 in
+    let a = passed (address_refused p) (Err Address) _ refl e in
+    let b = passed (reserved_refused p) (Err Reserved) _ refl a.1 in
+    let c = passed (back_porch_refused p) (Err BackPorch) _ refl b.1 in
+    let l = passed (line_short p) (Err (LineShort (missing p))) _ refl c.1 in
+    let f = passed (front_porch_refused p) (Err (FrontPorch (missing p))) _ refl l.1 in
+    let w = passed (width_refused p.video.dots) (Err Width) _ refl f.1 in
     let known = switches_refused p.version p.switches in
     let a4 = neither (starts_refused s || known) (video_refused p.version p.video) a.0 in
     let a3 = neither (starts_refused s) known a4.0 in
@@ -188,20 +187,20 @@ in-range b e =
       pointer-le = ltb-false _ _ d.1;
     }
 
-pub record Passed (b : Board) (lent : Refusal) (asked room : Bool) : Type 0 where
-  pub lent-fine : lent ≡ Done
+pub record Passed (b : Board) (lent : Checked) (asked room : Bool) : Type 0 where
+  pub lent-fine : lent ≡ unrefused
   pub page : Accepted b.page
   pub state : InRange b
   pub in_reach : asked ≡ false
   pub roomy : room ≡ false
 
-pub call-passed : (b : Board) (lent : Refusal) (asked room : Bool) → call_check b lent asked room ≡ Done → Passed b lent asked room
+pub call-passed : (b : Board) (lent : Checked) (asked room : Bool) → call_check b lent asked room ≡ unrefused → Passed b lent asked room
 unfolding call_check
 call-passed b lent asked room e =
     let s = not-refused lent _ e in
     let p = not-refused (page_check b.page) _ s.1 in
-    let r = passed (state_refused b || asked) Range _ refl p.1 in
-    let o = passed room Room _ refl r.1 in
+    let r = passed (state_refused b || asked) (Err Range) _ refl p.1 in
+    let o = passed room (Err Room) _ refl r.1 in
     let q = neither (state_refused b) asked r.0 in
     record {
       lent-fine = s.0;
@@ -211,7 +210,7 @@ call-passed b lent asked room e =
       roomy = o.0;
     }
 
-pub call-page : (b : Board) (lent : Refusal) (asked room : Bool) → call_check b lent asked room ≡ Done → page_check b.page ≡ Done
+pub call-page : (b : Board) (lent : Checked) (asked room : Bool) → call_check b lent asked room ≡ unrefused → page_check b.page ≡ unrefused
 unfolding call_check
 call-page b lent asked room e = (not-refused (page_check b.page) _ (not-refused lent _ e).1).0
 
@@ -226,25 +225,21 @@ range-ok b i =
     let row = le-ltb 16383 b.place.row.address i.row-le in
     rw (line, clock, beam, row, le-ltb (last_ir b.page.version) b.pointer i.pointer-le)
 
-pub call_ok : (b : Board) (lent : Refusal) → lent ≡ Done → page_check b.page ≡ Done → state_refused b ≡ false → call_check b lent false false ≡ Done
+pub call_ok : (b : Board) (lent : Checked) → lent ≡ unrefused → page_check b.page ≡ unrefused → state_refused b ≡ false → call_check b lent false false ≡ unrefused
 unfolding call_check
 call_ok b lent s p r = rw (s, p, r)
 
--- the refusal that comes with the size is the page's own
-pub size-refusal : (p : Page) → (size_of p).refusal ≡ page_check p
+-- the refusal of the size is the page's own
+pub size-refusal : (p : Page) → check_of (size_of p) ≡ page_check p
 unfolding size_of
-size-refusal p = go (done_of (page_check p)) _ _ _ _
-  where
-    go : (t : Bool) (l k : Lines) (d e : Dots) → (pick t (sized (page_check p) l d) (sized (page_check p) k e)).refusal ≡ page_check p
-    go true l k d e = refl
-    go false l k d e = refl
+size-refusal p = check-given (page_check p) _
 
 -- what is asked for and the room count only where the page is accepted
-pub asked-last : (b : Board) (lent : Refusal) (a r a' r' : Bool) → (page_check b.page ≡ Done → (a ≡ a') × (r ≡ r'))
+pub asked-last : (b : Board) (lent : Checked) (a r a' r' : Bool) → (page_check b.page ≡ unrefused → (a ≡ a') × (r ≡ r'))
     → call_check b lent a r ≡ call_check b lent a' r'
 unfolding call_check
-asked-last b lent a r a' r' h = go (done_of (page_check b.page)) refl
+asked-last b lent a r a' r' h = go (is_ok (page_check b.page)) refl
   where
-    go : (d : Bool) → done_of (page_check b.page) ≡ d → call_check b lent a r ≡ call_check b lent a' r'
+    go : (d : Bool) → is_ok (page_check b.page) ≡ d → call_check b lent a r ≡ call_check b lent a' r'
     go true e = rw ((h (done-is _ e)).0, (h (done-is _ e)).1)
     go false e = rw e

@@ -1,11 +1,11 @@
 #![tactic(auto)]
 // The registers decoded into counts (003 Table 2), the page check, and the size of a picture.
-ghost use Rattle.std.specs.Prelude.{◌≡◌, [], ◌∷◌, ◌/◌, ◌%◌};
-ghost use Rattle.lists.specs.Choice.{first_of};
+ghost use Rattle.std.specs.Prelude.{◌≡◌, ◌/◌, ◌%◌};
 ghost use Rattle.units.specs.Units.{clocks, lines};
-ghost use Rattle.refusal.specs.declared.Refusal.{Refusal};
 ghost use Rattle.timing.specs.Fields.{coded_of, scans_of, lines_of, ec_of, table_of, hsync_of, hbp_of, vfp_of, vbp_of, blink_of, rows_of, hact_of, cursor_of, vsync_of, underline_of, buffer_of, ht_of, rest_of, hfp_of, visible_of, vt_of, counts_of, timing_of};
 ghost use Rattle.timing.specs.Check.{reserved_refused, back_porch_refused, line_short, front_porch_refused, missing, width_refused, page_check, size_of, state_refused, call_check};
+
+use refusal::Refusal;
 
 // A line's and a frame's front porch and sync, and the counts that the beam goes by.
 #[derive(Clone, Copy)]
@@ -29,7 +29,6 @@ pub struct CursorLook {
 // The visible lines of a page, and the dots in each.
 #[derive(Clone, Copy)]
 pub struct PageSize {
-    pub refusal: refusal::Refusal,
     pub lines: units::Lines,
     pub dots: units::Dots,
 }
@@ -261,68 +260,46 @@ pub fn width_refused(d: units::Dots) -> bool
     d.below(units::Dots(6)) | units::Dots(12).below(d)
 }
 
-// The order of the page check, where so many clocks are missing.
-fn first_of(
-    address: bool,
-    reserved: bool,
-    back: bool,
-    short: bool,
-    front: bool,
-    width: bool,
-    missing: units::Clocks,
-) -> refusal::Refusal
-    ensures { result ≡ first_of ((address, Refusal.Address) ∷ (reserved, Refusal.Reserved) ∷ (back, Refusal.BackPorch)
-        ∷ (short, Refusal.LineShort missing) ∷ (front, Refusal.FrontPorch missing) ∷ (width, Refusal.Width) ∷ []) Refusal.Done }
-{
-    if address {
-        refusal::Refusal::Address
-    } else if reserved {
-        refusal::Refusal::Reserved
-    } else if back {
-        refusal::Refusal::BackPorch
-    } else if short {
-        refusal::Refusal::LineShort(missing)
-    } else if front {
-        refusal::Refusal::FrontPorch(missing)
-    } else if width {
-        refusal::Refusal::Width
-    } else {
-        refusal::Refusal::Done
-    }
-}
-
-pub fn page_check(p: board::Page) -> refusal::Refusal
+// 12, 4, 13, 14, 15, 6, in this order.
+#[tactic(auto, unfolding(crate::specs::Check::page_check))]
+pub fn page_check(p: board::Page) -> Result<(), Refusal>
     ensures { result ≡ page_check p }
 {
-    let dots = p.video.dots;
-    first_of(
-        board::address_refused(p),
-        reserved_refused(p),
-        back_porch_refused(p),
-        line_short(p),
-        front_porch_refused(p),
-        width_refused(dots),
-        missing(p),
-    )
+    let address = board::address_refused(p);
+    let reserved = reserved_refused(p);
+    let back = back_porch_refused(p);
+    let short = line_short(p);
+    let front = front_porch_refused(p);
+    if address {
+        return Err(Refusal::Address);
+    }
+    if reserved {
+        return Err(Refusal::Reserved);
+    }
+    if back {
+        return Err(Refusal::BackPorch);
+    }
+    if short {
+        return Err(Refusal::LineShort(missing(p)));
+    }
+    if front {
+        return Err(Refusal::FrontPorch(missing(p)));
+    }
+    if width_refused(p.video.dots) {
+        return Err(Refusal::Width);
+    }
+    Ok(())
 }
 
-pub fn page_size(p: board::Page) -> PageSize
+#[tactic(auto, unfolding(crate::specs::Check::size_of))]
+pub fn page_size(p: board::Page) -> Result<PageSize, Refusal>
     ensures { result ≡ size_of p }
 {
-    let refused = page_check(p);
-    if refusal::is_done(refused) {
-        let dots = p.video.dots;
-        return PageSize {
-            refusal: refused,
-            lines: visible_of(p),
-            dots: units::dots_of(hact_of(p), dots),
-        };
-    }
-    PageSize {
-        refusal: refused,
-        lines: units::Lines(0),
-        dots: units::Dots(0),
-    }
+    page_check(p)?;
+    Ok(PageSize {
+        lines: visible_of(p),
+        dots: units::dots_of(hact_of(p), p.video.dots),
+    })
 }
 
 // 7, for a board's own numbers.
@@ -337,46 +314,23 @@ pub fn state_refused(b: board::Board) -> bool
         | board::pointer_refused(page, b.pointer)
 }
 
-fn call_order(
-    unfit: bool,
-    lent: refusal::Refusal,
-    refused: bool,
-    page: refusal::Refusal,
-    range: bool,
-    room: bool,
-) -> refusal::Refusal
-    ensures { result ≡ first_of ((unfit, lent) ∷ (refused, page) ∷ (range, Refusal.Range) ∷ (room, Refusal.Room) ∷ []) Refusal.Done }
-{
-    if unfit {
-        lent
-    } else if refused {
-        page
-    } else if range {
-        refusal::Refusal::Range
-    } else if room {
-        refusal::Refusal::Room
-    } else {
-        refusal::Refusal::Done
-    }
-}
-
 // What drawing, stepping, states and runs ask: what refuses a lent part, whether what was asked for is out of range, and whether the room is short.
+#[tactic(auto, unfolding(crate::specs::Check::call_check))]
 pub fn call_check(
     b: board::Board,
-    lent: refusal::Refusal,
+    lent: Result<(), Refusal>,
     asked: bool,
     room: bool,
-) -> refusal::Refusal
+) -> Result<(), Refusal>
     ensures { result ≡ call_check b lent asked room }
 {
-    let p = b.page;
-    let page = page_check(p);
-    call_order(
-        !refusal::is_done(lent),
-        lent,
-        !refusal::is_done(page),
-        page,
-        state_refused(b) | asked,
-        room,
-    )
+    lent?;
+    page_check(b.page)?;
+    if state_refused(b) | asked {
+        return Err(Refusal::Range);
+    }
+    if room {
+        return Err(Refusal::Room);
+    }
+    Ok(())
 }

@@ -1,7 +1,7 @@
 -- 01, "From cell to dots": the cell at an address, from the memories, the font and the scan line.
-use Rattle.std.specs.Prelude.{ℕ, ◌+◌, ◌/◌, ◌%◌, Bool, ◌&&◌, ◌||◌, List, length, get_or, eqb, leb}
+use Rattle.std.specs.Prelude.{ℕ, ◌+◌, ◌/◌, ◌%◌, Bool, ◌&&◌, ◌||◌, List, length, get_or, eqb, leb, Err}
 use Rattle.lists.specs.Choice.{pick, has_bit}
-use Rattle.refusal.specs.declared.Refusal.{Refusal}
+use Rattle.refusal.specs.Number.{Checked}
 use Rattle.refusal.specs.declared.Refusal.TheVariants.{Size}
 use Rattle.raster.specs.declared.Code.{Code}
 use Rattle.raster.specs.Wide.{is_top, is_bottom}
@@ -22,10 +22,10 @@ use Rattle.video.specs.Cell.{cell_dots}
 abbrev pub lent_refused : (chars attrs : List ℕ) → Font → Bool
 lent_refused chars attrs f = memories_refused (length chars) (length attrs) || font_refused f
 
-abbrev pub lent_by : (size : Bool) → (groups : List ℕ) → Refusal
-lent_by size groups = pick size Size (groups_check groups)
+abbrev pub lent_by : (size : Bool) → (groups : List ℕ) → Checked
+lent_by size groups = pick size (Err Size) (groups_check groups)
 
-abbrev pub lent_check : (chars attrs : List ℕ) → Font → Refusal
+abbrev pub lent_check : (chars attrs : List ℕ) → Font → Checked
 lent_check chars attrs f = lent_by (lent_refused chars attrs f) f.groups
 
 -- [R-4 halves] top halves use scan line floor(l/2), bottom halves floor((L+l)/2), for font, cursor, underline and strike

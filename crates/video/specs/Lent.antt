@@ -1,7 +1,8 @@
 -- What a call over page, memories and font has once nothing is refused. Assumes nothing.
-use Rattle.std.specs.Prelude.{ℕ, ◌≡◌, refl, Bool, false, ◌||◌, List, length}
+use Rattle.std.specs.Prelude.{ℕ, ◌≡◌, refl, Bool, false, ◌||◌, List, length, Err}
 use Rattle.lists.specs.Choice.{neither}
-use Rattle.refusal.specs.declared.Refusal.TheVariants.{Done, Size}
+use Rattle.refusal.specs.Number.{unrefused}
+use Rattle.refusal.specs.declared.Refusal.TheVariants.{Size}
 use Rattle.refusal.specs.Laws.{passed}
 use Rattle.board.specs.declared.Board.{Board}
 use Rattle.board.specs.Range.{memories_refused}
@@ -21,10 +22,10 @@ pub record Lent (b : Board) (chars attrs words flags : List ℕ) : Type 0 where
   pub words-all : length words ≡ 1152
   pub flags-all : length flags ≡ 128
 
-module _ (b : Board) (chars attrs : List ℕ) (f : Font) (asked room : Bool) (e : call_check b (lent_check chars attrs f) asked room ≡ Done) where
+module _ (b : Board) (chars attrs : List ℕ) (f : Font) (asked room : Bool) (e : call_check b (lent_check chars attrs f) asked room ≡ unrefused) where
   sizes : (memories_refused (length chars) (length attrs) ≡ false) × (font_refused f ≡ false)
   sizes =
-      let sized = passed (memories_refused (length chars) (length attrs) || font_refused f) Size _ refl (call-passed b (lent_check chars attrs f) asked room e).lent-fine in
+      let sized = passed (memories_refused (length chars) (length attrs) || font_refused f) (Err Size) _ refl (call-passed b (lent_check chars attrs f) asked room e).lent-fine in
       neither (memories_refused (length chars) (length attrs)) (font_refused f) sized.0
 
   -- the font's five parts

@@ -11,6 +11,8 @@ ghost use Rattle.video.specs.Look.{look_of};
 ghost use Rattle.shape.specs.Font.{lent_font};
 ghost use Rattle.video.specs.At.{lent_refused, lent_by, lent_check, reading_of, graphics_by, scan_of, scan_at, counted_byte, shown_code};
 
+use refusal::Refusal;
+
 // What is the same for all cells of a scan line: whether the picture is shown, the blank level, BKGND, BLINK, whether this is the
 // underline line and the strike line, whether the cursor gate opens on this line, and at which address.
 #[derive(Clone, Copy)]
@@ -341,11 +343,11 @@ pub fn lent_refused(
 }
 
 // Then 12, for the groups.
-pub fn lent_by(size: bool, groups: &[u8]) -> refusal::Refusal
+pub fn lent_by(size: bool, groups: &[u8]) -> Result<(), Refusal>
     ensures { result ≡ lent_by size groups.now }
 {
     if size {
-        return refusal::Refusal::Size;
+        return Err(Refusal::Size);
     }
     shape::groups_check(groups)
 }
@@ -359,7 +361,7 @@ pub fn lent_check(
     unshifted: &[u8],
     shifted: &[u8],
     groups: &[u8],
-) -> refusal::Refusal
+) -> Result<(), Refusal>
     ensures { result ≡ lent_check chars.now attrs.now (lent_font words flags unshifted shifted groups) }
 {
     let size = lent_refused(chars, attrs, words, flags, unshifted, shifted, groups);

@@ -1,8 +1,8 @@
 -- Rests on not-room and not_saved for the refusals; else on the page that was put.
+use Rattle.std.specs.Prelude.{is_ok}
 use mathlib.Core.Path.{◌≡◌}
 use mathlib.Core.Bool.{true}
 use borrow.Author.Rules.{rules}
-use Rattle.refusal.specs.Number.{done_of}
 use Rattle.refusal.specs.Laws.{done-is, checked}
 use Rattle.timing.specs.Check.{page_check}
 use Rattle.timing.specs.Laws.{accepted}
@@ -14,12 +14,12 @@ returns-then-numbers-ne32 c = let args = c.args in not-room args.b args.numbers.
 
 pub put_own-requires : goal.put_own-requires
 put_own-requires c =
-    let done : done_of (page_check c.args.b.page) ≡ true = checked c.page_check-refused.ensures c.is_done.ensures c.if-is_done.true in
+    let done : is_ok (page_check c.args.b.page) ≡ true = checked c.page_check-refused.ensures c.is_done.ensures c.if-is_done.true in
     ((accepted c.args.b.page (done-is _ done)).most, search rules)
 
 pub returns-then-is_done : goal.returns-then-is_done
 returns-then-is_done c =
-    let done : done_of (page_check c.args.b.page) ≡ true = checked c.page_check-refused.ensures c.is_done.ensures c.if-is_done.true in
+    let done : is_ok (page_check c.args.b.page) ≡ true = checked c.page_check-refused.ensures c.is_done.ensures c.if-is_done.true in
     saved c.args.b c.args.numbers.now c.if-numbers-ne32.false c.page_check-refused.ensures done
     (page-put c.args.b.page c.clear.ensures c.put_own.ensures)
 

@@ -1,7 +1,7 @@
 -- Rests on picture-passed, from which what whole_picture asks follows, and on as-picture: it draws the picture.
 use mathlib.Core.Path.{◌≡◌, ap, ◌∙◌}
+use Rattle.refusal.specs.Number.{Checked}
 use lib.ListN.{length}
-use Rattle.refusal.specs.declared.Refusal.{Refusal}
 use Rattle.refusal.specs.Laws.{done-is, checked}
 use Rattle.shape.specs.Font.{Font, font_of}
 use Rattle.video.specs.At.{lent_check}
@@ -14,7 +14,7 @@ whole_picture-requires c =
     let font : Font = font_of c.args.words.now c.args.flags.now c.args.unshifted.now c.args.shifted.now c.args.groups.now in
     let check : c.picture_check-refused.result ≡ picture_check c.args.b (lent_check c.args.chars.now c.args.attrs.now font) (length c.args.out.now) =
     c.picture_check-refused.ensures
-    ∙ ap (λ (lent : Refusal). picture_check c.args.b lent (length c.args.out.now)) c.lent_check-lent.ensures in
+    ∙ ap (λ (lent : Checked). picture_check c.args.b lent (length c.args.out.now)) c.lent_check-lent.ensures in
     picture-passed _ _ _ font _ (done-is _ (checked check c.is_done.ensures c.if-is_done.true))
 
 pub returns-then-is_done : goal.returns-then-is_done
@@ -22,7 +22,7 @@ returns-then-is_done c =
     let font : Font = font_of c.args.words.now c.args.flags.now c.args.unshifted.now c.args.shifted.now c.args.groups.now in
     let check : c.picture_check-refused.result ≡ picture_check c.args.b (lent_check c.args.chars.now c.args.attrs.now font) (length c.args.out.now) =
     c.picture_check-refused.ensures
-    ∙ ap (λ (lent : Refusal). picture_check c.args.b lent (length c.args.out.now)) c.lent_check-lent.ensures in (
+    ∙ ap (λ (lent : Checked). picture_check c.args.b lent (length c.args.out.now)) c.lent_check-lent.ensures in (
       check,
       left-pictured _ _ _ font _ _ (checked check c.is_done.ensures c.if-is_done.true) _
           (as-picture _ _ _ font _ _ _ _ c.font_lines-lines.ensures c.whole_picture.ensures),
@@ -33,5 +33,5 @@ returns-else-is_done c =
     let font : Font = font_of c.args.words.now c.args.flags.now c.args.unshifted.now c.args.shifted.now c.args.groups.now in
     let check : c.picture_check-refused.result ≡ picture_check c.args.b (lent_check c.args.chars.now c.args.attrs.now font) (length c.args.out.now) =
     c.picture_check-refused.ensures
-    ∙ ap (λ (lent : Refusal). picture_check c.args.b lent (length c.args.out.now)) c.lent_check-lent.ensures in
+    ∙ ap (λ (lent : Checked). picture_check c.args.b lent (length c.args.out.now)) c.lent_check-lent.ensures in
     (check, left_alone _ _ _ font c.args.field _ (checked check c.is_done.ensures c.if-is_done.false))

@@ -1,16 +1,15 @@
 -- Rests on the match over command bytes: each arm is one case of command_of.
-use mathlib.Core.Path.{refl, ap, ◌∙◌}
+use mathlib.Core.Path.{refl, ap}
+use Rattle.std.specs.Prelude.{Ok}
 use native.Mathlib.Omega.{arith}
 use borrow.Author.Tests.{eq-eqb, ne_eqb}
 use Rattle.lists.specs.Choice.{stop, pass, inside, under, over}
-use Rattle.refusal.specs.declared.Refusal.TheVariants.{Done}
-use Rattle.registers.specs.Answers.{answer}
 use Rattle.registers.specs.Write.{command_of}
 use Rattle.registers.proofs.command.Goals as goal
 
 pub returns-in-0 : goal.returns-in-0
 unfolding command_of
-returns-in-0 c = stop _ (eq-eqb _ _ c.in-0.is) (c.done.ensures ∙ ap (answer Done) c.reset.ensures)
+returns-in-0 c = stop _ (eq-eqb _ _ c.in-0.is) (ap Ok c.reset.ensures)
 
 pub returns-in-16-to-31 : goal.returns-in-16-to-31
 unfolding command_of
@@ -25,7 +24,7 @@ returns-then-v c =
     pass _ (ne_eqb v 0 (λ e. omega arith))
     (pass _ (over 16 31 v (omega arith))
     (stop _ (inside 32 63 v (omega arith) (omega arith))
-    (stop _ c.if-v.true (c.done-then-v.ensures ∙ ap (answer Done) c.switched.ensures))))
+    (stop _ c.if-v.true (ap Ok c.switched.ensures))))
 
 pub returns-else-v : goal.returns-else-v
 unfolding command_of

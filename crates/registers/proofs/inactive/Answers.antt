@@ -1,9 +1,8 @@
 -- Rests on the ranges of addresses, and on whether the write is a reset.
-use mathlib.Core.Path.{refl, ap, ◌∙◌}
+use mathlib.Core.Path.{refl, ap}
+use Rattle.std.specs.Prelude.{Ok}
 use native.Mathlib.Omega.{arith}
 use Rattle.lists.specs.Choice.{stop, pass, inside, over}
-use Rattle.refusal.specs.declared.Refusal.TheVariants.{Done}
-use Rattle.registers.specs.Answers.{answer}
 use Rattle.registers.specs.Write.{inactive_of}
 use Rattle.registers.proofs.inactive.Goals as goal
 
@@ -12,14 +11,14 @@ unfolding inactive_of
 returns-then-a-v c =
     let a = c.args.a in
     stop _ (inside 0 7 a (omega arith) (omega arith))
-    (stop _ c.if-a-v.true (c.done.ensures ∙ ap (answer Done) c.reset.ensures))
+    (stop _ c.if-a-v.true (ap Ok c.reset.ensures))
 
 pub returns-else-a-v : goal.returns-else-a-v
 unfolding inactive_of
 returns-else-a-v c =
     let a = c.args.a in
     stop _ (inside 0 7 a (omega arith) (omega arith))
-    (pass _ c.if-a-v.false (c.done-else-a-v.ensures ∙ ap (answer Done) c.broken.ensures))
+    (pass _ c.if-a-v.false (ap Ok c.broken.ensures))
 
 pub returns-in_default : goal.returns-in_default
 unfolding inactive_of

@@ -1,6 +1,6 @@
 -- Rests on not-clear and clear-but, by whether all but the groups is fine.
+use Rattle.std.specs.Prelude.{is_ok}
 use mathlib.Core.Path.{ap, ◌∙◌}
-use Rattle.refusal.specs.Number.{done_of}
 use Rattle.step.specs.Laws.{not-clear, clear-but}
 use Rattle.step.proofs.clear.Goals as goal
 
@@ -9,5 +9,5 @@ returns-then-size-is_done c = not-clear c.args.b c.args.size c.args.groups.now (
 
 pub returns : goal.returns
 returns c =
-    c.is_done-2.ensures ∙ ap done_of c.groups_check.ensures
+    c.is_done-2.ensures ∙ ap is_ok c.groups_check.ensures
     ∙ clear-but c.args.b c.args.size c.args.groups.now (rw (c.state_refused.ensures, c.is_done.ensures, c.page_check.ensures) at c.if-size-is_done.false)
