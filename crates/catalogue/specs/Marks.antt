@@ -2,7 +2,7 @@
 --     marked-none, marked_more      the loop that marks
 --     Searching                     where the loop that searches stands, and how it begins, goes on and ends
 --     sheet-place                   of a sheet it finds the place of `ToTable.antt`
-use Rattle.std.specs.Prelude.{ℕ, ◌+◌, ◌-◌, ◌*◌, ◌/◌, ◌%◌, ◌≤◌, ◌<◌, ◌≡◌, Bool, ◌&&◌, ◌||◌, ltb, length, get_or, set, replicate, is_ok, Err}
+use Rattle.std.specs.Prelude.{ℕ, ◌+◌, ◌-◌, ◌*◌, ◌/◌, ◌%◌, ◌≤◌, ◌<◌, ◌≡◌, Bool, ◌&&◌, ◌||◌, ltb, length, get_or, set, replicate, Result, IfOk, Ok, Err}
 use Rattle.std.proofs.Math.Path.{refl, sym, ap, ap₂}
 use Rattle.std.proofs.Common.{◌∙◌, true≢false, add_comm, add-mul, one-mul, length-set, ext_get_or, get_or-set_same, get_or-set_other}
 use Rattle.std.proofs.Math.Bool.{true, false, not}
@@ -20,9 +20,10 @@ use Rattle.lists.specs.Search.{any_below, first_below, any_none, any_some, first
 use Rattle.raster.specs.declared.Buffer.{Buffer}
 use Rattle.raster.specs.declared.Cell.{Cell}
 use Rattle.raster.specs.Moves.{cell, advance, advance_by, Bounded, advance_by-lt, advance_by-suc, advance_by-add}
+use Rattle.refusal.specs.declared.Refusal.{Refusal}
 use Rattle.refusal.specs.declared.Refusal.TheVariants.{Kind, Coded, Stretch, Apart}
-use Rattle.refusal.specs.Number.{unrefused, Checked, wrong_size}
-use Rattle.refusal.specs.Laws.{done-is, passed, size-right}
+use Rattle.refusal.specs.Number.{Checked, unrefused, given, after, wrong_size}
+use Rattle.refusal.specs.Laws.{passed, after-passed, size-right}
 use Rattle.board.specs.declared.Page.{Page}
 use Rattle.board.specs.declared.Board.{Board}
 use Rattle.board.specs.Range.{memory_refused}
@@ -32,10 +33,9 @@ use Rattle.timing.specs.Fields.{coded_of, rows_of, hact_of, table_of, buffer_of,
 use Rattle.timing.specs.Laws.{Accepted, call-passed, buffer-bounded}
 use Rattle.fetch.specs.Rows.{entry_of, fetched_of, fetch_at}
 use Rattle.fetch.specs.Laws.{no-codes, start-sheet}
-use Rattle.catalogue.specs.declared.Moved.{Moved}
 use Rattle.catalogue.specs.ToSheet.{follows_row, rows_apart, as_sheet_page, as_sheet_order, as_sheet_check, as_sheet}
 use Rattle.board.specs.Parts.{with_page}
-use Rattle.catalogue.specs.ToTable.{fetches_cell, table_size, table_places, unfetched_at, table_place, table_byte, as_table_page, as_table_chars, own_check, as_table_order, as_table_check, moved_to, as_table, as_table_left}
+use Rattle.catalogue.specs.ToTable.{fetches_cell, table_size, table_places, unfetched_at, table_place, table_byte, as_table_page, as_table_chars, own_check, as_table_order, as_table_check, as_table, as_table_left}
 
 -- a move on from the cell n moves after another
 pub one_on : (b : Buffer) → Bounded b → (n a : ℕ) (x : Cell) → a < 16384 → x ≡ cell (advance_by b n a) → cell (advance b x.address) ≡ cell (advance_by b (n + 1) a)
@@ -256,7 +256,7 @@ module _ (p : Page) (chars : List ℕ) (a : Accepted p) (off : table_of p ≡ fa
 
 -- the check as the code has it
 unfoldable pub sheet_check : Board → (n : ℕ) → Checked
-sheet_check b n = pick (is_ok (own_check b n)) (as_table_order b.page (sheet_place b.page)) (own_check b n)
+sheet_check b n = after (own_check b n) (as_table_order b.page (sheet_place b.page))
 
 pub own-passed : (b : Board) (n : ℕ) → own_check b n ≡ unrefused → Accepted b.page × (n ≡ 16384)
 unfolding own_check
@@ -264,16 +264,16 @@ own-passed b n e = let k = call-passed b (wrong_size (memory_refused n)) false f
 
 pub same_check : (b : Board) (chars : List ℕ) → sheet_check b (length chars) ≡ as_table_check b chars
 unfolding sheet_check as_table_check
-same_check b chars = go (is_ok (own_check b (length chars))) refl (table_of b.page) refl
+same_check b chars = go (own_check b (length chars)) refl (table_of b.page) refl
   where
     p : Page
     p = b.page
 
-    go : (t : Bool) → is_ok (own_check b (length chars)) ≡ t → (on : Bool) → table_of p ≡ on
-        → pick t (as_table_order p (sheet_place p)) (own_check b (length chars)) ≡ pick t (as_table_order p (table_place p chars)) (own_check b (length chars))
-    go false e on q = refl
-    go true e true q = rw q
-    go true e false q = ap (as_table_order p) (sheet-place p chars (own-passed b (length chars) (done-is _ e)).0 q)
+    go : (r : Checked) → own_check b (length chars) ≡ r → (on : Bool) → table_of p ≡ on
+        → after r (as_table_order p (sheet_place p)) ≡ after r (as_table_order p (table_place p chars))
+    go (Err why) e on q = refl
+    go (Ok tt) e true q = rw q
+    go (Ok tt) e false q = ap (as_table_order p) (sheet-place p chars (own-passed b (length chars) e).0 q)
 
 -- a check that nothing refuses
 pub record Movable (b : Board) (chars : List ℕ) : Type 0 where
@@ -286,20 +286,15 @@ pub record Movable (b : Board) (chars : List ℕ) : Type 0 where
 
 pub as-table-passed : (b : Board) (chars : List ℕ) → as_table_check b chars ≡ unrefused → Movable b chars
 unfolding as_table_check table_place
-as-table-passed b chars all = go (is_ok (own_check b (length chars))) refl all
-  where
-    p : Page
-    p = b.page
-
-    go : (t : Bool) → is_ok (own_check b (length chars)) ≡ t → pick t (as_table_order p (table_place p chars)) (own_check b (length chars)) ≡ unrefused → Movable b chars
-    go false q e = absurd (true≢false (sym (ap is_ok e) ∙ q))
-    go true q e =
-        let own = own-passed b (length chars) (done-is _ q) in
-        let kind = passed (table_of p) (Err Kind) _ refl e in
-        let coded = passed (coded_of p) (Err Coded) _ refl kind.1 in
-        let some = passed (eqb (table_place p chars) (table_places p)) (Err Stretch) _ refl coded.1 in
-        let other : table_place p chars ≡ table_places p → ⊥ = λ z. true≢false (sym (eq-eqb _ _ z) ∙ some.0) in
-        record { done = all; own = done-is _ q; page = own.0; whole = own.1; off = kind.0; found = omega (arith, other, first-le (unfetched_at p chars) (table_places p)) }
+as-table-passed b chars all =
+    let p = b.page in
+    let first = after-passed (own_check b (length chars)) _ all in
+    let own = own-passed b (length chars) first.0 in
+    let kind = passed (table_of p) (Err Kind) _ refl first.1 in
+    let coded = passed (coded_of p) (Err Coded) _ refl kind.1 in
+    let some = passed (eqb (table_place p chars) (table_places p)) (Err Stretch) _ refl coded.1 in
+    let other : table_place p chars ≡ table_places p → ⊥ = λ z. true≢false (sym (eq-eqb _ _ z) ∙ some.0) in
+    record { done = all; own = first.0; page = own.0; whole = own.1; off = kind.0; found = omega (arith, other, first-le (unfetched_at p chars) (table_places p)) }
 
 module _ (b : Board) (chars : List ℕ) where
   abbrev page : Page
@@ -312,22 +307,18 @@ module _ (b : Board) (chars : List ℕ) where
       (omega (arith, k, m.found, m.whole), omega (arith, k, m.found))
 
   -- what is answered and left, in the words of the calls that move the page
-  pub as-table-moved : Movable b chars → {r : Checked} {a : ℕ} {p : Page} {n : Board} → r ≡ as_table_check b chars → a ≡ sheet_place page → p ≡ as_table_page page a → n ≡ with_page b p → (out : List ℕ)
+  pub as-table-moved : Movable b chars → {a : ℕ} {p : Page} {n : Board} → a ≡ sheet_place page → p ≡ as_table_page page a → n ≡ with_page b p → (out : List ℕ)
       → out ≡ take a chars ++ (tab (table_size page) (entry_byte (buffer_of page) page.starts.start1 (hact_of page)) ++ drop (a + table_size page) chars)
-      → (◌≡◌ {A = Moved} (moved_to r n) (as_table b chars)) × (out ≡ as_table_left b chars)
+      → (◌≡◌ {A = Result Board Refusal} (Ok n) (as_table b chars)) × (out ≡ as_table_left b chars)
   unfolding as_table as_table_left as_table_chars
-  as-table-moved m re ae pe ne out q =
+  as-table-moved m ae pe ne out q =
       let k = ae ∙ sheet-place page chars m.page m.off in
       let moved = ne ∙ ap (with_page b) (pe ∙ ap (as_table_page page) k) in
       let same = same-tab (table_size page) _ _ (λ i _. sheet-byte page chars m.page m.off i) in
       rw m.done (
-        (λ i. moved_to ((re ∙ m.done) i) (moved i)),
+        ap Ok moved,
         q ∙ ap₂ (λ (x : ℕ) (l : List ℕ). take x chars ++ (l ++ drop (x + table_size page) chars)) k same,
       )
-
-  pub as-table-kept : {r : Checked} → r ≡ as_table_check b chars → is_ok (as_table_check b chars) ≡ false → (◌≡◌ {A = Moved} (moved_to r b) (as_table b chars)) × (chars ≡ as_table_left b chars)
-  unfolding as_table as_table_left
-  as-table-kept re d = (rw (re, d), rw d)
 
 -- ---- the way back
 
@@ -345,16 +336,6 @@ pub apart-all : (p : Page) (chars : List ℕ) {t : Timing} {r : ℕ} {apart : Bo
 unfolding rows_apart timing_of counts_of
 apart-all p chars te re e = rw (re, te) at e
 
--- what is answered
-module _ (b : Board) (chars : List ℕ) {r : Checked} (re : r ≡ as_sheet_check b chars) where
-  pub as-sheet-moved : is_ok (as_sheet_check b chars) ≡ true → {p : Page} {n : Board} → p ≡ as_sheet_page b.page chars → n ≡ with_page b p → ◌≡◌ {A = Moved} (moved_to r n) (as_sheet b chars)
-  unfolding as_sheet
-  as-sheet-moved d pe ne = rw d (λ i. moved_to (re i) ((ne ∙ ap (with_page b) pe) i))
-
-  pub as-sheet-kept : is_ok (as_sheet_check b chars) ≡ false → ◌≡◌ {A = Moved} (moved_to r b) (as_sheet b chars)
-  unfolding as_sheet
-  as-sheet-kept d = rw (re, d)
-
 -- a check that nothing refuses
 pub record Returnable (b : Board) (chars : List ℕ) : Type 0 where
   pub own : own_check b (length chars) ≡ unrefused
@@ -366,26 +347,29 @@ pub record Returnable (b : Board) (chars : List ℕ) : Type 0 where
 
 pub as-sheet-passed : (b : Board) (chars : List ℕ) → as_sheet_check b chars ≡ unrefused → Returnable b chars
 unfolding as_sheet_check
-as-sheet-passed b chars = go (is_ok (own_check b (length chars))) refl
-  where
-    p : Page
-    p = b.page
-
-    go : (t : Bool) → is_ok (own_check b (length chars)) ≡ t → pick t (as_sheet_order p chars) (own_check b (length chars)) ≡ unrefused → Returnable b chars
-    go false d e = absurd (true≢false (sym (ap is_ok e) ∙ d))
-    go true d e =
-        let own = own-passed b (length chars) (done-is _ d) in
-        let kind = passed (not (table_of p)) (Err Kind) _ refl e in
-        let coded = passed (coded_of p) (Err Coded) _ refl kind.1 in
-        let apart = passed (rows_apart p chars) (Err Apart) _ refl coded.1 in
-        record { own = done-is _ d; page = own.0; whole = own.1; on = not-false _ kind.0; codeless = coded.0; joined = apart.0 }
+as-sheet-passed b chars all =
+    let p = b.page in
+    let first = after-passed (own_check b (length chars)) _ all in
+    let own = own-passed b (length chars) first.0 in
+    let kind = passed (not (table_of p)) (Err Kind) _ refl first.1 in
+    let coded = passed (coded_of p) (Err Coded) _ refl kind.1 in
+    let apart = passed (rows_apart p chars) (Err Apart) _ refl coded.1 in
+    record { own = first.0; page = own.0; whole = own.1; on = not-false _ kind.0; codeless = coded.0; joined = apart.0 }
 
 -- ---- a moved page is as wide
 
-pub as-table-width : (b : Board) (chars : List ℕ) → is_ok (as_table b chars).refusal ≡ true → (as_table b chars).board.page.video.dots.0 ≤ 12
+pub as-table-width : (b : Board) (chars : List ℕ) → IfOk (as_table b chars) (λ n. n.page.video.dots.0 ≤ 12)
 unfolding as_table as_table_page
-as-table-width b chars d = rw d (as-table-passed b chars (done-is _ d)).page.most
+as-table-width b chars = go (as_table_check b chars) refl
+  where
+    go : (r : Checked) → as_table_check b chars ≡ r → IfOk (given r (with_page b (as_table_page b.page (table_place b.page chars)))) (λ n. n.page.video.dots.0 ≤ 12)
+    go (Ok tt) e = (as-table-passed b chars e).page.most
+    go (Err why) e = tt
 
-pub as-sheet-width : (b : Board) (chars : List ℕ) → is_ok (as_sheet b chars).refusal ≡ true → (as_sheet b chars).board.page.video.dots.0 ≤ 12
+pub as-sheet-width : (b : Board) (chars : List ℕ) → IfOk (as_sheet b chars) (λ n. n.page.video.dots.0 ≤ 12)
 unfolding as_sheet as_sheet_page
-as-sheet-width b chars d = rw d (as-sheet-passed b chars (done-is _ d)).page.most
+as-sheet-width b chars = go (as_sheet_check b chars) refl
+  where
+    go : (r : Checked) → as_sheet_check b chars ≡ r → IfOk (given r (with_page b (as_sheet_page b.page chars))) (λ n. n.page.video.dots.0 ≤ 12)
+    go (Ok tt) e = (as-sheet-passed b chars e).page.most
+    go (Err why) e = tt

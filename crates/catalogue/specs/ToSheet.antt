@@ -1,17 +1,17 @@
 -- 02, R-5, moving back: a page whose rows follow one another becomes a sheet.
-use Rattle.std.specs.Prelude.{ℕ, ◌+◌, ◌-◌, ◌%◌, Bool, not, List, [], ◌∷◌, eqb, length, set, is_ok, Err}
+use Rattle.std.specs.Prelude.{ℕ, ◌+◌, ◌-◌, ◌%◌, Bool, not, List, [], ◌∷◌, eqb, length, set, Result, Err}
 use Rattle.lists.specs.Choice.{pick, first_of}
 use Rattle.lists.specs.Search.{any_below}
+use Rattle.refusal.specs.declared.Refusal.{Refusal}
 use Rattle.refusal.specs.declared.Refusal.TheVariants.{Kind, Coded, Apart}
-use Rattle.refusal.specs.Number.{unrefused, Checked}
+use Rattle.refusal.specs.Number.{Checked, unrefused, given, after}
 use Rattle.raster.specs.Moves.{advance_by}
 use Rattle.board.specs.declared.Page.{Page}
 use Rattle.board.specs.declared.Board.{Board}
 use Rattle.timing.specs.Fields.{ir, coded_of, table_of, rows_of, hact_of, buffer_of}
 use Rattle.fetch.specs.Rows.{entry_of}
-use Rattle.catalogue.specs.declared.Moved.{Moved}
 use Rattle.board.specs.Parts.{with_irs, with_starts, with_page}
-use Rattle.catalogue.specs.ToTable.{own_check, moved_to}
+use Rattle.catalogue.specs.ToTable.{own_check}
 
 -- [R-5 back] the way back takes a plain page whose every later entry is where the row before ended; row 0's is anything
 -- the entry of the row after row r is where row r ended; of its high byte six bits count
@@ -41,8 +41,8 @@ as_sheet_order p chars = first_of ((not (table_of p), Err Kind) ∷ (coded_of p,
 -- [R-5 refusals]
 -- after the page's own
 unfoldable pub as_sheet_check : Board → (chars : List ℕ) → Checked
-as_sheet_check b chars = pick (is_ok (own_check b (length chars))) (as_sheet_order b.page chars) (own_check b (length chars))
+as_sheet_check b chars = after (own_check b (length chars)) (as_sheet_order b.page chars)
 
 -- [R-5 sheet]
-unfoldable pub as_sheet : Board → (chars : List ℕ) → Moved
-as_sheet b chars = moved_to (as_sheet_check b chars) (pick (is_ok (as_sheet_check b chars)) (with_page b (as_sheet_page b.page chars)) b)
+unfoldable pub as_sheet : Board → (chars : List ℕ) → Result Board Refusal
+as_sheet b chars = given (as_sheet_check b chars) (with_page b (as_sheet_page b.page chars))

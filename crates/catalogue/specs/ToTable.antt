@@ -1,10 +1,11 @@
 -- 02, R-5, moving there: a sheet gets a row table, in the lowest stretch of consecutive cells that no row fetches.
-use Rattle.std.specs.Prelude.{◌≡◌, ℕ, ◌+◌, ◌-◌, ◌*◌, ◌/◌, ◌%◌, Bool, false, not, List, [], ◌∷◌, ◌++◌, eqb, length, set, take, drop, is_ok, Err}
+use Rattle.std.specs.Prelude.{◌≡◌, ℕ, ◌+◌, ◌-◌, ◌*◌, ◌/◌, ◌%◌, Bool, false, not, List, [], ◌∷◌, ◌++◌, eqb, length, set, take, drop, is_ok, Result, Err}
 use Rattle.lists.specs.Choice.{pick, first_of}
 use Rattle.lists.specs.Tab.{tab}
 use Rattle.lists.specs.Search.{any_below, first_below}
+use Rattle.refusal.specs.declared.Refusal.{Refusal}
 use Rattle.refusal.specs.declared.Refusal.TheVariants.{Kind, Coded, Stretch}
-use Rattle.refusal.specs.Number.{unrefused, Checked, wrong_size}
+use Rattle.refusal.specs.Number.{Checked, unrefused, given, after, wrong_size}
 use Rattle.board.specs.declared.Page.{Page}
 use Rattle.board.specs.declared.Board.{Board}
 use Rattle.board.specs.Parts.{with_irs, with_starts, with_page}
@@ -12,7 +13,6 @@ use Rattle.board.specs.Range.{memory_refused}
 use Rattle.timing.specs.Fields.{ir, coded_of, table_of, rows_of}
 use Rattle.timing.specs.Check.{call_check}
 use Rattle.fetch.specs.Rows.{row_start, fetched_of, fetch_at}
-use Rattle.catalogue.specs.declared.Moved.{Moved}
 
 -- [R-5 lowest] into the lowest stretch of consecutive cells, not passing 16383, that no row fetches
 -- whether some row fetches the cell at an address
@@ -66,16 +66,12 @@ as_table_order p a = first_of ((table_of p, Err Kind) ∷ (coded_of p, Err Coded
 
 -- [R-5 refusals]
 unfoldable pub as_table_check : Board → (chars : List ℕ) → Checked
-as_table_check b chars = pick (is_ok (own_check b (length chars))) (as_table_order b.page (table_place b.page chars)) (own_check b (length chars))
-
-abbrev pub moved_to : Checked → Board → Moved
-moved_to r b = record { refusal = r; board = b }
+as_table_check b chars = after (own_check b (length chars)) (as_table_order b.page (table_place b.page chars))
 
 -- [R-5 same] typed sheets become row table pages with the same picture in every frame
--- pointer, place and power state stay; a refusal gives the old board and leaves memory
-unfoldable pub as_table : Board → (chars : List ℕ) → Moved
-as_table b chars =
-    moved_to (as_table_check b chars) (pick (is_ok (as_table_check b chars)) (with_page b (as_table_page b.page (table_place b.page chars))) b)
+-- pointer, place and power state stay; a refusal leaves memory
+unfoldable pub as_table : Board → (chars : List ℕ) → Result Board Refusal
+as_table b chars = given (as_table_check b chars) (with_page b (as_table_page b.page (table_place b.page chars)))
 
 -- [R-5 same]
 unfoldable pub as_table_left : Board → (chars : List ℕ) → List ℕ
@@ -83,5 +79,5 @@ as_table_left b chars = pick (is_ok (as_table_check b chars)) (as_table_chars b.
 
 -- [demand untouched]
 -- the call: its answer, and character memory afterwards
-abbrev pub MovesToTable : Board → (chars : List ℕ) → Moved → (left : List ℕ) → Type 0
+abbrev pub MovesToTable : Board → (chars : List ℕ) → Result Board Refusal → (left : List ℕ) → Type 0
 MovesToTable b chars r left = (r ≡ as_table b chars) × (left ≡ as_table_left b chars)

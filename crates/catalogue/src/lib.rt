@@ -12,12 +12,7 @@ ghost use Rattle.catalogue.specs.ToTable.{table_size, as_table_page, own_check, 
 ghost use Rattle.catalogue.specs.ToSheet.{rows_apart, as_sheet_page, as_sheet_order, as_sheet_check, as_sheet};
 ghost use Rattle.catalogue.specs.Marks.{marked_by, free_in, sheet_place, entry_byte, sheet_check};
 
-// A board with its page moved, or the old one.
-#[derive(Clone, Copy)]
-pub struct Moved {
-    pub refusal: refusal::Refusal,
-    pub board: board::Board,
-}
+use refusal::Refusal;
 
 // Marks the cells that are fetched from a cell on, n of them.
 fn mark(marks: &mut [u8], buffer: raster::Buffer, start: raster::Cell, n: u32)
@@ -91,38 +86,36 @@ fn put_table(out: &mut [u8], buffer: raster::Buffer, start: raster::Cell, column
 }
 
 // The page's own refusals.
-fn own_check(b: board::Board, n: usize) -> refusal::Refusal
+fn own_check(b: board::Board, n: usize) -> Result<(), Refusal>
     ensures { result ≡ own_check b n }
 {
     timing::call_check(b, refusal::wrong_size(n != 16384), false, false)
 }
 
 // 16, 19, 17 for an accepted page.
-fn as_table_order(p: board::Page) -> refusal::Refusal
+fn as_table_order(p: board::Page) -> Result<(), Refusal>
     requires { Accepted p }
     ensures { result ≡ as_table_order p (sheet_place p) }
 {
     if timing::table_of(p) {
-        return refusal::Refusal::Kind;
+        return Err(Refusal::Kind);
     }
     if timing::coded_of(p) {
-        return refusal::Refusal::Coded;
+        return Err(Refusal::Coded);
     }
     let t = timing::timing_of(p);
     if place_for(p) == 16385 - 2 * t.counts.rows as usize {
-        return refusal::Refusal::Stretch;
+        return Err(Refusal::Stretch);
     }
-    refusal::Refusal::Done
+    Ok(())
 }
 
-fn as_table_check(b: board::Board, n: usize) -> refusal::Refusal
+#[tactic(auto, unfolding(crate::specs::Marks::sheet_check))]
+fn as_table_check(b: board::Board, n: usize) -> Result<(), Refusal>
     ensures { result ≡ sheet_check b n }
 {
-    let refused = own_check(b, n);
-    if refusal::is_done(refused) {
-        return as_table_order(b.page);
-    }
-    refused
+    own_check(b, n)?;
+    as_table_order(b.page)
 }
 
 // The page with a table at a place.
@@ -165,24 +158,15 @@ fn write_table(chars: &mut [u8], p: board::Page, place: usize)
     );
 }
 
-// A sheet becomes a page with a row table, in the lowest stretch of cells that no row fetches.
-pub fn to_table(b: board::Board, chars: &mut [u8]) -> Moved
+// A sheet becomes a page with a row table, in the lowest stretch of cells that no row fetches: the board with that page.
+pub fn to_table(b: board::Board, chars: &mut [u8]) -> Result<board::Board, Refusal>
     ensures { MovesToTable b chars.old result chars.new }
 {
-    let refused = as_table_check(b, chars.len());
-    if refusal::is_done(refused) {
-        let page = b.page;
-        let place = place_for(page);
-        write_table(chars, page, place);
-        return Moved {
-            refusal: refused,
-            board: with_page(b, as_table_page(page, place as u16)),
-        };
-    }
-    Moved {
-        refusal: refused,
-        board: b,
-    }
+    as_table_check(b, chars.len())?;
+    let page = b.page;
+    let place = place_for(page);
+    write_table(chars, page, place);
+    Ok(with_page(b, as_table_page(page, place as u16)))
 }
 
 // Whether some row of the table is not where the one before it ended.
@@ -206,30 +190,28 @@ fn rows_apart(p: board::Page, chars: &[u8]) -> bool
 }
 
 // 16, 19, 18 for an accepted page.
-fn as_sheet_order(p: board::Page, chars: &[u8]) -> refusal::Refusal
+fn as_sheet_order(p: board::Page, chars: &[u8]) -> Result<(), Refusal>
     requires { Accepted p × (length chars.now ≡ 16384) }
     ensures { result ≡ as_sheet_order p chars.now }
 {
     if !timing::table_of(p) {
-        return refusal::Refusal::Kind;
+        return Err(Refusal::Kind);
     }
     if timing::coded_of(p) {
-        return refusal::Refusal::Coded;
+        return Err(Refusal::Coded);
     }
     if rows_apart(p, chars) {
-        return refusal::Refusal::Apart;
+        return Err(Refusal::Apart);
     }
-    refusal::Refusal::Done
+    Ok(())
 }
 
-fn as_sheet_check(b: board::Board, chars: &[u8]) -> refusal::Refusal
+#[tactic(auto, unfolding(crate::specs::ToSheet::as_sheet_check))]
+fn as_sheet_check(b: board::Board, chars: &[u8]) -> Result<(), Refusal>
     ensures { result ≡ as_sheet_check b chars.now }
 {
-    let refused = own_check(b, chars.len());
-    if refusal::is_done(refused) {
-        return as_sheet_order(b.page, chars);
-    }
-    refused
+    own_check(b, chars.len())?;
+    as_sheet_order(b.page, chars)
 }
 
 // The page without its table.
@@ -244,20 +226,11 @@ fn as_sheet_page(p: board::Page, chars: &[u8]) -> board::Page
     n
 }
 
-// A page whose rows follow one another becomes a sheet.
-pub fn to_sheet(b: board::Board, chars: &[u8]) -> Moved
+// A page whose rows follow one another becomes a sheet: the board with that page.
+#[tactic(auto, unfolding(crate::specs::ToSheet::as_sheet))]
+pub fn to_sheet(b: board::Board, chars: &[u8]) -> Result<board::Board, Refusal>
     ensures { result ≡ as_sheet b chars.now }
 {
-    let refused = as_sheet_check(b, chars);
-    if refusal::is_done(refused) {
-        let page = b.page;
-        return Moved {
-            refusal: refused,
-            board: with_page(b, as_sheet_page(page, chars)),
-        };
-    }
-    Moved {
-        refusal: refused,
-        board: b,
-    }
+    as_sheet_check(b, chars)?;
+    Ok(with_page(b, as_sheet_page(b.page, chars)))
 }

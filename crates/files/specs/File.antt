@@ -1,16 +1,15 @@
 -- 01, "Files": the page file. A file is exactly its size.
-use Rattle.std.specs.Prelude.{◌≡◌, ℕ, ◌+◌, ◌*◌, Bool, false, ◌||◌, not, List, [], ◌∷◌, ◌++◌, length, take, drop, eqb, ltb, is_ok, Err}
+use Rattle.std.specs.Prelude.{◌≡◌, ℕ, ◌+◌, ◌*◌, Bool, false, ◌||◌, not, List, [], ◌∷◌, ◌++◌, length, take, drop, eqb, ltb, is_ok, Result, Err}
 use Rattle.lists.specs.Choice.{pick, first_of, within}
+use Rattle.refusal.specs.declared.Refusal.{Refusal}
 use Rattle.refusal.specs.declared.Refusal.TheVariants.{Version, Length, Size}
-use Rattle.refusal.specs.Number.{Checked, wrong_size}
+use Rattle.refusal.specs.Number.{Checked, given, wrong_size}
 use Rattle.board.specs.declared.Page.{Page}
 use Rattle.board.specs.declared.Board.{Board}
-use Rattle.board.specs.State.{power_of}
 use Rattle.board.specs.Layout.{newest_version, length_field, chars_place, attrs_place, file_size}
 use Rattle.board.specs.Modes.{version_of}
 use Rattle.board.specs.Range.{memories_refused}
 use Rattle.timing.specs.Check.{page_check, call_check}
-use Rattle.files.specs.declared.PageRead.{PageRead}
 use Rattle.files.specs.Page.{word_at, version_in, page_at, board_at, long_bytes, page_bytes}
 
 -- four bytes big-endian
@@ -37,12 +36,9 @@ file_check file newest n size rest = first_of ((version_refused file newest, Err
 unfoldable pub read_check : List ℕ → (size : Bool) → Checked
 read_check file size = file_check file newest_version (length_field (version_in file)) size (page_check (page_at file 5))
 
-abbrev pub page_read : Checked → Board → PageRead
-page_read r b = record { refusal = r; board = b }
-
--- a refused read gives the board that power gives
-unfoldable pub read_page_of : List ℕ → (size : Bool) → PageRead
-read_page_of file size = page_read (read_check file size) (pick (is_ok (read_check file size)) (board_at file 5) power_of)
+-- the board of its page
+unfoldable pub read_page_of : List ℕ → (size : Bool) → Result Board Refusal
+read_page_of file size = given (read_check file size) (board_at file 5)
 
 -- the memories afterwards: those of the file, and on a refusal as they were
 unfoldable pub chars_read : List ℕ → (size : Bool) → List ℕ → List ℕ
@@ -81,7 +77,7 @@ written b chars attrs out =
 -- ---- the calls: what is answered, and the lent buffers afterwards
 
 -- [demand untouched]
-abbrev pub ReadsPage : (file chars attrs : List ℕ) → PageRead → (chars_left attrs_left : List ℕ) → Type 0
+abbrev pub ReadsPage : (file chars attrs : List ℕ) → Result Board Refusal → (chars_left attrs_left : List ℕ) → Type 0
 ReadsPage file chars attrs r chars_left attrs_left =
     (r ≡ read_page_of file (memories_refused (length chars) (length attrs)))
     × (chars_left ≡ chars_read file (memories_refused (length chars) (length attrs)) chars)

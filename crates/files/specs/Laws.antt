@@ -1,16 +1,16 @@
 -- What the proofs of the file calls use. Assumes nothing.
-use Rattle.std.specs.Prelude.{ℕ, ◌+◌, ◌-◌, ◌/◌, ◌%◌, ◌≤◌, ◌<◌, ◌≡◌, refl, Bool, true, false, ◌||◌, not, List, [], ◌∷◌, ◌++◌, eqb, leb, ltb, length, take, drop, replicate, is_ok, Err}
+use Rattle.std.specs.Prelude.{ℕ, ◌+◌, ◌-◌, ◌/◌, ◌%◌, ◌≤◌, ◌<◌, ◌≡◌, refl, Bool, true, false, ◌||◌, not, List, [], ◌∷◌, ◌++◌, eqb, leb, ltb, length, take, drop, replicate, is_ok, Ok, Err}
 use Rattle.std.proofs.Common.{sym, ap, ap₂, ◌∙◌, true≢false, append_assoc, append-nil, arith, eqb-true, leb-true, ltb-false, length-append, take_all, length-take-le}
 use Rattle.std.proofs.lemmas.Bool.{not-false}
 use Rattle.std.proofs.lemmas.List.{length-replicate}
 use Rattle.lists.specs.Choice.{pick, first_of, both, neither}
+use Rattle.refusal.specs.declared.Refusal.{Refusal}
 use Rattle.refusal.specs.declared.Refusal.TheVariants.{Version, Length, Size}
 use Rattle.refusal.specs.Number.{unrefused, Checked, wrong_size}
 use Rattle.refusal.specs.Laws.{done-is, passed, size-right}
 use Rattle.board.specs.declared.Page.{Page}
 use Rattle.board.specs.declared.Layout.{Layout}
 use Rattle.board.specs.declared.Board.{Board}
-use Rattle.board.specs.State.{power_of}
 use Rattle.board.specs.Layout.{newest_version, layout_of, page_length, length_field, chars_place, attrs_place, file_size}
 use Rattle.board.specs.Range.{memories_refused}
 use Rattle.board.specs.Laws.{memories-all, layout-fits}
@@ -18,7 +18,7 @@ use Rattle.timing.specs.Check.{page_check}
 use Rattle.timing.specs.Laws.{call-passed}
 use Rattle.files.specs.Page.{version_in, irs_in, irs_at, page_at, board_at, long_bytes, tail_of, page_bytes}
 use Rattle.copies.specs.Put.{length_part, taken_from, put_at, laid_none, put_on, put_both, drop-same}
-use Rattle.files.specs.File.{long_at, version_refused, length_refused, file_check, read_check, page_read, read_page_of, chars_read, attrs_read, page_head, head_of, file_of, write_check, written}
+use Rattle.files.specs.File.{long_at, version_refused, length_refused, file_check, read_check, read_page_of, chars_read, attrs_read, page_head, head_of, file_of, write_check, written}
 
 -- an empty file has no version
 pub no-version : (file : List ℕ) (newest : ℕ) → length file ≡ 0 → true ≡ version_refused file newest
@@ -89,18 +89,21 @@ read-passed file chars attrs e =
     let m = memories-all chars attrs p.size_ok in
     record { file-all = file-sized file (length_field (version_in file)) p.length-ok; chars-all = m.0; attrs-all = m.1 }
 
--- what a read gives and leaves
-module _ (file : List ℕ) (size : Bool) (chars attrs : List ℕ) (x : Checked) (e : x ≡ read_check file size) where
-  pub read_done : is_ok (read_check file size) ≡ true → (b : Board) → b ≡ board_at file 5 → (c a : List ℕ)
+-- what a read leaves
+module _ (file : List ℕ) (size : Bool) (chars attrs : List ℕ) where
+  pub read_done : read_check file size ≡ unrefused → (b : Board) → b ≡ board_at file 5 → (c a : List ℕ)
       → c ≡ take 16384 (drop (chars_place (version_in file)) file) → a ≡ take 16384 (drop (attrs_place (version_in file)) file)
-      → (page_read x b ≡ read_page_of file size) × (c ≡ chars_read file size chars) × (a ≡ attrs_read file size attrs)
+      → (Ok b ≡ read_page_of file size) × (c ≡ chars_read file size chars) × (a ≡ attrs_read file size attrs)
   unfolding read_page_of chars_read attrs_read
-  read_done t b eb c a ec ea = (rw (t, e, eb), rw t ec, rw t ea)
+  read_done t b eb c a ec ea = (rw (t, eb), rw t ec, rw t ea)
 
-  pub read-refused : is_ok (read_check file size) ≡ false → (b : Board) → b ≡ power_of
-      → (page_read x b ≡ read_page_of file size) × (chars ≡ chars_read file size chars) × (attrs ≡ attrs_read file size attrs)
-  unfolding read_page_of chars_read attrs_read
-  read-refused t b eb = (rw (t, e, eb), rw t, rw t)
+  pub read-refused : is_ok (read_check file size) ≡ false → (chars ≡ chars_read file size chars) × (attrs ≡ attrs_read file size attrs)
+  unfolding chars_read attrs_read
+  read-refused t = (rw t, rw t)
+
+  pub read-why : {why : Refusal} → Err why ≡ read_check file size → Err why ≡ read_page_of file size
+  unfolding read_page_of
+  read-why e = rw (← e) refl
 
 -- ---- a page's bytes
 

@@ -8,14 +8,10 @@ ghost use Rattle.files.specs.FontFile.{words_of, byte_of, bytes_in, group_count,
 ghost use Rattle.copies.specs.Put.{put_at};
 ghost use Rattle.lists.specs.Choice.{pick};
 ghost use Rattle.lists.specs.Tab.{tab};
-ghost use Rattle.refusal.specs.declared.Refusal.{Refusal};
+ghost use Rattle.refusal.specs.Number.{unrefused};
 ghost use Rattle.shape.specs.Font.{font_now, lent_font, font_to_fill, left_font, Whole};
 
-#[derive(Clone, Copy)]
-pub struct PageRead {
-    pub refusal: refusal::Refusal,
-    pub board: board::Board,
-}
+use refusal::Refusal;
 
 fn word(high: u8, low: u8) -> u16
     ensures { result ≡ high * 256 + low }
@@ -138,20 +134,21 @@ fn length_refused(file: &[u8], n: u32) -> bool
 }
 
 // 1, 2, 3, where n bytes follow the length.
-fn file_check(file: &[u8], newest: u8, n: u32, size: bool) -> refusal::Refusal
+#[tactic(auto, unfolding(crate::specs::File::file_check))]
+fn file_check(file: &[u8], newest: u8, n: u32, size: bool) -> Result<(), Refusal>
     requires { n ≤ 65536 }
-    ensures { result ≡ file_check file.now newest n size Refusal.Done }
+    ensures { result ≡ file_check file.now newest n size unrefused }
 {
     if version_refused(file, newest) {
-        return refusal::Refusal::Version;
+        return Err(Refusal::Version);
     }
     if length_refused(file, n) {
-        return refusal::Refusal::Length;
+        return Err(Refusal::Length);
     }
     if size {
-        return refusal::Refusal::Size;
+        return Err(Refusal::Size);
     }
-    refusal::Refusal::Done
+    Ok(())
 }
 
 // Where a page file's character memory begins.
@@ -179,36 +176,28 @@ fn version_in(file: &[u8]) -> u8
 }
 
 // 1, 2, 3, then the page's own; whether a lent part has a wrong size is the caller's to say.
-pub fn read_check(file: &[u8], size: bool) -> refusal::Refusal
+pub fn read_check(file: &[u8], size: bool) -> Result<(), Refusal>
     ensures { result ≡ read_check file.now size }
 {
     let n = length_field(version_in(file));
-    let refused = file_check(file, board::NEWEST_VERSION, n, size);
-    if refusal::is_done(refused) {
-        return timing::page_check(page_at(file, 5));
-    }
-    refused
+    file_check(file, board::NEWEST_VERSION, n, size)?;
+    timing::page_check(page_at(file, 5))
 }
 
-// Reads a page file into the two memories. A refusal leaves both as they were.
-pub fn read_page(file: &[u8], chars: &mut [u8], attrs: &mut [u8]) -> PageRead
+// Reads a page file into the two memories, and gives the board of its page. A refusal leaves both as they were.
+pub fn read_page(
+    file: &[u8],
+    chars: &mut [u8],
+    attrs: &mut [u8],
+) -> Result<board::Board, Refusal>
     ensures { ReadsPage file.now chars.old attrs.old result chars.new attrs.new }
 {
     let size = board::memories_refused(chars.len(), attrs.len());
-    let answer = read_check(file, size);
-    if refusal::is_done(answer) {
-        let start = chars_place(file[0]);
-        copies::take_from(file, start, chars);
-        copies::take_from(file, start + 16384, attrs);
-        return PageRead {
-            refusal: answer,
-            board: board_at(file, 5),
-        };
-    }
-    PageRead {
-        refusal: answer,
-        board: board::power(),
-    }
+    read_check(file, size)?;
+    let start = chars_place(file[0]);
+    copies::take_from(file, start, chars);
+    copies::take_from(file, start + 16384, attrs);
+    Ok(board_at(file, 5))
 }
 
 fn high(x: u16) -> u8
@@ -290,7 +279,12 @@ pub fn file_size(version: u8) -> usize
 }
 
 // 3, 12, 4, 13, 14, 15, 6, 7.
-fn write_check(b: board::Board, chars: usize, attrs: usize, out: usize) -> refusal::Refusal
+fn write_check(
+    b: board::Board,
+    chars: usize,
+    attrs: usize,
+    out: usize,
+) -> Result<(), Refusal>
     ensures { result ≡ write_check b chars attrs out }
 {
     let short = out < file_size(b.page.version);
@@ -299,14 +293,17 @@ fn write_check(b: board::Board, chars: usize, attrs: usize, out: usize) -> refus
 }
 
 // Writes a board's page and its memories as a page file. A refusal leaves out as it was.
-pub fn write_page(b: board::Board, chars: &[u8], attrs: &[u8], out: &mut [u8]) -> refusal::Refusal
+pub fn write_page(
+    b: board::Board,
+    chars: &[u8],
+    attrs: &[u8],
+    out: &mut [u8],
+) -> Result<(), Refusal>
     ensures { WritesPage b chars.now attrs.now out.old result out.new }
 {
-    let refused = write_check(b, chars.len(), attrs.len(), out.len());
-    if refusal::is_done(refused) {
-        put_file(b.page, chars, attrs, out);
-    }
-    refused
+    write_check(b, chars.len(), attrs.len(), out.len())?;
+    put_file(b.page, chars, attrs, out);
+    Ok(())
 }
 
 // As many words as dst has room for.
@@ -369,15 +366,12 @@ fn font_size(version: u8) -> usize
 }
 
 // 1, 2, 3, then 12; whether a lent part has a wrong size is the caller's to say.
-fn font_check(file: &[u8], size: bool) -> refusal::Refusal
+fn font_check(file: &[u8], size: bool) -> Result<(), Refusal>
     ensures { result ≡ font_check file.now size }
 {
     let n = font_size(version_in(file)) - 5;
-    let refused = file_check(file, 2, n as u32, size);
-    if refusal::is_done(refused) {
-        return shape::groups_check(&file[2455..]);
-    }
-    refused
+    file_check(file, 2, n as u32, size)?;
+    shape::groups_check(&file[2455..])
 }
 
 // The groups of a file of version 2.
@@ -398,20 +392,18 @@ pub fn read_font(
     unshifted: &mut [u8],
     shifted: &mut [u8],
     groups: &mut [u8],
-) -> refusal::Refusal
+) -> Result<(), Refusal>
     ensures { ReadsFont file.now (font_to_fill words flags unshifted shifted groups) result (left_font words flags unshifted shifted groups) }
 {
     let size = shape::font_refused(words, flags, unshifted, shifted, groups)
         | ((version_in(file) == 2) & (groups.len() == 0));
-    let refused = font_check(file, size);
-    if refusal::is_done(refused) {
-        read_words(&file[5..2309], words);
-        copies::take_from(file, 2309, flags);
-        copies::take_from(file, 2437, unshifted);
-        copies::take_from(file, 2446, shifted);
-        read_groups(file, groups);
-    }
-    refused
+    font_check(file, size)?;
+    read_words(&file[5..2309], words);
+    copies::take_from(file, 2309, flags);
+    copies::take_from(file, 2437, unshifted);
+    copies::take_from(file, 2446, shifted);
+    read_groups(file, groups);
+    Ok(())
 }
 
 // The words of a font into a font file, from a place on.
@@ -472,13 +464,13 @@ fn font_write_check(
     shifted: &[u8],
     groups: &[u8],
     out: usize,
-) -> refusal::Refusal
+) -> Result<(), Refusal>
     ensures { result ≡ font_write_check (lent_font words flags unshifted shifted groups) out }
 {
     if shape::font_refused(words, flags, unshifted, shifted, groups)
         | (out < font_size(font_version(groups.len())))
     {
-        return refusal::Refusal::Size;
+        return Err(Refusal::Size);
     }
     shape::groups_check(groups)
 }
@@ -491,12 +483,10 @@ pub fn write_font(
     shifted: &[u8],
     groups: &[u8],
     out: &mut [u8],
-) -> refusal::Refusal
+) -> Result<(), Refusal>
     ensures { WritesFont (lent_font words flags unshifted shifted groups) out.old result out.new }
 {
-    let refused = font_write_check(words, flags, unshifted, shifted, groups, out.len());
-    if refusal::is_done(refused) {
-        put_font(words, flags, unshifted, shifted, groups, out);
-    }
-    refused
+    font_write_check(words, flags, unshifted, shifted, groups, out.len())?;
+    put_font(words, flags, unshifted, shifted, groups, out);
+    Ok(())
 }

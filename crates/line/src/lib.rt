@@ -11,6 +11,8 @@ ghost use Rattle.video.specs.Lent.{Lent};
 ghost use Rattle.line.specs.Line.{row_for, scan_for, line_length, draw_check, DrawsLine};
 ghost use Rattle.line.specs.Walk.{last_of, walk_of, held_for, dots_for, column_for, shaped_over, Ready};
 
+use refusal::Refusal;
+
 // What is the same for all cells of a line: what its scan line takes from the font, and the width of a cell.
 #[derive(Clone, Copy)]
 pub struct Walk {
@@ -99,33 +101,31 @@ fn held_for(p: board::Page, chars: &[u8], attrs: &[u8], row: u32, start: raster:
 }
 
 // 7 for a line that is not visible, 8 for a buffer that is too short; of an accepted page the line's dots are few enough to count.
-fn line_check(p: board::Page, line: units::Lines, room: usize) -> refusal::Refusal
+fn line_check(p: board::Page, line: units::Lines, room: usize) -> Result<(), Refusal>
     requires { Accepted p }
     ensures { result ≡ last_of (leb (visible_of p).0 line.0) (ltb room (hact_of p * p.video.dots.0)) }
 {
     let t = timing::timing_of(p);
     if timing::visible_of(p).at_most(line) {
-        return refusal::Refusal::Range;
+        return Err(Refusal::Range);
     }
     if room < units::dots_of(t.counts.hact, p.video.dots).places() {
-        return refusal::Refusal::Room;
+        return Err(Refusal::Room);
     }
-    refusal::Refusal::Done
+    Ok(())
 }
 
+#[tactic(auto, unfolding(crate::specs::Line::draw_check))]
 fn draw_check(
     b: board::Board,
-    lent: refusal::Refusal,
+    lent: Result<(), Refusal>,
     line: units::Lines,
     room: usize,
-) -> refusal::Refusal
+) -> Result<(), Refusal>
     ensures { result ≡ draw_check b lent line.0 room }
 {
-    let refused = timing::call_check(b, lent, false, false);
-    if refusal::is_done(refused) {
-        return line_check(b.page, line, room);
-    }
-    refused
+    timing::call_check(b, lent, false, false)?;
+    line_check(b.page, line, room)
 }
 
 // The scan line that a visible line shows.
@@ -205,16 +205,14 @@ pub fn draw_line(
     line: units::Lines,
     field: u8,
     out: &mut [u8],
-) -> refusal::Refusal
+) -> Result<(), Refusal>
     ensures { DrawsLine b chars.now attrs.now (lent_font words flags unshifted shifted groups)
         line.0 field out.old result out.new }
 {
     let lent = video::lent_check(chars, attrs, words, flags, unshifted, shifted, groups);
-    let refused = draw_check(b, lent, line, out.len());
-    if refusal::is_done(refused) {
-        let scan = scan_for(b, chars, line);
-        let font = shape::font_line(unshifted, shifted, groups, scan);
-        whole_line(out, b, chars, attrs, words, flags, font, scan, line, field);
-    }
-    refused
+    draw_check(b, lent, line, out.len())?;
+    let scan = scan_for(b, chars, line);
+    let font = shape::font_line(unshifted, shifted, groups, scan);
+    whole_line(out, b, chars, attrs, words, flags, font, scan, line, field);
+    Ok(())
 }

@@ -6,13 +6,14 @@
 --     saved-page, saved-numbers      a page as numbers is the page that is kept, and numbers come back
 --     put-fine, put-page, put_rest   numbers with a page in the place of their own
 use Rattle.std.specs.Prelude.{ℕ, ◌+◌, ◌-◌, ◌*◌, ◌<◌, ◌≤◌, ◌≡◌, refl, Bool, true, false, not, List, [], ◌∷◌, ◌++◌, eqb, length, get_or, take, drop, replicate, is_ok, Err}
-use Rattle.std.proofs.Common.{sym, ap₂, ◌∙◌, arith, length-append, take-take, take-add, drop-cons, drop-drop, drop_at, get_or-take, get_or-drop}
+use Rattle.std.proofs.Common.{sym, ap₂, true≢false, ◌∙◌, arith, length-append, take-take, take-add, drop-cons, drop-drop, drop_at, get_or-take, get_or-drop}
 use Rattle.std.proofs.Math.Path.{ap}
 use borrow.Author.Tests.{eqb-true, ne_eqb, not-false}
 use Rattle.std.proofs.Math.ListN.{length-drop, length-replicate, get_or-append}
 use Rattle.std.proofs.lemmas.List.{take-append-le}
 use Rattle.lists.specs.Choice.{pick, neither}
 use Rattle.units.specs.Units.{dots}
+use Rattle.refusal.specs.declared.Refusal.{Refusal}
 use Rattle.refusal.specs.declared.Refusal.TheVariants.{Size}
 use Rattle.refusal.specs.Number.{unrefused, Checked}
 use Rattle.refusal.specs.Laws.{passed}
@@ -25,7 +26,7 @@ use Rattle.board.specs.Laws.{layout-fits}
 use Rattle.timing.specs.Check.{page_check}
 use Rattle.copies.specs.Put.{length_part, put_at, laid_none, put_on, laid-all, drop-same}
 use Rattle.files.specs.Page.{word_at, version_in, irs_in, irs_at, page_at, page_bytes, kept_page}
-use Rattle.files.specs.File.{version_refused, read_check, chars_read, attrs_read}
+use Rattle.files.specs.File.{version_refused, read_check, read_page_of, chars_read, attrs_read}
 use Rattle.files.specs.Laws.{version-known, file-sized, FilePassed, file-passed, bytes-all, chip-there}
 use Rattle.files.specs.Round.{Bytes, byte, bytes-again, version-again, written_known, page-kept, kept_same}
 use Rattle.numbers.specs.Numbers.{numbers_refused, numbers_check, counted, zeros_after, numbers_front, numbers_in, page_numbers, page_in, cleared, numbers_of_check, numbers_of}
@@ -138,6 +139,13 @@ module _ (file : List ℕ) (n c a : ℕ) (ok : read_check file (page_read_size n
   same_size : memories_refused c a ≡ page_read_size n c a
   same_size = (neither (memories_refused c a) (not (eqb n 32)) read-passed.size_ok).0 ∙ sym read-passed.size_ok
 
+  -- the read of the page, which judges the memories alone, is not refused
+  pub page-not-refused : {why : Refusal} → Err why ≡ read_page_of file (memories_refused c a) → ⊥
+  unfolding read_page_of
+  page-not-refused e =
+      let check : read_check file (memories_refused c a) ≡ unrefused = ap (read_check file) same_size ∙ ok in
+      true≢false (sym (ap is_ok (rw check at e)))
+
   -- what such a read leaves
   pub file-read : (numbers₀ chars₀ attrs₀ : List ℕ) {numbers chars attrs : List ℕ} → numbers ≡ numbers_in file
       → chars ≡ chars_read file (memories_refused c a) chars₀ → attrs ≡ attrs_read file (memories_refused c a) attrs₀
@@ -209,7 +217,7 @@ saved-numbers numbers fits fine =
 
 -- what the call leaves
 module _ (b : Board) (numbers₀ : List ℕ) where
-  pub not-room : (length numbers₀ ≡ 32 → ⊥) → ((Err Size) ≡ numbers_of_check b (length numbers₀)) × (numbers₀ ≡ numbers_of b numbers₀)
+  pub not-room : (length numbers₀ ≡ 32 → ⊥) → (Err Size ≡ numbers_of_check b (length numbers₀)) × (numbers₀ ≡ numbers_of b numbers₀)
   unfolding numbers_of_check numbers_of
   not-room e = let t = ne_eqb _ _ e in (rw t, rw t)
 

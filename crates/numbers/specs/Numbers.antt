@@ -1,6 +1,7 @@
 -- A page's numbers in one buffer: the version byte, then the bytes of that version's page file between the length and the character memory, then zeros, which are ignored.
-use Rattle.std.specs.Prelude.{◌≡◌, ℕ, ◌+◌, ◌-◌, Bool, ◌||◌, not, List, ◌∷◌, ◌++◌, length, take, drop, replicate, eqb, is_ok, Err}
+use Rattle.std.specs.Prelude.{◌≡◌, ℕ, ◌+◌, ◌-◌, Bool, ◌||◌, not, List, ◌∷◌, ◌++◌, length, take, drop, replicate, eqb, is_ok, Result, Ok, Err}
 use Rattle.lists.specs.Choice.{pick}
+use Rattle.refusal.specs.declared.Refusal.{Refusal}
 use Rattle.refusal.specs.declared.Refusal.TheVariants.{Size}
 use Rattle.refusal.specs.Number.{Checked}
 use Rattle.board.specs.declared.Page.{Page}
@@ -52,9 +53,10 @@ page_in p numbers = numbers_front (version_of p) (page_bytes p) (drop (counted p
 abbrev pub cleared : List ℕ → List ℕ
 cleared numbers = take (counted (version_in numbers)) numbers ++ zeros_after (version_in numbers)
 
--- only where nothing refuses it
-abbrev pub page_or_own : Checked → Page → List ℕ → List ℕ
-page_or_own r p numbers = pick (is_ok r) (page_in p numbers) numbers
+-- the page of a board that was not refused
+abbrev pub page_or_own : Result Board Refusal → List ℕ → List ℕ
+page_or_own (Ok b) numbers = page_in b.page numbers
+page_or_own (Err why) numbers = numbers
 
 -- ---- a board's page as numbers
 

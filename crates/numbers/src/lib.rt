@@ -1,10 +1,11 @@
 #![tactic(auto)]
 // A page's numbers as C has them: 32 bytes, the version first.
-ghost use Rattle.std.specs.Prelude.{◌≡◌, true, ◌+◌, ◌≤◌, length, drop, replicate};
-ghost use Rattle.refusal.specs.Number.{done_of};
+ghost use Rattle.std.specs.Prelude.{◌≡◌, ◌+◌, ◌≤◌, length, drop, replicate, IfOk};
 ghost use Rattle.board.specs.Layout.{page_length};
 ghost use Rattle.numbers.specs.Numbers.{numbers_refused, numbers_check, zeros_after, numbers_front, page_in, page_or_own, GivesNumbers};
 ghost use Rattle.numbers.specs.Files.{ReadsFile, WritesFile};
+
+use refusal::Refusal;
 
 // 3, for a page's numbers.
 pub fn numbers_refused(numbers: &[u8]) -> bool
@@ -14,11 +15,11 @@ pub fn numbers_refused(numbers: &[u8]) -> bool
 }
 
 // The page check: 3, 12, 4, 13, 14, 15, 6.
-pub fn numbers_check(numbers: &[u8]) -> refusal::Refusal
+pub fn numbers_check(numbers: &[u8]) -> Result<(), Refusal>
     ensures { result ≡ numbers_check numbers.now }
 {
     if numbers_refused(numbers) {
-        return refusal::Refusal::Size;
+        return Err(Refusal::Size);
     }
     timing::page_check(files::page_at(numbers, 1))
 }
@@ -60,13 +61,13 @@ fn put_own(p: board::Page, numbers: &mut [u8])
     files::put_bytes(p, 1, numbers);
 }
 
-// The same where nothing is refused.
-pub fn put_page(r: refusal::Refusal, p: board::Page, numbers: &mut [u8])
-    requires { (length numbers.old ≡ 32) × (done_of r ≡ true → p.video.dots.0 ≤ 12) }
-    ensures { numbers.new ≡ page_or_own r p numbers.old }
+// The same of a board's page, if the board was not refused.
+pub fn put_page(moved: Result<board::Board, Refusal>, numbers: &mut [u8])
+    requires { (length numbers.old ≡ 32) × IfOk moved (λ b. b.page.video.dots.0 ≤ 12) }
+    ensures { numbers.new ≡ page_or_own moved numbers.old }
 {
-    if refusal::is_done(r) {
-        put_own(p, numbers);
+    if let Ok(b) = moved {
+        put_own(b.page, numbers);
     }
 }
 
@@ -76,41 +77,42 @@ pub fn read_file(
     numbers: &mut [u8],
     chars: &mut [u8],
     attrs: &mut [u8],
-) -> refusal::Refusal
+) -> Result<(), Refusal>
     ensures { ReadsFile file.now numbers.old chars.old attrs.old
         result numbers.new chars.new attrs.new }
 {
     let size = board::memories_refused(chars.len(), attrs.len()) | (numbers.len() != 32);
-    let judged = files::read_check(file, size);
-    if refusal::is_done(judged) {
-        files::read_page(file, chars, attrs);
-        let end = files::chars_place(file[0]);
-        put_numbers(file[0], &file[5..end], numbers);
-    }
-    judged
+    files::read_check(file, size)?;
+    files::read_page(file, chars, attrs)?;
+    let end = files::chars_place(file[0]);
+    put_numbers(file[0], &file[5..end], numbers);
+    Ok(())
 }
 
 // Writes a page file at the front of out. A refusal leaves out as it was.
-pub fn write_file(numbers: &[u8], chars: &[u8], attrs: &[u8], out: &mut [u8]) -> refusal::Refusal
+pub fn write_file(
+    numbers: &[u8],
+    chars: &[u8],
+    attrs: &[u8],
+    out: &mut [u8],
+) -> Result<(), Refusal>
     ensures { WritesFile numbers.now chars.now attrs.now out.old result out.new }
 {
     if numbers_refused(numbers) {
-        return refusal::Refusal::Size;
+        return Err(Refusal::Size);
     }
     files::write_page(files::board_at(numbers, 1), chars, attrs, out)
 }
 
 // A board's page as numbers. Nothing else of the board is looked at. A refusal leaves numbers as they were.
-pub fn numbers_of(b: board::Board, numbers: &mut [u8]) -> refusal::Refusal
+pub fn numbers_of(b: board::Board, numbers: &mut [u8]) -> Result<(), Refusal>
     ensures { GivesNumbers b numbers.old result numbers.new }
 {
     if numbers.len() != 32 {
-        return refusal::Refusal::Size;
+        return Err(Refusal::Size);
     }
-    let refused = timing::page_check(b.page);
-    if refusal::is_done(refused) {
-        clear(numbers);
-        put_own(b.page, numbers);
-    }
-    refused
+    timing::page_check(b.page)?;
+    clear(numbers);
+    put_own(b.page, numbers);
+    Ok(())
 }

@@ -14,6 +14,8 @@ ghost use Rattle.picture.specs.Picture.{picture_check, picture_length, DrawsPict
 ghost use Rattle.picture.specs.Plan.{plan_of, cell_dots_of, cell_from, line_from, row_from, row_drawn, TablesFit, Numbered};
 ghost use Rattle.picture.specs.Agree.{shaped_over};
 
+use refusal::Refusal;
+
 // What is the same for all rows: columns, dots a cell, lines a row, its scan lines, rows, the bytes of a line and of a row, the buffer, how cells are read.
 #[derive(Clone, Copy)]
 pub struct Plan {
@@ -243,25 +245,23 @@ fn plan_of(p: board::Page) -> Plan
 }
 
 // 8 for a buffer that is too short for an accepted page's picture.
-fn room_check(p: board::Page, room: usize) -> refusal::Refusal
+fn room_check(p: board::Page, room: usize) -> Result<(), Refusal>
     requires { Accepted p }
     ensures { result ≡ last_of false (ltb room (picture_length p)) }
 {
     let plan = plan_of(p);
     if room < plan.rows as usize * plan.size {
-        return refusal::Refusal::Room;
+        return Err(Refusal::Room);
     }
-    refusal::Refusal::Done
+    Ok(())
 }
 
-fn picture_check(b: board::Board, lent: refusal::Refusal, room: usize) -> refusal::Refusal
+#[tactic(auto, unfolding(crate::specs::Picture::picture_check))]
+fn picture_check(b: board::Board, lent: Result<(), Refusal>, room: usize) -> Result<(), Refusal>
     ensures { result ≡ picture_check b lent room }
 {
-    let refused = timing::call_check(b, lent, false, false);
-    if refusal::is_done(refused) {
-        return room_check(b.page, room);
-    }
-    refused
+    timing::call_check(b, lent, false, false)?;
+    room_check(b.page, room)
 }
 
 // The picture by tables, which pays where there are many cells.
@@ -369,15 +369,13 @@ pub fn draw_picture(
     groups: &[u8],
     field: u8,
     out: &mut [u8],
-) -> refusal::Refusal
+) -> Result<(), Refusal>
     ensures { DrawsPicture b chars.now attrs.now (lent_font words flags unshifted shifted groups)
         field out.old result out.new }
 {
     let lent = video::lent_check(chars, attrs, words, flags, unshifted, shifted, groups);
-    let refused = picture_check(b, lent, out.len());
-    if refusal::is_done(refused) {
-        let lines = shape::font_lines(unshifted, shifted, groups);
-        whole_picture(out, b, chars, attrs, words, flags, lines, field);
-    }
-    refused
+    picture_check(b, lent, out.len())?;
+    let lines = shape::font_lines(unshifted, shifted, groups);
+    whole_picture(out, b, chars, attrs, words, flags, lines, field);
+    Ok(())
 }

@@ -12,17 +12,13 @@ ghost use Rattle.place.specs.Spot.{last_spot, spot_in, spot_before, origin_at};
 ghost use Rattle.board.specs.Parts.{with_place};
 ghost use Rattle.place.specs.State.{state_of};
 
+use refusal::Refusal;
+
 // What the beam carries along, with its row's code, and what its row began with.
 #[derive(Clone, Copy)]
 pub struct Carried {
     pub beam: raster::Row,
     pub row: raster::Row,
-}
-
-#[derive(Clone, Copy)]
-pub struct StateAt {
-    pub refusal: refusal::Refusal,
-    pub board: board::Board,
 }
 
 // What a byte sets: nothing in character mode.
@@ -389,21 +385,17 @@ pub fn with_place(b: board::Board, place: board::Place) -> board::Board
 }
 
 // The board at clock n, counted from clock 0 and not from the board's place.
-pub fn state_at(b: board::Board, chars: &[u8], attrs: &[u8], n: units::Clocks) -> StateAt
+#[tactic(auto, unfolding(crate::specs::State::state_of))]
+pub fn state_at(
+    b: board::Board,
+    chars: &[u8],
+    attrs: &[u8],
+    n: units::Clocks,
+) -> Result<board::Board, Refusal>
     ensures { result ≡ state_of b chars.now attrs.now n.0 }
 {
     let size = board::memories_refused(chars.len(), attrs.len());
-    let refused = timing::call_check(b, refusal::wrong_size(size), false, false);
-    if refusal::is_done(refused) {
-        let page = b.page;
-        let place = place_at(page, chars, attrs, n);
-        return StateAt {
-            refusal: refused,
-            board: with_place(b, place),
-        };
-    }
-    StateAt {
-        refusal: refused,
-        board: b,
-    }
+    timing::call_check(b, refusal::wrong_size(size), false, false)?;
+    let place = place_at(b.page, chars, attrs, n);
+    Ok(with_place(b, place))
 }

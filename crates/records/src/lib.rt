@@ -95,25 +95,22 @@ fn row_ends(buffer: raster::Buffer, start: raster::Cell, n: u32) -> Ends
 pub fn row_asked(b: board::Board, chars: &[u8], row: u32) -> Asked
     ensures { result ≡ asked_of b chars.now row }
 {
-    let page = b.page;
-    let span = fetch::span_of(b, chars, row);
-    let refused = span.refusal;
-    if refusal::is_done(refused) {
-        let n = fetch::fetched_of(page, chars, row);
-        let start = fetch::row_start(page, chars, row);
-        let e = row_ends(timing::buffer_of(page), start, n);
+    if let Err(why) = fetch::span_of(b, chars, row) {
         return Asked {
-            refusal: 0,
-            beside: 0,
-            low: e.low as u32,
-            high: e.high as u32,
+            refusal: refusal::number(Err(why)),
+            beside: refusal::beside(Err(why)),
+            low: 0,
+            high: 0,
         };
     }
+    let n = fetch::fetched_of(b.page, chars, row);
+    let start = fetch::row_start(b.page, chars, row);
+    let e = row_ends(timing::buffer_of(b.page), start, n);
     Asked {
-        refusal: refusal::number(refused),
-        beside: refusal::beside(refused),
-        low: 0,
-        high: 0,
+        refusal: 0,
+        beside: 0,
+        low: e.low as u32,
+        high: e.high as u32,
     }
 }
 

@@ -1,9 +1,11 @@
 -- What callers use of a check's answer: which test was passed where nothing is refused. Assumes nothing.
-use Rattle.std.specs.Prelude.{◌≡◌, refl, Bool, true, false, not, is_ok, Ok, Err}
+use Rattle.std.specs.Prelude.{◌≡◌, refl, Bool, true, false, not, is_ok, Result, IsErrAnd, Ok, Err}
 use Rattle.std.proofs.Common.{sym, ap, ◌∙◌, true≢false}
 use Rattle.lists.specs.Choice.{pick}
+use Rattle.std.proofs.lemmas.Result.{err_from_is_err_and}
+use Rattle.refusal.specs.declared.Refusal.{Refusal}
 use Rattle.refusal.specs.declared.Refusal.TheVariants.{Size}
-use Rattle.refusal.specs.Number.{Checked, unrefused, given, check_of, wrong_size}
+use Rattle.refusal.specs.Number.{Checked, unrefused, given, after, check_of, wrong_size}
 
 pub done-is : (r : Checked) → is_ok r ≡ true → r ≡ unrefused
 done-is (Ok tt) e = refl
@@ -29,6 +31,15 @@ not-refused x r e = go (is_ok x) refl e
     go : (t : Bool) → is_ok x ≡ t → pick (not t) x r ≡ unrefused → (x ≡ unrefused) × (r ≡ unrefused)
     go true d q = (done-is x d, q)
     go false d q = absurd (true≢false (sym (ap is_ok q) ∙ d))
+
+-- a call that comes after a check: where nothing is refused, neither refuses
+pub after-passed : (x r : Checked) → after x r ≡ unrefused → (x ≡ unrefused) × (r ≡ unrefused)
+after-passed (Ok tt) r e = (refl, e)
+after-passed (Err why) r e = absurd (true≢false (sym (ap is_ok e)))
+
+-- a refusal that a `?` sends on
+pub sent-on : {A : Type 0} (r : Result A Refusal) {why : Refusal} → IsErrAnd r (λ y. y ≡ why) → r ≡ Err why
+sent-on r told = let p = err_from_is_err_and r told in p.1 ∙ ap Err p.2
 
 -- the usual way into a call: r is what the check x gave, and t whether that is Ok
 pub checked : {r x : Checked} {t b : Bool} → r ≡ x → t ≡ is_ok r → t ≡ b → is_ok x ≡ b

@@ -1,9 +1,8 @@
 #![tactic(auto)]
 // One clock of the board: its signals, address and dots, and the board for the next clock.
-ghost use Rattle.std.specs.Prelude.{◌≡◌, false, ◌≤◌, ◌<◌, length};
+ghost use Rattle.std.specs.Prelude.{◌≡◌, false, ◌≤◌, ◌<◌, length, is_ok};
 ghost use Rattle.lists.specs.Choice.{pick};
 ghost use Rattle.units.specs.Units.{lines};
-ghost use Rattle.refusal.specs.Number.{done_of};
 ghost use Rattle.timing.specs.Check.{call_check};
 ghost use Rattle.shape.specs.Font.{lent_font};
 ghost use Rattle.video.specs.At.{lent_by};
@@ -14,6 +13,8 @@ ghost use Rattle.place.specs.Place.{active_at, loaded_in};
 ghost use Rattle.step.specs.Signals.{scan_in, hsync_in, vsync_in, padded, odd_in};
 ghost use Rattle.step.specs.Step.{step_of, clock_in};
 ghost use Rattle.step.specs.Shown.{signals_with, cell_shown, blank_shown, line_in, shown_in, clock_with};
+
+use refusal::Refusal;
 
 #[derive(Clone, Copy)]
 pub struct Signals {
@@ -27,7 +28,7 @@ pub struct Signals {
 // What a clock puts out: what refuses it, its signals, the address fetched or held, and the dots. Then the next place.
 #[derive(Clone, Copy)]
 pub struct Clock {
-    pub refusal: refusal::Refusal,
+    pub refusal: Result<(), Refusal>,
     pub signals: Signals,
     pub address: u16,
     pub dots: [u8; 12],
@@ -37,7 +38,7 @@ pub struct Clock {
 // The same with the board for the next clock.
 #[derive(Clone, Copy)]
 pub struct Stepped {
-    pub refusal: refusal::Refusal,
+    pub refusal: Result<(), Refusal>,
     pub signals: Signals,
     pub address: u16,
     pub dots: [u8; 12],
@@ -248,7 +249,7 @@ fn one_clock(
         at,
     );
     Clock {
-        refusal: refusal::Refusal::Done,
+        refusal: Ok(()),
         signals: signals_of(b, active, shown.cursor),
         address: c.beam.address,
         dots: column_dots(b, active & raster::is_wide(raster::code_of(code)), shown),
@@ -259,30 +260,23 @@ fn one_clock(
 // Whether nothing refuses a clock, without the number. timing::call_check has it all, but is too large to be inlined. The groups come last, since their
 // loop parts what stands before it from what stands behind.
 fn clear(b: board::Board, size: bool, groups: &[u8]) -> bool
-    ensures { result ≡ done_of (call_check b (lent_by size groups.now) false false) }
+    ensures { result ≡ is_ok (call_check b (lent_by size groups.now) false false) }
 {
     let page = b.page;
-    if size | !refusal::is_done(timing::page_check(page)) | timing::state_refused(b) {
+    if size | !timing::page_check(page).is_ok() | timing::state_refused(b) {
         return false;
     }
-    refusal::is_done(shape::groups_check(groups))
+    shape::groups_check(groups).is_ok()
 }
 
 // What refuses a clock that something refuses.
-fn refused_by(b: board::Board, size: bool, groups: &[u8]) -> refusal::Refusal
-    requires { done_of (call_check b (lent_by size groups.now) false false) ≡ false }
+fn refused_by(b: board::Board, size: bool, groups: &[u8]) -> Result<(), Refusal>
+    requires { is_ok (call_check b (lent_by size groups.now) false false) ≡ false }
     ensures { result ≡ call_check b (lent_by size groups.now) false false }
 {
-    let lent = video::lent_by(size, groups);
-    if !refusal::is_done(lent) {
-        return lent;
-    }
-    let page = b.page;
-    let refused = timing::page_check(page);
-    if refusal::is_done(refused) {
-        return refusal::Refusal::Range;
-    }
-    refused
+    video::lent_by(size, groups)?;
+    timing::page_check(b.page)?;
+    Err(Refusal::Range)
 }
 
 // A clock, or where it is refused the number, zeros and the old place.

@@ -1,107 +1,64 @@
--- Rests on font-passed for what the callees ask, on font-done and font-kept for the answer.
-use Prim.Native.Nat.{ℕ, ◌≤◌}
-use mathlib.Core.Path.{◌≡◌, ap, ap₂, ◌∙◌}
-use mathlib.Core.Bool.{Bool, ◌&&◌, ◌||◌}
-use native.Mathlib.Omega.{arith}
-use lib.Dec.{eqb}
-use lib.ListN.{length, take, drop}
-use Rattle.refusal.specs.Laws.{done-is, checked}
+-- Rests on font-passed for what the callees ask, on font-done and font-kept for what is left.
+use Rattle.std.specs.Prelude.{is_ok}
+use Rattle.std.proofs.Common.{ℕ, take, drop, sym, ap, ◌∙◌, arith}
+use Rattle.refusal.specs.Laws.{sent-on}
 use Rattle.shape.specs.Font.{Font, font_of}
-use Rattle.files.specs.FontFile.{font_short, font_check}
 use Rattle.copies.specs.Put.{length_part}
-use Rattle.files.specs.FontLaws.{FontTaken, font-least, font-passed, font-done, font-kept}
+use Rattle.files.specs.FontLaws.{font-least, font-passed, font-done, font-kept}
 use Rattle.files.proofs.read_font.Goals as goal
 
 pub slice_bounds-read_words-end : goal.slice_bounds-read_words-end
 slice_bounds-read_words-end c =
     let lent : Font = font_of c.args.words.now c.args.flags.now c.args.unshifted.now c.args.shifted.now c.args.groups.now in
-    let check-is : c.font_check-refused.result ≡ font_check c.args.file.now (font_short c.args.file.now lent) =
-    let file = c.args.file.now in
-    c.font_check-refused.ensures
-    ∙ ap₂ (λ (t : Bool) (v : ℕ). font_check file (t || (eqb v 2 && eqb (length c.args.groups.now) 0))) c.font_refused.ensures c.version_in.ensures in
-    let fits : FontTaken c.args.file.now lent = font-passed _ lent (done-is _ (checked check-is c.is_done.ensures c.if-is_done.true)) in
-    let least : 2455 ≤ length c.args.file.now = font-least c.args.file.now fits.file-all in
-    omega (arith, least)
+    let fits = font-passed c.args.file.now lent (rw (c.font_refused.ensures, c.version_in.ensures) at (sym c.in_ok-font_check.ensures)) in
+    omega (arith, font-least c.args.file.now fits.file-all)
 
 pub read_words-requires : goal.read_words-requires
 read_words-requires c =
     let lent : Font = font_of c.args.words.now c.args.flags.now c.args.unshifted.now c.args.shifted.now c.args.groups.now in
-    let check-is : c.font_check-refused.result ≡ font_check c.args.file.now (font_short c.args.file.now lent) =
-    let file = c.args.file.now in
-    c.font_check-refused.ensures
-    ∙ ap₂ (λ (t : Bool) (v : ℕ). font_check file (t || (eqb v 2 && eqb (length c.args.groups.now) 0))) c.font_refused.ensures c.version_in.ensures in
-    let fits : FontTaken c.args.file.now lent = font-passed _ lent (done-is _ (checked check-is c.is_done.ensures c.if-is_done.true)) in
-    let least : 2455 ≤ length c.args.file.now = font-least c.args.file.now fits.file-all in
-    omega (arith, length_part c.args.file.now 5 2304 (omega (arith, least)), fits.whole.words-all)
+    let fits = font-passed c.args.file.now lent (rw (c.font_refused.ensures, c.version_in.ensures) at (sym c.in_ok-font_check.ensures)) in
+    omega (arith, length_part c.args.file.now 5 2304 (omega (arith, font-least c.args.file.now fits.file-all)), fits.whole.words-all)
 
 pub take_from-requires : goal.take_from-requires
 take_from-requires c =
     let lent : Font = font_of c.args.words.now c.args.flags.now c.args.unshifted.now c.args.shifted.now c.args.groups.now in
-    let check-is : c.font_check-refused.result ≡ font_check c.args.file.now (font_short c.args.file.now lent) =
-    let file = c.args.file.now in
-    c.font_check-refused.ensures
-    ∙ ap₂ (λ (t : Bool) (v : ℕ). font_check file (t || (eqb v 2 && eqb (length c.args.groups.now) 0))) c.font_refused.ensures c.version_in.ensures in
-    let fits : FontTaken c.args.file.now lent = font-passed _ lent (done-is _ (checked check-is c.is_done.ensures c.if-is_done.true)) in
-    let least : 2455 ≤ length c.args.file.now = font-least c.args.file.now fits.file-all in
-    omega (arith, least, fits.whole.flags-all)
+    let fits = font-passed c.args.file.now lent (rw (c.font_refused.ensures, c.version_in.ensures) at (sym c.in_ok-font_check.ensures)) in
+    omega (arith, font-least c.args.file.now fits.file-all, fits.whole.flags-all)
 
-pub take_from-requires-then-is_done : goal.take_from-requires-then-is_done
-take_from-requires-then-is_done c =
+pub take_from-requires-2 : goal.take_from-requires-2
+take_from-requires-2 c =
     let lent : Font = font_of c.args.words.now c.args.flags.now c.args.unshifted.now c.args.shifted.now c.args.groups.now in
-    let check-is : c.font_check-refused.result ≡ font_check c.args.file.now (font_short c.args.file.now lent) =
-    let file = c.args.file.now in
-    c.font_check-refused.ensures
-    ∙ ap₂ (λ (t : Bool) (v : ℕ). font_check file (t || (eqb v 2 && eqb (length c.args.groups.now) 0))) c.font_refused.ensures c.version_in.ensures in
-    let fits : FontTaken c.args.file.now lent = font-passed _ lent (done-is _ (checked check-is c.is_done.ensures c.if-is_done.true)) in
-    let least : 2455 ≤ length c.args.file.now = font-least c.args.file.now fits.file-all in
-    omega (arith, least, fits.whole.unshifted-all)
+    let fits = font-passed c.args.file.now lent (rw (c.font_refused.ensures, c.version_in.ensures) at (sym c.in_ok-font_check.ensures)) in
+    omega (arith, font-least c.args.file.now fits.file-all, fits.whole.unshifted-all)
 
-pub take_from-requires-then-is_done-2 : goal.take_from-requires-then-is_done-2
-take_from-requires-then-is_done-2 c =
+pub take_from-requires-3 : goal.take_from-requires-3
+take_from-requires-3 c =
     let lent : Font = font_of c.args.words.now c.args.flags.now c.args.unshifted.now c.args.shifted.now c.args.groups.now in
-    let check-is : c.font_check-refused.result ≡ font_check c.args.file.now (font_short c.args.file.now lent) =
-    let file = c.args.file.now in
-    c.font_check-refused.ensures
-    ∙ ap₂ (λ (t : Bool) (v : ℕ). font_check file (t || (eqb v 2 && eqb (length c.args.groups.now) 0))) c.font_refused.ensures c.version_in.ensures in
-    let fits : FontTaken c.args.file.now lent = font-passed _ lent (done-is _ (checked check-is c.is_done.ensures c.if-is_done.true)) in
-    let least : 2455 ≤ length c.args.file.now = font-least c.args.file.now fits.file-all in
-    omega (arith, least, fits.whole.shifted-all)
+    let fits = font-passed c.args.file.now lent (rw (c.font_refused.ensures, c.version_in.ensures) at (sym c.in_ok-font_check.ensures)) in
+    omega (arith, font-least c.args.file.now fits.file-all, fits.whole.shifted-all)
 
 pub read_groups-requires : goal.read_groups-requires
 read_groups-requires c v =
     let lent : Font = font_of c.args.words.now c.args.flags.now c.args.unshifted.now c.args.shifted.now c.args.groups.now in
-    let check-is : c.font_check-refused.result ≡ font_check c.args.file.now (font_short c.args.file.now lent) =
-    let file = c.args.file.now in
-    c.font_check-refused.ensures
-    ∙ ap₂ (λ (t : Bool) (v : ℕ). font_check file (t || (eqb v 2 && eqb (length c.args.groups.now) 0))) c.font_refused.ensures c.version_in.ensures in
-    let fits : FontTaken c.args.file.now lent = font-passed _ lent (done-is _ (checked check-is c.is_done.ensures c.if-is_done.true)) in
+    let fits = font-passed c.args.file.now lent (rw (c.font_refused.ensures, c.version_in.ensures) at (sym c.in_ok-font_check.ensures)) in
     (omega (arith, rw v at fits.file-all), fits.groups-room v)
 
-pub returns-then-is_done : goal.returns-then-is_done
-returns-then-is_done c =
+pub returns-in_err-font_check : goal.returns-in_err-font_check
+returns-in_err-font_check c =
     let lent : Font = font_of c.args.words.now c.args.flags.now c.args.unshifted.now c.args.shifted.now c.args.groups.now in
-    let check-is : c.font_check-refused.result ≡ font_check c.args.file.now (font_short c.args.file.now lent) =
-    let file = c.args.file.now in
-    c.font_check-refused.ensures
-    ∙ ap₂ (λ (t : Bool) (v : ℕ). font_check file (t || (eqb v 2 && eqb (length c.args.groups.now) 0))) c.font_refused.ensures c.version_in.ensures in
-    let fits : FontTaken c.args.file.now lent = font-passed _ lent (done-is _ (checked check-is c.is_done.ensures c.if-is_done.true)) in
-    let check = check-is in
-    let k = fits.whole in
+    let refused = rw (c.font_refused.ensures, c.version_in.ensures) at c.in_err-font_check.ensures in
+    (sent-on c.from_residual.result c.from_residual.ensures.1 ∙ refused, font-kept _ lent (ap is_ok (sym refused)))
+
+pub returns : goal.returns
+returns c =
+    let lent : Font = font_of c.args.words.now c.args.flags.now c.args.unshifted.now c.args.shifted.now c.args.groups.now in
+    let ok = rw (c.font_refused.ensures, c.version_in.ensures) at (sym c.in_ok-font_check.ensures) in
+    let whole = (font-passed c.args.file.now lent ok).whole in
     let file = c.args.file.now in (
-      check,
-      font-done file lent (checked check c.is_done.ensures c.if-is_done.true) k _ c.read_words.ensures _ _ _ _
-          (c.take_from.ensures ∙ ap (λ (n : ℕ). take n (drop 2309 file)) k.flags-all)
-          (c.take_from-then-is_done.ensures ∙ ap (λ (n : ℕ). take n (drop 2437 file)) k.unshifted-all)
-          (c.take_from-then-is_done-2.ensures ∙ ap (λ (n : ℕ). take n (drop 2446 file)) k.shifted-all)
+      sym ok,
+      font-done file lent (ap is_ok ok) whole _ c.read_words.ensures _ _ _ _
+          (c.take_from.ensures ∙ ap (λ (n : ℕ). take n (drop 2309 file)) whole.flags-all)
+          (c.take_from-2.ensures ∙ ap (λ (n : ℕ). take n (drop 2437 file)) whole.unshifted-all)
+          (c.take_from-3.ensures ∙ ap (λ (n : ℕ). take n (drop 2446 file)) whole.shifted-all)
           c.read_groups.ensures,
     )
-
-pub returns-else-is_done : goal.returns-else-is_done
-returns-else-is_done c =
-    let lent : Font = font_of c.args.words.now c.args.flags.now c.args.unshifted.now c.args.shifted.now c.args.groups.now in
-    let check-is : c.font_check-refused.result ≡ font_check c.args.file.now (font_short c.args.file.now lent) =
-    let file = c.args.file.now in
-    c.font_check-refused.ensures
-    ∙ ap₂ (λ (t : Bool) (v : ℕ). font_check file (t || (eqb v 2 && eqb (length c.args.groups.now) 0))) c.font_refused.ensures c.version_in.ensures in
-    let check = check-is in
-    (check, font-kept _ lent (checked check c.is_done.ensures c.if-is_done.false))

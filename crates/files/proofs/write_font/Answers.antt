@@ -1,5 +1,7 @@
--- Rests on font-write-passed for what the callee asks, on font-write-done and font-write-kept for the answer.
-use Rattle.refusal.specs.Laws.{done-is, checked}
+-- Rests on font-write-passed for what the callee asks, on font-write-done and font-write-kept for what is left.
+use Rattle.std.specs.Prelude.{is_ok}
+use Rattle.std.proofs.Common.{sym, ap, ◌∙◌}
+use Rattle.refusal.specs.Laws.{sent-on}
 use Rattle.shape.specs.Font.{Font, font_of}
 use Rattle.files.specs.FontLaws.{font-write-passed, font-write-done, font-write-kept}
 use Rattle.files.proofs.write_font.Goals as goal
@@ -7,16 +9,16 @@ use Rattle.files.proofs.write_font.Goals as goal
 pub put_font-requires : goal.put_font-requires
 put_font-requires c =
     let lent : Font = font_of c.args.words.now c.args.flags.now c.args.unshifted.now c.args.shifted.now c.args.groups.now in
-    font-write-passed lent _ (done-is _ (checked c.font_write_check-refused.ensures c.is_done.ensures c.if-is_done.true))
+    font-write-passed lent _ (sym c.in_ok-font_write_check.ensures)
 
-pub returns-then-is_done : goal.returns-then-is_done
-returns-then-is_done c =
+pub returns-in_err-font_write_check : goal.returns-in_err-font_write_check
+returns-in_err-font_write_check c =
     let lent : Font = font_of c.args.words.now c.args.flags.now c.args.unshifted.now c.args.shifted.now c.args.groups.now in
-    let check = c.font_write_check-refused.ensures in
-    (check, font-write-done lent c.args.out.now (checked check c.is_done.ensures c.if-is_done.true) c.put_font.ensures)
+    let refused = c.in_err-font_write_check.ensures in
+    (sent-on c.from_residual.result c.from_residual.ensures.1 ∙ refused, font-write-kept lent c.args.out.now (ap is_ok (sym refused)))
 
-pub returns-else-is_done : goal.returns-else-is_done
-returns-else-is_done c =
+pub returns : goal.returns
+returns c =
     let lent : Font = font_of c.args.words.now c.args.flags.now c.args.unshifted.now c.args.shifted.now c.args.groups.now in
-    let check = c.font_write_check-refused.ensures in
-    (check, font-write-kept lent c.args.out.now (checked check c.is_done.ensures c.if-is_done.false))
+    let ok = c.in_ok-font_write_check.ensures in
+    (ok, font-write-done lent c.args.out.now (ap is_ok (sym ok)) c.put_font.ensures)
