@@ -1,6 +1,7 @@
 -- What a call for C answers: the refusal's number, the number beside it, and the results.
-use Rattle.std.specs.Prelude.{ℕ}
-use Rattle.refusal.specs.Number.{Checked, number_of, beside_of}
+use Rattle.std.specs.Prelude.{ℕ, Result}
+use Rattle.refusal.specs.declared.Refusal.{Refusal}
+use Rattle.refusal.specs.Number.{Checked, check_of, value_or, number_of, beside_of}
 use Rattle.board.specs.declared.Board.{Board}
 use Rattle.feldrime.specs.declared.Answer.{Answer}
 use Rattle.feldrime.specs.declared.SizeAnswer.{SizeAnswer}
@@ -31,6 +32,10 @@ cells_answer r n = record { refusal = number_of r; beside = beside_of r; count =
 
 abbrev pub board_answer : Checked → Board → BoardAnswer
 board_answer r b = record { refusal = number_of r; beside = beside_of r; board = b }
+
+-- of a call that gives a board or is refused: its board, or another in its place
+abbrev pub board_given : Result Board Refusal → (other : Board) → BoardAnswer
+board_given given other = board_answer (check_of given) (value_or other given)
 
 abbrev pub byte_answer : Checked → ℕ → ByteAnswer
 byte_answer r v = record { refusal = number_of r; beside = beside_of r; byte = v }

@@ -3,30 +3,25 @@ use Rattle.feldrime.specs.Answers.{answer_of}
 use Rattle.feldrime.specs.declared.Answer.{Answer}
 use Rattle.std.specs.Prelude.{◌≡◌, ℕ, List, Err}
 use Rattle.lists.specs.Choice.{pick}
-use Rattle.refusal.specs.Number.{Checked}
+use Rattle.refusal.specs.Number.{Checked, check_of}
 use Rattle.refusal.specs.declared.Refusal.TheVariants.{Size}
-use Rattle.catalogue.specs.declared.Moved.{Moved}
 use Rattle.catalogue.specs.ToTable.{as_table, as_table_left}
 use Rattle.catalogue.specs.ToSheet.{as_sheet}
 use Rattle.numbers.specs.Numbers.{numbers_refused, numbers_board, page_or_own}
 
--- the moved page in the place of the numbers' own; a refusal leaves them
-abbrev pub moved_numbers : Moved → List ℕ → List ℕ
-moved_numbers m numbers = page_or_own m.refusal m.board.page numbers
-
 -- 3 for the numbers, then the move's own
 unfoldable pub to_table_check : (numbers chars : List ℕ) → Checked
-to_table_check numbers chars = pick (numbers_refused numbers) (Err Size) (as_table (numbers_board numbers) chars).refusal
+to_table_check numbers chars = pick (numbers_refused numbers) (Err Size) (check_of (as_table (numbers_board numbers) chars))
 
 unfoldable pub to_sheet_check : (numbers chars : List ℕ) → Checked
-to_sheet_check numbers chars = pick (numbers_refused numbers) (Err Size) (as_sheet (numbers_board numbers) chars).refusal
+to_sheet_check numbers chars = pick (numbers_refused numbers) (Err Size) (check_of (as_sheet (numbers_board numbers) chars))
 
--- the numbers afterwards
+-- the numbers afterwards: the moved page in the place of their own; a refusal leaves them
 unfoldable pub to_table_numbers : (numbers chars : List ℕ) → List ℕ
-to_table_numbers numbers chars = pick (numbers_refused numbers) numbers (moved_numbers (as_table (numbers_board numbers) chars) numbers)
+to_table_numbers numbers chars = pick (numbers_refused numbers) numbers (page_or_own (as_table (numbers_board numbers) chars) numbers)
 
 unfoldable pub to_sheet_numbers : (numbers chars : List ℕ) → List ℕ
-to_sheet_numbers numbers chars = pick (numbers_refused numbers) numbers (moved_numbers (as_sheet (numbers_board numbers) chars) numbers)
+to_sheet_numbers numbers chars = pick (numbers_refused numbers) numbers (page_or_own (as_sheet (numbers_board numbers) chars) numbers)
 
 -- character memory afterwards
 unfoldable pub to_table_chars : (numbers chars : List ℕ) → List ℕ

@@ -8,32 +8,32 @@ use Rattle.board.specs.declared.Board.{Board}
 use Rattle.std.specs.Prelude.{length, ◌≡◌, ℕ, List, is_ok, Err}
 use Rattle.lists.specs.Choice.{pick}
 use Rattle.refusal.specs.declared.Refusal.TheVariants.{Size}
-use Rattle.refusal.specs.Number.{Checked}
+use Rattle.refusal.specs.Number.{Checked, given, check_of}
 use Rattle.board.specs.State.{power_of}
-use Rattle.timing.specs.Check.{size_of}
-use Rattle.fetch.specs.Run.{span_of}
+use Rattle.timing.specs.Check.{size_of, size_in}
+use Rattle.fetch.specs.Run.{span_of, span_in}
 use Rattle.files.specs.Page.{version_in, page_at}
 use Rattle.numbers.specs.Numbers.{numbers_refused, numbers_check, numbers_board, numbers_of_check, numbers_of}
 use Rattle.feldrime.specs.declared.SizeAnswer.{SizeAnswer}
 use Rattle.feldrime.specs.declared.FontAnswer.{FontAnswer}
 use Rattle.feldrime.specs.declared.RunAnswer.{RunAnswer}
 use Rattle.feldrime.specs.declared.BoardAnswer.{BoardAnswer}
-use Rattle.feldrime.specs.Answers.{size_answer, font_answer, run_answer, board_answer, answer_of}
+use Rattle.feldrime.specs.Answers.{size_answer, font_answer, run_answer, board_given, answer_of}
 
 unfoldable pub size_for : List ℕ → SizeAnswer
 size_for numbers =
     pick (numbers_refused numbers) (size_answer (Err Size) 0 0)
-    (size_answer (size_of (page_at numbers 1)).refusal (size_of (page_at numbers 1)).lines.0 (size_of (page_at numbers 1)).dots.0)
+    (size_answer (check_of (size_of (page_at numbers 1))) (size_in (page_at numbers 1)).lines.0 (size_in (page_at numbers 1)).dots.0)
 
 -- a row's first run: its first address and how many cells, zeros on a refusal
 unfoldable pub run_for : (numbers chars : List ℕ) → ℕ → RunAnswer
 run_for numbers chars row =
     pick (numbers_refused numbers) (run_answer (Err Size) 0 0)
-    (run_answer (span_of (numbers_board numbers) chars row).refusal (span_of (numbers_board numbers) chars row).start (span_of (numbers_board numbers) chars row).count)
+    (run_answer (check_of (span_of (numbers_board numbers) chars row)) (span_in (numbers_board numbers) chars row).start (span_in (numbers_board numbers) chars row).count)
 
 -- a refusal gives the board that power gives
 unfoldable pub board_for : List ℕ → BoardAnswer
-board_for numbers = board_answer (numbers_check numbers) (pick (is_ok (numbers_check numbers)) (numbers_board numbers) power_of)
+board_for numbers = board_given (given (numbers_check numbers) (numbers_board numbers)) power_of
 
 -- ---- files, and a board's numbers: the answer, and the lent buffers afterwards
 

@@ -1,8 +1,9 @@
 -- All cells of a row, from a page's numbers.
 use Rattle.std.specs.Prelude.{length, ◌≡◌, ℕ, List, Err}
 use Rattle.lists.specs.Choice.{pick}
+use Rattle.refusal.specs.Number.{check_of}
 use Rattle.refusal.specs.declared.Refusal.TheVariants.{Size}
-use Rattle.fetch.specs.RowCells.{cells_given, cells_put}
+use Rattle.fetch.specs.RowCells.{cells_given, cells_count, cells_put}
 use Rattle.feldrime.specs.declared.CellsAnswer.{CellsAnswer}
 use Rattle.numbers.specs.Numbers.{numbers_refused, numbers_board}
 use Rattle.feldrime.specs.Answers.{cells_answer}
@@ -11,7 +12,7 @@ use Rattle.feldrime.specs.Answers.{cells_answer}
 unfoldable pub cells_for : (numbers chars : List ℕ) → (row room : ℕ) → CellsAnswer
 cells_for numbers chars row room =
     pick (numbers_refused numbers) (cells_answer (Err Size) 0)
-    (cells_answer (cells_given (numbers_board numbers) chars row room).refusal (cells_given (numbers_board numbers) chars row room).count)
+    (cells_answer (check_of (cells_given (numbers_board numbers) chars row room)) (cells_count (numbers_board numbers) chars row room))
 
 -- the buffer afterwards, which stays where the numbers are refused
 unfoldable pub cells_put_for : (numbers chars : List ℕ) → ℕ → List ℕ → List ℕ

@@ -6,8 +6,9 @@ ghost use Rattle.lists.specs.Choice.{pick};
 ghost use Rattle.board.specs.State.{power_of};
 ghost use Rattle.shape.specs.Font.{lent_font, font_to_fill, left_font};
 ghost use Rattle.records.specs.Records.{phrases_differ};
-ghost use Rattle.numbers.specs.Numbers.{numbers_check};
-ghost use Rattle.feldrime.specs.Answers.{archive_version, answer_of, board_answer};
+ghost use Rattle.refusal.specs.Number.{given, check_of};
+ghost use Rattle.numbers.specs.Numbers.{numbers_check, numbers_board};
+ghost use Rattle.feldrime.specs.Answers.{archive_version, answer_of, board_given};
 ghost use Rattle.feldrime.specs.Pages.{size_for, run_for, board_for, ReadsPageFor, WritesPageFor, groups_read, ReadsFontFor, GivesNumbersFor};
 ghost use Rattle.feldrime.specs.LineDraw.{DrawsLineFor};
 ghost use Rattle.feldrime.specs.PictureDraw.{DrawsPictureFor};
@@ -16,6 +17,8 @@ ghost use Rattle.feldrime.specs.Catalogue.{MovesToTableFor, MovesToSheetFor};
 ghost use Rattle.feldrime.specs.Phrases.{phrase_for, asked_for};
 ghost use Rattle.feldrime.specs.Step.{numbered, step_numbers, StepsFor};
 ghost use Rattle.feldrime.specs.Boards.{set_video_for, write_for, read_for, state_for};
+
+use refusal::Refusal;
 
 pub fn feldrime_version() -> u32
     ensures { result ≡ archive_version }
@@ -31,12 +34,12 @@ pub struct Answer {
     pub beside: u32,
 }
 
-fn answered(r: refusal::Refusal) -> Answer
-    ensures { result ≡ answer_of r }
+fn answered(checked: Result<(), Refusal>) -> Answer
+    ensures { result ≡ answer_of checked }
 {
     Answer {
-        refusal: refusal::number(r),
-        beside: refusal::beside(r),
+        refusal: refusal::number(checked),
+        beside: refusal::beside(checked),
     }
 }
 
@@ -67,13 +70,19 @@ pub fn feldrime_page_size(numbers: &[u8]) -> SizeAnswer
             dots: 0,
         };
     }
-    let s = timing::page_size(files::page_at(numbers, 1));
-    let refused = s.refusal;
-    SizeAnswer {
-        refusal: refusal::number(refused),
-        beside: refusal::beside(refused),
-        lines: s.lines.0,
-        dots: s.dots.0,
+    match timing::page_size(files::page_at(numbers, 1)) {
+        Ok(size) => SizeAnswer {
+            refusal: 0,
+            beside: 0,
+            lines: size.lines.0,
+            dots: size.dots.0,
+        },
+        Err(why) => SizeAnswer {
+            refusal: refusal::number(Err(why)),
+            beside: refusal::beside(Err(why)),
+            lines: 0,
+            dots: 0,
+        },
     }
 }
 
@@ -108,10 +117,10 @@ pub struct FontAnswer {
     pub groups: u32,
 }
 
-fn groups_read(r: refusal::Refusal, file: &[u8]) -> u32
-    ensures { result ≡ groups_read r file.now }
+fn groups_read(checked: Result<(), Refusal>, file: &[u8]) -> u32
+    ensures { result ≡ groups_read checked file.now }
 {
-    if refusal::is_done(r) {
+    if checked.is_ok() {
         return files::groups_in(file) as u32;
     }
     0
@@ -154,7 +163,7 @@ pub fn feldrime_line_draw(
         line field out.old result out.new }
 {
     if numbers::numbers_refused(numbers) {
-        return answered(refusal::Refusal::Size);
+        return answered(Err(Refusal::Size));
     }
     let b = files::board_at(numbers, 1);
     let refused = line::draw_line(
@@ -190,7 +199,7 @@ pub fn feldrime_picture_draw(
         field out.old result out.new }
 {
     if numbers::numbers_refused(numbers) {
-        return answered(refusal::Refusal::Size);
+        return answered(Err(Refusal::Size));
     }
     let b = files::board_at(numbers, 1);
     let refused = picture::draw_picture(
@@ -220,13 +229,19 @@ pub fn feldrime_row_run(numbers: &[u8], chars: &[u8], row: u32) -> RunAnswer
             count: 0,
         };
     }
-    let s = fetch::span_of(files::board_at(numbers, 1), chars, row);
-    let refused = s.refusal;
-    RunAnswer {
-        refusal: refusal::number(refused),
-        beside: refusal::beside(refused),
-        first: s.start as u32,
-        count: s.count as u32,
+    match fetch::span_of(files::board_at(numbers, 1), chars, row) {
+        Ok(span) => RunAnswer {
+            refusal: 0,
+            beside: 0,
+            first: span.start as u32,
+            count: span.count as u32,
+        },
+        Err(why) => RunAnswer {
+            refusal: refusal::number(Err(why)),
+            beside: refusal::beside(Err(why)),
+            first: 0,
+            count: 0,
+        },
     }
 }
 
@@ -250,12 +265,26 @@ pub fn feldrime_row_cells(numbers: &[u8], chars: &[u8], row: u32, cells: &mut [u
             count: 0,
         };
     }
-    let given = fetch::row_cells(files::board_at(numbers, 1), chars, row, cells);
-    let refused = given.refusal;
-    CellsAnswer {
-        refusal: refusal::number(refused),
-        beside: refusal::beside(refused),
-        count: given.count as u32,
+    match fetch::row_cells(files::board_at(numbers, 1), chars, row, cells) {
+        Ok(count) => CellsAnswer {
+            refusal: 0,
+            beside: 0,
+            count: count as u32,
+        },
+        Err(why) => CellsAnswer {
+            refusal: refusal::number(Err(why)),
+            beside: refusal::beside(Err(why)),
+            count: 0,
+        },
+    }
+}
+
+fn answered_move(moved: Result<board::Board, Refusal>) -> Answer
+    ensures { result ≡ answer_of (check_of moved) }
+{
+    match moved {
+        Ok(_) => answered(Ok(())),
+        Err(why) => answered(Err(why)),
     }
 }
 
@@ -264,13 +293,11 @@ pub fn feldrime_to_table(numbers: &mut [u8], chars: &mut [u8]) -> Answer
     ensures { MovesToTableFor numbers.old chars.old result numbers.new chars.new }
 {
     if numbers::numbers_refused(numbers) {
-        return answered(refusal::Refusal::Size);
+        return answered(Err(Refusal::Size));
     }
     let moved = catalogue::to_table(files::board_at(numbers, 1), chars);
-    let refused = moved.refusal;
-    let board = moved.board;
-    numbers::put_page(refused, board.page, numbers);
-    answered(refused)
+    numbers::put_page(moved, numbers);
+    answered_move(moved)
 }
 
 // A page whose rows follow one another becomes a sheet: its numbers are altered where they stand.
@@ -278,13 +305,11 @@ pub fn feldrime_to_sheet(numbers: &mut [u8], chars: &[u8]) -> Answer
     ensures { MovesToSheetFor numbers.old chars.now result numbers.new }
 {
     if numbers::numbers_refused(numbers) {
-        return answered(refusal::Refusal::Size);
+        return answered(Err(Refusal::Size));
     }
     let moved = catalogue::to_sheet(files::board_at(numbers, 1), chars);
-    let refused = moved.refusal;
-    let board = moved.board;
-    numbers::put_page(refused, board.page, numbers);
-    answered(refused)
+    numbers::put_page(moved, numbers);
+    answered_move(moved)
 }
 
 // What a row asks of each record.
@@ -331,13 +356,21 @@ pub struct BoardAnswer {
     pub board: board::Board,
 }
 
-fn with_board(r: refusal::Refusal, b: board::Board) -> BoardAnswer
-    ensures { result ≡ board_answer r b }
+// The board that a call gives, or on a refusal another.
+fn with_board(given: Result<board::Board, Refusal>, other: board::Board) -> BoardAnswer
+    ensures { result ≡ board_given given other }
 {
-    BoardAnswer {
-        refusal: refusal::number(r),
-        beside: refusal::beside(r),
-        board: b,
+    match given {
+        Ok(board) => BoardAnswer {
+            refusal: 0,
+            beside: 0,
+            board,
+        },
+        Err(why) => BoardAnswer {
+            refusal: refusal::number(Err(why)),
+            beside: refusal::beside(Err(why)),
+            board: other,
+        },
     }
 }
 
@@ -347,15 +380,20 @@ pub fn feldrime_power() -> board::Board
     board::power()
 }
 
-// An active board at clock 0, pointer at IR0; on a refusal the board that power gives.
+// An active board at clock 0, pointer at IR0.
+fn board_in(numbers: &[u8]) -> Result<board::Board, Refusal>
+    ensures { result ≡ given (numbers_check numbers.now) (numbers_board numbers.now) }
+{
+    numbers::numbers_check(numbers)?;
+    Ok(files::board_at(numbers, 1))
+}
+
+// The same; on a refusal the board that power gives.
+#[tactic(auto, unfolding(crate::specs::Pages::board_for))]
 pub fn feldrime_board_of(numbers: &[u8]) -> BoardAnswer
     ensures { result ≡ board_for numbers.now }
 {
-    let refused = numbers::numbers_check(numbers);
-    if refusal::is_done(refused) {
-        return with_board(refused, files::board_at(numbers, 1));
-    }
-    with_board(refused, board::power())
+    with_board(board_in(numbers), board::power())
 }
 
 // A board's page as numbers, the way back.
@@ -375,25 +413,20 @@ pub fn feldrime_set_video(
 ) -> BoardAnswer
     ensures { result ≡ set_video_for b width strike bkgnd rblank }
 {
-    let s = registers::set_video(
+    let set = registers::set_video(
         b,
         units::Dots(width as u32),
         strike,
         bkgnd != 0,
         rblank != 0,
     );
-    let refused = s.refusal;
-    let board = s.board;
-    with_board(refused, board)
+    with_board(set, b)
 }
 
 pub fn feldrime_register_write(b: board::Board, address: u8, byte: u8) -> BoardAnswer
     ensures { result ≡ write_for b address byte }
 {
-    let w = registers::write(b, address, byte);
-    let refused = w.refusal;
-    let board = w.board;
-    with_board(refused, board)
+    with_board(registers::write(b, address, byte), b)
 }
 
 #[repr(C)]
@@ -407,12 +440,17 @@ pub struct ByteAnswer {
 pub fn feldrime_register_read(b: board::Board, address: u8) -> ByteAnswer
     ensures { result ≡ read_for b address }
 {
-    let read = registers::read(b, address);
-    let refused = read.refusal;
-    ByteAnswer {
-        refusal: refusal::number(refused),
-        beside: refusal::beside(refused),
-        byte: read.byte as u32,
+    match registers::read(b, address) {
+        Ok(byte) => ByteAnswer {
+            refusal: 0,
+            beside: 0,
+            byte: byte as u32,
+        },
+        Err(why) => ByteAnswer {
+            refusal: refusal::number(Err(why)),
+            beside: refusal::beside(Err(why)),
+            byte: 0,
+        },
     }
 }
 
@@ -420,10 +458,7 @@ pub fn feldrime_register_read(b: board::Board, address: u8) -> ByteAnswer
 pub fn feldrime_state_at(b: board::Board, chars: &[u8], attrs: &[u8], n: u32) -> BoardAnswer
     ensures { result ≡ state_for b chars.now attrs.now n }
 {
-    let s = place::state_at(b, chars, attrs, units::Clocks(n));
-    let refused = s.refusal;
-    let board = s.board;
-    with_board(refused, board)
+    with_board(place::state_at(b, chars, attrs, units::Clocks(n)), b)
 }
 
 // What a step answers: a signal is 0 or 1, the dots are bytes as in a drawn line.

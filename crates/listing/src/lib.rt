@@ -3,25 +3,9 @@
 ghost use Rattle.std.specs.Prelude.{◌≡◌, [], ◌∷◌, ◌++◌, map, ◌+◌, ◌-◌, ◌≤◌, ◌<◌, length, take, drop};
 ghost use Rattle.shape.specs.Font.{lent_font};
 ghost use Rattle.listing.specs.Decimal.{Spelled};
-ghost use Rattle.listing.specs.Answers.{listed};
 ghost use Rattle.listing.specs.Listing.{line_feed, letter_of, ListsHead, ListsLine};
 
-// How many bytes were written.
-#[derive(Clone, Copy)]
-pub struct Listed {
-    pub refusal: refusal::Refusal,
-    pub count: usize,
-}
-
-// A refusal lists nothing.
-fn nothing(r: refusal::Refusal) -> Listed
-    ensures { result ≡ listed r 0 }
-{
-    Listed {
-        refusal: r,
-        count: 0,
-    }
-}
+use refusal::Refusal;
 
 // A number's decimal digits, at the front of the bytes.
 #[derive(Clone, Copy)]
@@ -52,28 +36,21 @@ fn put_number(out: &mut [u8], n: Digits, after: u8)
     out[count] = after;
 }
 
-// The listing's first line, at the front of out. A refusal leaves out as it was.
-pub fn listing_head(p: board::Page, out: &mut [u8]) -> Listed
+// The listing's first line, at the front of out, and how many bytes it has. A refusal leaves out as it was.
+pub fn listing_head(p: board::Page, out: &mut [u8]) -> Result<usize, Refusal>
     ensures { ListsHead p out.old result out.new }
 {
-    let size = timing::page_size(p);
-    let refused = size.refusal;
-    if !refusal::is_done(refused) {
-        return nothing(refused);
-    }
+    let size = timing::page_size(p)?;
     let lines = digits_of(size.lines.0);
     let dots = digits_of(size.dots.0);
     let first = lines.count + 1;
     let count = first + dots.count + 1;
     if out.len() < count {
-        return nothing(refusal::Refusal::Room);
+        return Err(Refusal::Room);
     }
     put_number(out, lines, b' ');
     put_number(&mut out[first..], dots, b'\n');
-    Listed {
-        refusal: refused,
-        count,
-    }
+    Ok(count)
 }
 
 fn letter_of(level: u8) -> u8
@@ -113,7 +90,8 @@ fn room_for_dots(room: usize) -> usize
     if room == 0 { 0 } else { room - 1 }
 }
 
-// A visible line of the listing as it looks in a field, at the front of out. A refusal leaves out as it was.
+// A visible line of the listing as it looks in a field, at the front of out, and how many bytes it has. A refusal leaves
+// out as it was.
 pub fn listing_line(
     b: board::Board,
     chars: &[u8],
@@ -126,12 +104,12 @@ pub fn listing_line(
     line: units::Lines,
     field: u8,
     out: &mut [u8],
-) -> Listed
+) -> Result<usize, Refusal>
     ensures { ListsLine b chars.now attrs.now
         (lent_font words flags unshifted shifted groups) line.0 field out.old result out.new }
 {
     let room = room_for_dots(out.len());
-    let refused = line::draw_line(
+    line::draw_line(
         b,
         chars,
         attrs,
@@ -143,14 +121,8 @@ pub fn listing_line(
         line,
         field,
         &mut out[..room],
-    );
-    if !refusal::is_done(refused) {
-        return nothing(refused);
-    }
-    let n = timing::page_size(b.page).dots.places();
+    )?;
+    let n = timing::page_size(b.page)?.dots.places();
     finish_line(out, n);
-    Listed {
-        refusal: refused,
-        count: n + 1,
-    }
+    Ok(n + 1)
 }

@@ -12,7 +12,8 @@ use Rattle.std.proofs.Math.Bool.{true, false}
 use Rattle.std.proofs.Math.Dec.{eqb}
 use Rattle.lists.specs.Choice.{pick}
 use Rattle.lists.specs.Search.{any_below, first_below, any_none, first-kept, first-new, same-any, same_first}
-use Rattle.refusal.specs.Number.{unrefused, number_of, beside_of}
+use Rattle.refusal.specs.Number.{number_of, beside_of}
+use Rattle.refusal.specs.Laws.{number-ok}
 use Rattle.board.specs.declared.Board.{Board}
 use Rattle.fetch.specs.Rows.{fetched_of, fetch_at}
 use Rattle.fetch.specs.Run.{run_check}
@@ -94,7 +95,7 @@ module _ (b : Board) (chars : List ℕ) (rs : List Phrase) (row : ℕ) where
           ≡ pick t (phrase_among (phrase_answer 0 0 0 0) (at rs bad_record) (at rs (holds_row b.page chars row)) (length rs))
           (phrase_answer (number_of (run_check b (length chars) row)) (beside_of (run_check b (length chars) row)) 0 0)
       go true e = held
-      go false e = held-refused rs _ _ e
+      go false e = held-refused rs _ _ (number-ok (run_check b (length chars) row) ∙ e)
 
 -- ---- two records that differ
 

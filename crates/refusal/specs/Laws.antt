@@ -1,11 +1,11 @@
 -- What callers use of a check's answer: which test was passed where nothing is refused. Assumes nothing.
-use Rattle.std.specs.Prelude.{◌≡◌, refl, Bool, true, false, not, is_ok, Result, IsErrAnd, Ok, Err}
+use Rattle.std.specs.Prelude.{◌≡◌, refl, Bool, true, false, not, eqb, is_ok, Result, IsErrAnd, Ok, Err}
 use Rattle.std.proofs.Common.{sym, ap, ◌∙◌, true≢false}
 use Rattle.lists.specs.Choice.{pick}
 use Rattle.std.proofs.lemmas.Result.{err_from_is_err_and}
 use Rattle.refusal.specs.declared.Refusal.{Refusal}
-use Rattle.refusal.specs.declared.Refusal.TheVariants.{Size}
-use Rattle.refusal.specs.Number.{Checked, unrefused, given, after, check_of, wrong_size}
+use Rattle.refusal.specs.declared.Refusal.TheVariants.{Version, Length, Size, Reserved, BackPorch, LineShort, FrontPorch, Width, Range, Room, Register, Command, Address, Kind, Stretch, Apart, Coded}
+use Rattle.refusal.specs.Number.{Checked, unrefused, given, after, check_of, number_of, wrong_size}
 
 pub done-is : (r : Checked) → is_ok r ≡ true → r ≡ unrefused
 done-is (Ok tt) e = refl
@@ -15,6 +15,28 @@ done-is (Err why) e = absurd (true≢false (sym e))
 pub check-given : {A : Type 0} (r : Checked) (a : A) → check_of (given r a) ≡ r
 check-given (Ok tt) a = refl
 check-given (Err why) a = refl
+
+-- [refusal numbers]
+-- the number is 0 where nothing is refused, and there only
+pub number-ok : (r : Checked) → eqb (number_of r) 0 ≡ is_ok r
+number-ok (Ok tt) = refl
+number-ok (Err Version) = refl
+number-ok (Err Length) = refl
+number-ok (Err Size) = refl
+number-ok (Err Reserved) = refl
+number-ok (Err BackPorch) = refl
+number-ok (Err (LineShort missing)) = refl
+number-ok (Err (FrontPorch missing)) = refl
+number-ok (Err Width) = refl
+number-ok (Err Range) = refl
+number-ok (Err Room) = refl
+number-ok (Err Register) = refl
+number-ok (Err Command) = refl
+number-ok (Err Address) = refl
+number-ok (Err Kind) = refl
+number-ok (Err Stretch) = refl
+number-ok (Err Apart) = refl
+number-ok (Err Coded) = refl
 
 -- a choice of a refusal x, which came out as unrefused, was not taken; so a list of tests is gone through one by one
 pub passed : (t : Bool) (x r : Checked) → is_ok x ≡ false → pick t x r ≡ unrefused → (t ≡ false) × (r ≡ unrefused)

@@ -7,7 +7,7 @@ use Rattle.units.specs.declared.Lines.{Lines}
 use Rattle.units.specs.Units.{clocks, lines, dots, dots_of}
 use Rattle.refusal.specs.declared.Refusal.{Refusal}
 use Rattle.refusal.specs.declared.Refusal.TheVariants.{Reserved, BackPorch, LineShort, FrontPorch, Width, Range, Room, Address}
-use Rattle.refusal.specs.Number.{unrefused, Checked, given}
+use Rattle.refusal.specs.Number.{Checked, unrefused, given, value_or}
 use Rattle.board.specs.declared.Page.{Page}
 use Rattle.board.specs.declared.Board.{Board}
 use Rattle.board.specs.Range.{address_refused, cells_refused, pointer_refused}
@@ -61,6 +61,14 @@ page_check p =
 -- rows x lines visible lines of HACT x dots
 unfoldable pub size_of : Page → Result PageSize Refusal
 size_of p = given (page_check p) (record { lines = visible_of p; dots = dots_of (clocks (hact_of p)) p.video.dots })
+
+-- [refusal zeros]
+abbrev pub no_size : PageSize
+no_size = record { lines = lines 0; dots = dots 0 }
+
+-- the same, and on a refusal zeros
+abbrev pub size_in : Page → PageSize
+size_in p = value_or no_size (size_of p)
 
 -- [refusal numbers]
 -- 7: a state's line, clock in the line, address, row start or IR pointer out of range

@@ -1,12 +1,9 @@
 -- Rests on three and taken: 3 for the numbers, else what to_sheet answers and put_page leaves.
-use mathlib.Core.Path.{◌≡◌, sym, ap, ◌∙◌}
-use Rattle.board.specs.declared.Board.{Board}
-use Rattle.catalogue.specs.declared.Moved.{Moved}
-use Rattle.catalogue.specs.ToSheet.{as_sheet}
+use mathlib.Core.Path.{refl, sym, ap, ◌∙◌}
+use Rattle.refusal.specs.Number.{check_of}
 use Rattle.catalogue.specs.Marks.{as-sheet-width}
-use Rattle.numbers.specs.Numbers.{numbers_board}
 use Rattle.numbers.specs.Laws.{numbers-all, numbers-room}
-use Rattle.feldrime.specs.Catalogue.{moved_numbers, to_sheet_check, to_sheet_numbers}
+use Rattle.feldrime.specs.Catalogue.{to_sheet_check, to_sheet_numbers}
 use Rattle.feldrime.specs.Laws.{three, taken}
 use Rattle.feldrime.proofs.feldrime_to_sheet.Goals as goal
 
@@ -20,14 +17,11 @@ board_at-requires c =
 
 pub put_page-requires : goal.put_page-requires
 put_page-requires c =
-    let moved : c.to_sheet-moved.result ≡ as_sheet (numbers_board c.args.numbers.now) c.args.chars.now = c.to_sheet-moved.ensures ∙ ap (λ (b : Board). as_sheet b c.args.chars.now) c.board_at.ensures in
-    (numbers-all _ (sym c.numbers_refused.ensures ∙ c.if-numbers_refused.false), rw moved (as-sheet-width _ _))
+    (numbers-all _ (sym c.numbers_refused.ensures ∙ c.if-numbers_refused.false), rw c.to_sheet-moved.ensures (as-sheet-width _ _))
 
 pub returns : goal.returns
 unfolding to_sheet_check to_sheet_numbers
 returns c =
-    let moved : c.to_sheet-moved.result ≡ as_sheet (numbers_board c.args.numbers.now) c.args.chars.now = c.to_sheet-moved.ensures ∙ ap (λ (b : Board). as_sheet b c.args.chars.now) c.board_at.ensures in
-    let m = moved in
     taken _ _ _ _ _ (sym c.numbers_refused.ensures ∙ c.if-numbers_refused.false) _ _
-    (ap (λ (x : Moved). x.refusal) m, c.put_page.ensures ∙ ap (λ (x : Moved). moved_numbers x c.args.numbers.now) m)
-    c.answered-2.ensures
+    (rw (c.to_sheet-moved.ensures, c.board_at.ensures) refl, c.put_page.ensures ∙ rw (c.to_sheet-moved.ensures, c.board_at.ensures) refl)
+    c.answered_move.ensures
