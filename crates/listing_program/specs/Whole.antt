@@ -8,8 +8,7 @@ use Rattle.units.specs.Units.{clocks, lines, dots, dots_of}
 use Rattle.board.specs.declared.Page.{Page}
 use Rattle.board.specs.Layout.{last_ir}
 use Rattle.timing.specs.Fields.{rows_of, lines_of, hact_of, ht_of, vt_of, visible_of}
-use Rattle.timing.specs.declared.PageSize.{PageSize}
-use Rattle.timing.specs.Check.{page_check, sized, size_of, state_refused, call_check}
+use Rattle.timing.specs.Check.{page_check, size_of, state_refused, call_check}
 use Rattle.timing.specs.Laws.{accepted, visible-bound, dots-bound}
 use Rattle.files.specs.Page.{page_at, board_at}
 use Rattle.line.specs.Line.{line_length}
@@ -17,14 +16,9 @@ use Rattle.listing.specs.Decimal.{decimal, length-decimal}
 use Rattle.listing.specs.Listing.{listing_head, head_check, line_check}
 use Rattle.listing.specs.Head.{head-fits}
 
--- a page has few enough lines to count, and none where it is refused
-pub lines-small : (p : Page) (z : PageSize) → z ≡ size_of p → z.lines.0 ≤ 2048
-unfolding size_of
-lines-small p z e = rw e (go (is_ok (page_check p)))
-  where
-    go : (t : Bool) → (pick t (sized (page_check p) (visible_of p) (dots_of (clocks (hact_of p)) p.video.dots)) (sized (page_check p) (lines 0) (dots 0))).lines.0 ≤ 2048
-    go true = visible-bound p
-    go false = omega arith
+-- a page has few enough lines to count
+pub lines-small : (p : Page) → (visible_of p).0 ≤ 2048
+lines-small p = visible-bound p
 
 -- [case listing]
 -- the buffer has room for the head of every accepted page

@@ -2,9 +2,11 @@
 // The listing program but for C's `main` (programs/listing). It reads a page file, then a font file, from standard input
 // and writes the listing or the refusal to standard output.
 ghost use Rattle.std.specs.Prelude.{◌≤◌, length};
+ghost use Rattle.refusal.specs.Number.{value_or};
 ghost use Rattle.io.specs.Counts.{IsPrefixLen};
 
-use listing::{Listed, listing_head, listing_line};
+use listing::{listing_head, listing_line};
+use refusal::Refusal;
 
 const STDIN: i32 = 0;
 
@@ -34,17 +36,20 @@ pub fn feldrime_listing_read_page(file: &mut [u8]) -> usize
     rest + 1
 }
 
-fn print_refusal(r: refusal::Refusal) -> bool {
+fn print_refusal(why: Refusal) -> bool {
     io::write_all(STDOUT, b"refused ")
-        && io::print_decimal(STDOUT, refusal::number(r) as u64)
+        && io::print_decimal(STDOUT, refusal::number(Err(why)) as u64)
         && io::write_all(STDOUT, b"\n")
 }
 
 // Writes what was listed, which stands at the front of out.
-fn print(listed: Listed, out: &[u8]) -> bool
-    requires { listed.count ≤ length out.now }
+fn print(listed: Result<usize, Refusal>, out: &[u8]) -> bool
+    requires { value_or 0 listed ≤ length out.now }
 {
-    let count = listed.count;
+    let count = match listed {
+        Ok(count) => count,
+        Err(_) => 0,
+    };
     io::write_all(STDOUT, &out[..count])
 }
 
@@ -65,7 +70,7 @@ fn print_listing(
     if !print(head, &out) {
         return false;
     }
-    let shown = timing::page_size(page).lines;
+    let shown = timing::visible_of(page);
     let mut line = units::Lines(0);
     while line.below(shown) {
         let listed = listing_line(
@@ -98,16 +103,15 @@ fn list_page(b: board::Board, chars: &[u8], attrs: &[u8], font: &[u8]) -> u32 {
     let mut unshifted = [0u8; 9];
     let mut shifted = [0u8; 9];
     let mut groups = [0u8; 16];
-    let refused = files::read_font(
+    if let Err(why) = files::read_font(
         font,
         &mut words,
         &mut flags,
         &mut unshifted,
         &mut shifted,
         &mut groups,
-    );
-    if !refusal::is_done(refused) {
-        return ending(print_refusal(refused));
+    ) {
+        return ending(print_refusal(why));
     }
     let k = files::groups_in(font);
     let lent = &groups[..k];
@@ -120,12 +124,10 @@ fn list_page(b: board::Board, chars: &[u8], attrs: &[u8], font: &[u8]) -> u32 {
 pub fn feldrime_listing_page(page: &[u8]) -> u32 {
     let mut chars = [0u8; 16384];
     let mut attrs = [0u8; 16384];
-    let read = files::read_page(page, &mut chars, &mut attrs);
-    let refused = read.refusal;
-    if refusal::is_done(refused) {
-        return ACCEPTED;
+    match files::read_page(page, &mut chars, &mut attrs) {
+        Ok(_) => ACCEPTED,
+        Err(why) => ending(print_refusal(why)),
     }
-    ending(print_refusal(refused))
 }
 
 // Writes the listing, or why a file is refused.
@@ -134,10 +136,8 @@ pub fn feldrime_listing_page(page: &[u8]) -> u32 {
 pub fn feldrime_listing(page: &[u8], font: &[u8]) -> u32 {
     let mut chars = [0u8; 16384];
     let mut attrs = [0u8; 16384];
-    let read = files::read_page(page, &mut chars, &mut attrs);
-    let refused = read.refusal;
-    if !refusal::is_done(refused) {
-        return ending(print_refusal(refused));
+    match files::read_page(page, &mut chars, &mut attrs) {
+        Ok(b) => list_page(b, &chars, &attrs, font),
+        Err(why) => ending(print_refusal(why)),
     }
-    list_page(read.board, &chars, &attrs, font)
 }

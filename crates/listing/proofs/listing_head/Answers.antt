@@ -7,15 +7,15 @@ use Rattle.timing.specs.Laws.{size-refusal}
 use Rattle.listing.specs.Head.{Measured, head-refused, head-short, head-put}
 use Rattle.listing.proofs.listing_head.Goals as goal
 
-pub returns-in_err-page_size : goal.returns-in_err-page_size
-returns-in_err-page_size c =
-    let refused = head-refused c.args.p c.args.out.now _ c.in_err-page_size.ensures in
+pub returns-in_err-size : goal.returns-in_err-size
+returns-in_err-size c =
+    let refused = head-refused c.args.p c.args.out.now _ c.in_err-size.ensures in
     (sent-on c.from_residual.result c.from_residual.ensures.1 ∙ refused.0, refused.1)
 
 pub returns-then-out-count : goal.returns-then-out-count
 returns-then-out-count c =
     let whole = c.in_ok-size.ensures in
-    let measured : Measured c.args.p c.in_ok-size.field-0 c.digits_of-lines.result c.digits_of-dots.result =
+    let measured : Measured c.args.p c.in_ok-size.size c.digits_of-lines.result c.digits_of-dots.result =
     record {
       page = sym (size-refusal c.args.p) ∙ ap check_of (sym whole);
       whole = ap (value_or no_size) whole;
@@ -27,7 +27,7 @@ returns-then-out-count c =
 pub returns : goal.returns
 returns c =
     let whole = c.in_ok-size.ensures in
-    let measured : Measured c.args.p c.in_ok-size.field-0 c.digits_of-lines.result c.digits_of-dots.result =
+    let measured : Measured c.args.p c.in_ok-size.size c.digits_of-lines.result c.digits_of-dots.result =
     record {
       page = sym (size-refusal c.args.p) ∙ ap check_of (sym whole);
       whole = ap (value_or no_size) whole;

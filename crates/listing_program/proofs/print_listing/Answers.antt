@@ -9,7 +9,7 @@ pub print-requires : goal.print-requires
 print-requires c = rw (c.listing_head-head.ensures.0, c.listing_head-head.auto.out) (head-within _ _)
 
 pub loop-b-init : goal.loop-b-init
-loop-b-init c = (search rules, lines-small _ _ c.page_size.ensures)
+loop-b-init c = (search rules, rw c.visible_of-shown.ensures (lines-small c.args.b.page))
 
 pub print-requires-in-loop-b : goal.print-requires-in-loop-b
 print-requires-in-loop-b c =
