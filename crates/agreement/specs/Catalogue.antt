@@ -263,11 +263,11 @@ module _ (b : Board) (chars : List ℕ) (m : Movable b chars) (registers : 2 < l
     registers-back = set_twice p.irs 2 (ir p 2 % 128 + 128) (ir q 2 % 128) ∙ ap (set p.irs 2) low_bits ∙ set-get_or p.irs 2 0
 
     -- there and back: nothing but screen start 2 has changed
-    pub returned : as_sheet (with_page b q) chars' ≡ moved_to unrefused (with_page b (changed p p.irs p.starts.start1 place))
+    pub returned : as_sheet (with_page b q) chars' ≡ Ok (with_page b (changed p p.irs p.starts.start1 place))
     unfolding as_sheet as_sheet_page
     returned =
         let start = entry-tabled 0 (omega arith) ∙ row_zero in
-        rw as-sheet-done (ap₂ (λ (l : List ℕ) (x : ℕ). moved_to unrefused (with_page b (changed p l x place))) registers-back start)
+        rw as-sheet-done (ap₂ (λ (l : List ℕ) (x : ℕ). Ok (with_page b (changed p l x place))) registers-back start)
 
 -- ---- moving back
 
@@ -341,30 +341,30 @@ module _ (b : Board) (chars : List ℕ) (m : Returnable b chars) (registers : 2 
 -- [R-5 same]
 -- a sheet that `to_table` moves shows the same: it is accepted, its pictures are the same in every field and both attribute modes, and so are signals, address and dots of every step. Here and below a
 -- board's registers reach to IR2, as those of every board in the code do
-pub as-table-shows : (b : Board) (chars : List ℕ) → 2 < length b.page.irs → as_table_check b chars ≡ unrefused → ShowsSame b chars (as_table b chars).board (as_table_left b chars)
+pub as-table-shows : (b : Board) (chars : List ℕ) → 2 < length b.page.irs → as_table_check b chars ≡ unrefused → ShowsSame b chars (value_or b (as_table b chars)) (as_table_left b chars)
 unfolding as_table as_table_left
 as-table-shows b chars registers ok = rw ok (as-table-shown b chars (as-table-passed b chars ok) registers)
 
 module _ (b : Board) (chars : List ℕ) (registers : 2 < length b.page.irs) where
   -- [R-5 sheet]
   -- so does a page that `to_sheet` moves
-  pub as-sheet-shows : as_sheet_check b chars ≡ unrefused → ShowsSame b chars (as_sheet b chars).board chars
+  pub as-sheet-shows : as_sheet_check b chars ≡ unrefused → ShowsSame b chars (value_or b (as_sheet b chars)) chars
   unfolding as_sheet
   as-sheet-shows ok = rw ok (as-sheet-shown b chars (as-sheet-passed b chars ok) registers)
 
-  registers-kept : as_sheet_check b chars ≡ unrefused → 2 < length (as_sheet b chars).board.page.irs
+  registers-kept : as_sheet_check b chars ≡ unrefused → 2 < length (value_or b (as_sheet b chars)).page.irs
   unfolding as_sheet as_sheet_page
   registers-kept ok = rw (ok, length-set b.page.irs 2 (ir b.page 2 % 128)) registers
 
   -- and one that is moved back and there again
-  pub sheet-then-table : as_sheet_check b chars ≡ unrefused → as_table_check (as_sheet b chars).board chars ≡ unrefused
-      → ShowsSame b chars (as_table (as_sheet b chars).board chars).board (as_table_left (as_sheet b chars).board chars)
-  sheet-then-table ok again attrs = shows-on (as-sheet-shows ok attrs) (as-table-shows (as_sheet b chars).board chars (registers-kept ok) again attrs)
+  pub sheet-then-table : as_sheet_check b chars ≡ unrefused → as_table_check (value_or b (as_sheet b chars)) chars ≡ unrefused
+      → ShowsSame b chars (value_or (value_or b (as_sheet b chars)) (as_table (value_or b (as_sheet b chars)) chars)) (as_table_left (value_or b (as_sheet b chars)) chars)
+  sheet-then-table ok again attrs = shows-on (as-sheet-shows ok attrs) (as-table-shows (value_or b (as_sheet b chars)) chars (registers-kept ok) again attrs)
 
   -- [R-5 both] a sheet moved there and back differs only in screen start 2 and the table's cells
   -- a sheet that is moved there and back has another screen start 2, and nothing else of its board has changed
   pub table-then-sheet : ir b.page 2 < 256 → as_table_check b chars ≡ unrefused
-      → as_sheet (as_table b chars).board (as_table_left b chars) ≡ moved_to unrefused (with_page b (changed b.page b.page.irs b.page.starts.start1 (table_place b.page chars)))
+      → as_sheet (value_or b (as_table b chars)) (as_table_left b chars) ≡ Ok (with_page b (changed b.page b.page.irs b.page.starts.start1 (table_place b.page chars)))
   unfolding as_table as_table_left as_table_page
   table-then-sheet byte ok = rw ok (returned b chars (as-table-passed b chars ok) registers byte)
 

@@ -132,7 +132,7 @@ module _ (numbers chars numbers' chars' : List ℕ) (ok : numbers_check numbers 
 -- a refused move leaves numbers and memory
 pub table-refused : (numbers chars : List ℕ) → is_ok (to_table_check numbers chars) ≡ false → (to_table_numbers numbers chars ≡ numbers) × (to_table_chars numbers chars ≡ chars)
 unfolding to_table_check to_table_numbers to_table_chars as_table as_table_left
-table-refused numbers chars = go (numbers_refused numbers) (as_table (numbers_board numbers) chars).board.page (as_table_check (numbers_board numbers) chars)
+table-refused numbers chars = go (numbers_refused numbers) (value_or (numbers_board numbers) (as_table (numbers_board numbers) chars)).page (as_table_check (numbers_board numbers) chars)
   where
     go : (t : Bool) (p : Page) (r : Checked) → is_ok (pick t (Err Size) r) ≡ false → (pick t numbers (pick (is_ok r) (page_in p numbers) numbers) ≡ numbers)
         × (pick t chars (pick (is_ok r) (as_table_chars (numbers_board numbers).page chars (table_place (numbers_board numbers).page chars)) chars) ≡ chars)
@@ -143,7 +143,7 @@ table-refused numbers chars = go (numbers_refused numbers) (as_table (numbers_bo
 -- and a refused way back the numbers
 pub sheet-refused : (numbers chars : List ℕ) → is_ok (to_sheet_check numbers chars) ≡ false → to_sheet_numbers numbers chars ≡ numbers
 unfolding to_sheet_check to_sheet_numbers as_sheet
-sheet-refused numbers chars = go (numbers_refused numbers) (as_sheet (numbers_board numbers) chars).board.page (as_sheet_check (numbers_board numbers) chars)
+sheet-refused numbers chars = go (numbers_refused numbers) (value_or (numbers_board numbers) (as_sheet (numbers_board numbers) chars)).page (as_sheet_check (numbers_board numbers) chars)
   where
     go : (t : Bool) (p : Page) (r : Checked) → is_ok (pick t (Err Size) r) ≡ false → pick t numbers (pick (is_ok r) (page_in p numbers) numbers) ≡ numbers
     go true p r e = refl
@@ -310,11 +310,11 @@ module _ (numbers chars : List ℕ) (done : to_table_check numbers chars ≡ unr
 
   -- and moved back the numbers have another screen start 2, and nothing else has changed
   module _ (fits : Bytes numbers) where
-    then-sheet : as_sheet m.board (as_table_left b chars) ≡ moved_to unrefused (board_of (changed p p.irs p.starts.start1 place))
+    then-sheet : as_sheet m.board (as_table_left b chars) ≡ Ok (board_of (changed p p.irs p.starts.start1 place))
     unfolding page_at
     then-sheet = table-then-sheet b chars (omega (arith, long)) (ir-byte numbers fits 1 2 (numbers-room numbers taken.0)) taken.1
 
-    as-sheet-left : as_sheet (numbers_board (to_table_numbers numbers chars)) (to_table_chars numbers chars) ≡ moved_to unrefused (board_of (changed p p.irs p.starts.start1 place))
+    as-sheet-left : as_sheet (numbers_board (to_table_numbers numbers chars)) (to_table_chars numbers chars) ≡ Ok (board_of (changed p p.irs p.starts.start1 place))
     as-sheet-left = ap₂ as_sheet table-board chars-left ∙ then-sheet
 
     rest-left : drop (counted p.version) (to_table_numbers numbers chars) ≡ drop (counted p.version) numbers
@@ -342,11 +342,11 @@ module _ (numbers chars : List ℕ) (done : to_sheet_check numbers chars ≡ unr
   unfolding to_sheet_check as_sheet
   as-sheet-taken = passed (numbers_refused numbers) (Err Size) _ refl done
 
-  as-sheet-moved : (as_sheet (numbers_board numbers) chars).board ≡ board_of sheet_page
+  as-sheet-moved : (value_or (numbers_board numbers) (as_sheet (numbers_board numbers) chars)) ≡ board_of sheet_page
   unfolding as_sheet
   as-sheet-moved = rw as-sheet-taken.1
 
-  as-sheet-done : (as_sheet (numbers_board numbers) chars).refusal ≡ unrefused
+  as-sheet-done : (check_of (as_sheet (numbers_board numbers) chars)) ≡ unrefused
   unfolding as_sheet
   as-sheet-done = as-sheet-taken.1
 

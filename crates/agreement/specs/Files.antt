@@ -159,7 +159,7 @@ module _ (b : Board) (irs-all : length b.page.irs ≡ 15) (chars attrs out : Lis
   -- [demand round]
   -- the file is read as that page at clock 0, its version as it counts, and its memories are those that were written
   pub board-same : (c a file : List ℕ) → file ≡ take (file_size b.page.version) (written b chars attrs out)
-      → (read_page_of file false ≡ page_read unrefused (board_of (kept_page b.page))) × (chars_read file false c ≡ chars) × (attrs_read file false a ≡ attrs)
+      → (read_page_of file false ≡ Ok (board_of (kept_page b.page))) × (chars_read file false c ≡ chars) × (attrs_read file false a ≡ attrs)
   unfolding read_page_of chars_read attrs_read
   board-same c a file e = rw (e ∙ file-is, read_ok) (rw page-is, rw sized chars-are, rw sized attrs-are)
 

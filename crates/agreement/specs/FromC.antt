@@ -95,7 +95,7 @@ module _ (numbers chars attrs words flags unshifted shifted groups : List ℕ) w
 
   -- what feldrime_state_at answers of a board
   abbrev pub state_c : Board → ℕ → BoardAnswer
-  state_c from n = board_answer (state_of from chars attrs n).refusal (state_of from chars attrs n).board
+  state_c from n = board_answer (check_of (state_of from chars attrs n)) (value_or from (state_of from chars attrs n))
 
   -- what feldrime_line_draw answers, and what it leaves in the buffer
   abbrev pub draw_c : (line room : ℕ) → Answer
@@ -278,7 +278,7 @@ module _ (numbers chars attrs words flags unshifted shifted groups : List ℕ) w
       pub drawn : DrawnFromC (line_of b r l) (λ c. follows b start (nth_cell b chars r c))
 
     module _ (r l : ℕ) (hr : r < rows_of b.page) (hl : l < lines_of b.page) where
-      run_is : run_for numbers chars r ≡ run_answer unrefused (span_of b chars r).start (span_of b chars r).count
+      run_is : run_for numbers chars r ≡ run_answer unrefused (span_in b chars r).start (span_in b chars r).count
       unfolding run_for
       run_is =
           let s = span_of b chars r in

@@ -61,7 +61,7 @@ pub row-run-one : {Block : Type 0} (b : Board) (chars : List ℕ) (row : ℕ) (l
 row-run-one b chars row lent from = only-four _ _ _ _
 
 -- so it has one length
-pub run_length : (b : Board) (chars : List ℕ) (row : ℕ) → length (run_of b chars row) ≡ (span_of b chars row).count
+pub run_length : (b : Board) (chars : List ℕ) (row : ℕ) → length (run_of b chars row) ≡ (span_in b chars row).count
 unfolding run_of
 run_length b chars row = length-take-le _ _ (rw length-drop (omega (arith, span_fits b chars row)))
 

@@ -110,7 +110,7 @@ module _ (b : Board) (chars attrs : List ℕ) (f : Font) (ok : step_check b char
 
   -- [fetch run]
   -- the run that `row_run` gives is what the row fetches first, on every line of the row, cell after cell
-  pub run-shown : (k i : ℕ) → i < (span_of b chars r).count → address_at b chars attrs f k (line_of b r l) (nth_column b chars r i) ≡ (span_of b chars r).start + i
+  pub run-shown : (k i : ℕ) → i < (span_in b chars r).count → address_at b chars attrs f k (line_of b r l) (nth_column b chars r i) ≡ (span_in b chars r).start + i
   run-shown k i h = let s = run_at b chars r i h in fetched-by k i s.0 ∙ s.1
 
   -- ---- the row's cells
@@ -119,17 +119,17 @@ module _ (b : Board) (chars attrs : List ℕ) (f : Font) (ok : step_check b char
   -- active clocks in every frame, and elements beyond stay; at these addresses are the cells whose dots `draw_line` writes; the first of them are the run that
   -- `row_run` gives
   pub record CellsShown (cells : List ℕ) : Type 0 where
-    pub answered : cells_given b chars r (length cells) ≡ row_of unrefused (fetched_of b.page chars r)
+    pub answered : cells_given b chars r (length cells) ≡ Ok (fetched_of b.page chars r)
     pub stepped : (k : ℕ) → cells_put b chars r cells
         ≡ tab (fetched_of b.page chars r) (λ i. address_at b chars attrs f k (line_of b r l) (nth_column b chars r i)) ++ drop (fetched_of b.page chars r) cells
     pub drawn : DrawnFrom b chars attrs f (line_of b r l) (λ c. get_or (cells_put b chars r cells) (nth_cell b chars r c) 0)
-    pub begun : (i : ℕ) → i < (span_of b chars r).count → get_or (cells_put b chars r cells) i 0 ≡ (span_of b chars r).start + i
+    pub begun : (i : ℕ) → i < (span_in b chars r).count → get_or (cells_put b chars r cells) i 0 ≡ (span_in b chars r).start + i
 
   module _ (cells : List ℕ) (room : 256 ≤ length cells) where
     cells-answer : cells_check b (length chars) r (length cells) ≡ unrefused
     cells-answer = cells-as-run b (length chars) r (length cells) room ∙ run-answers
 
-    given : cells_given b chars r (length cells) ≡ row_of unrefused (fetched_of b.page chars r)
+    given : cells_given b chars r (length cells) ≡ Ok (fetched_of b.page chars r)
     unfolding cells_given
     given = rw cells-answer
 

@@ -64,7 +64,7 @@ module _ (b : Board) (chars ls ns fs cs : List ℕ) (row : ℕ) {a : PhraseAnswe
   here : Found b chars (records_of ls ns fs cs) row a.position
   here = found-is b chars (records_of ls ns fs cs) row e (eqb-false _ _ tests.0)
 
-  counted : c < (cells_given b chars row 256).count
+  counted : c < cells_count b chars row 256
   counted = rw (← p.0) (leb-false _ _ tests.1)
 
   pub column-lt : c < 256

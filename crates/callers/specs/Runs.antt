@@ -24,7 +24,7 @@ run_part numbers chars row = pick (numbers_refused numbers) [] (run_of (numbers_
 
 -- where it begins
 unfoldable pub run_start : (numbers chars : List ℕ) → ℕ → ℕ
-run_start numbers chars row = pick (numbers_refused numbers) 0 (span_of (numbers_board numbers) chars row).start
+run_start numbers chars row = pick (numbers_refused numbers) 0 (span_in (numbers_board numbers) chars row).start
 
 module _ (numbers chars : List ℕ) (row : ℕ) {a : RunAnswer} (e : a ≡ run_for numbers chars row) where
   pub run_inside : (a.first + a.count ≤ 16384) × (a.first + a.count ≤ length chars)
@@ -52,12 +52,12 @@ module _ (numbers chars : List ℕ) (row : ℕ) {a : RunAnswer} (e : a ≡ run_f
       go false t = rw (e, t)
 
   module _ {m : BoardAnswer} (made : m ≡ board_for numbers) (done : m.refusal ≡ 0) where
-    count-is : length (run_of (numbers_board numbers) chars row) ≡ (span_of (numbers_board numbers) chars row).count
+    count-is : length (run_of (numbers_board numbers) chars row) ≡ (span_in (numbers_board numbers) chars row).count
     unfolding run_of
-    count-is = length_part chars (span_of (numbers_board numbers) chars row).start (span_of (numbers_board numbers) chars row).count (span_small (numbers_board numbers) chars row).1
+    count-is = length_part chars (span_in (numbers_board numbers) chars row).start (span_in (numbers_board numbers) chars row).count (span_small (numbers_board numbers) chars row).1
 
     pub runs_same : {part : List ℕ} {n : ℕ} → part ≡ run_of m.board chars row → n ≡ number_of (run_check m.board (length chars) row) → (eqb a.refusal n && eqb a.count (length part)) ≡ true
     unfolding run_for
     runs_same p q =
-        rw (e, q, p, (made-done numbers made done).1, numbers-passed numbers (made-done numbers made done).0, count-is, eq-eqb (span_of (numbers_board numbers) chars row).count _ refl)
+        rw (e, q, p, (made-done numbers made done).1, numbers-passed numbers (made-done numbers made done).0, count-is, eq-eqb (span_in (numbers_board numbers) chars row).count _ refl)
         (rw (eq-eqb _ _ (ap number_of (span-number (numbers_board numbers) chars row (span_of (numbers_board numbers) chars row) refl))))

@@ -73,7 +73,7 @@ module _ (numbers chars : List ℕ) (row : ℕ) {a : CellsAnswer} {cells : List 
       go : (t : Bool) → numbers_refused numbers ≡ t → Read c
       go true t = let none : c < 0 = rw (e.0, t) at h in absurd (omega (arith, none))
       go false t =
-          let k : c < (cells_given b chars row 256).count = rw (e.0, t) at h in
+          let k : c < cells_count b chars row 256 = rw (e.0, t) at h in
           record {
             is-cell = ap (λ (l : List ℕ). get_or l c 0) e.1 ∙ rw t (cells_at b chars row no_cells c k);
             whole = (run-passed b (length chars) row (cells-passed b (length chars) row 256 (cells-some b chars row 256 c k)).0).whole;
@@ -118,13 +118,13 @@ module _ (numbers chars : List ℕ) (row : ℕ) (text : List ℕ) (room : 256 �
   m = numbers_board numbers
 
   abbrev n : ℕ
-  n = (span_of m chars row).count
+  n = (span_in m chars row).count
 
   part-long : length (run_of m chars row) ≡ n
   unfolding run_of
-  part-long = length_part chars (span_of m chars row).start n (span_fits m chars row)
+  part-long = length_part chars (span_in m chars row).start n (span_fits m chars row)
 
-  given : run_check m (length chars) row ≡ unrefused → cells_given m chars row 256 ≡ row_of unrefused (fetched_of m.page chars row)
+  given : run_check m (length chars) row ≡ unrefused → cells_given m chars row 256 ≡ Ok (fetched_of m.page chars row)
   unfolding cells_given
   given q = rw (cells-as-run m (length chars) row 256 (omega arith), q)
 
@@ -134,7 +134,7 @@ module _ (numbers chars : List ℕ) (row : ℕ) (text : List ℕ) (room : 256 �
       let answered : cells_for numbers chars row 256 ≡ cells_answer unrefused (fetched_of m.page chars row) = rw (t, given q) in
       ap (λ (x : CellsAnswer). x.count) answered
 
-  most-count : n ≤ (cells_given m chars row 256).count
+  most-count : n ≤ cells_count m chars row 256
   most-count = run-least m chars row 256 (omega arith)
 
   -- a row that is not refused
@@ -147,7 +147,7 @@ module _ (numbers chars : List ℕ) (row : ℕ) (text : List ℕ) (room : 256 �
       let text-is : row_text numbers chars row text ≡ tab h f ++ drop h text = rw (count-is q t, le-leb h (length text) h_le) in
       let few : n ≤ h = rw (given q) at most-count in
       let long : n ≤ length (tab h f ++ drop h text) = rw (length-append (tab h f) (drop h text), length-tab h f) (omega (arith, few)) in
-      let start = (span_of m chars row).start in
+      let start = (span_in m chars row).start in
       rw text-is
       (ext_get_or 0 (take n (tab h f ++ drop h text)) (take n (drop start chars)) (length-take-le n (tab h f ++ drop h text) long ∙ sym part-long)
       (λ i l. let k : i < n = rw (length-take-le n (tab h f ++ drop h text) long) at l in
@@ -183,6 +183,6 @@ calls-agree numbers chars row {a} {r} e q = go (numbers_refused numbers) refl
     go : (t : Bool) → numbers_refused numbers ≡ t → ((eqb a.refusal r.refusal && eqb a.beside r.beside) && leb r.count a.count) ≡ true
     go true t = rw (e, q, t)
     go false t =
-        let same : cells_check b (length chars) row 256 ≡ (span_of b chars row).refusal
+        let same : cells_check b (length chars) row 256 ≡ (check_of (span_of b chars row))
         = cells-as-run b (length chars) row 256 (omega arith) ∙ sym (span-number b chars row (span_of b chars row) refl) in
         rw (e, q, t, eq-eqb _ _ (ap number_of same), eq-eqb _ _ (ap beside_of same)) (le-leb _ _ (run-least b chars row 256 (omega arith)))

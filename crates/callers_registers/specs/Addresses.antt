@@ -111,7 +111,7 @@ pub read-lt : (b : Board) (a : ℕ) {x : ByteAnswer} → x ≡ read_for b a → 
 unfolding read_of read_at
 read-lt b a e = rw e (go (is_ok (register_check b)) (within 0 1 a) (within 2 7 a))
   where
-    go : (t u w : Bool) → (pick t (pick u (byte_read unrefused 0) (pick w (byte_read unrefused (shown_at b.page.starts a)) (byte_read (Err Register) 0))) (byte_read (register_check b) 0)).byte < 256
+    go : (t u w : Bool) → (pick t (pick u (Ok 0) (pick w (Ok (shown_at b.page.starts a)) (byte_read (Err Register) 0))) (byte_read (register_check b) 0)).byte < 256
     go true true w = omega arith
     go true false true = shown-lt b.page.starts a
     go true false false = omega arith
@@ -123,13 +123,13 @@ module _ {b : Board} (r : Ready b) (a : ℕ) (lo : 2 ≤ a) (hi : a ≤ 7) where
   put v =
       let not-0 = ne_eqb a 0 (λ e. omega (arith, e, lo)) in
       let not-1 = ne_eqb a 1 (λ e. omega (arith, e, lo)) in
-      let done : active_of b a v ≡ answer unrefused (started_of b a v) = rw (not-0, not-1, inside 2 7 a lo hi) in
+      let done : active_of b a v ≡ Ok (started_of b a v) = rw (not-0, not-1, inside 2 7 a lo hi) in
       ap (λ (x : Written). board_answer x.refusal x.board) (writes r a v ∙ done)
 
   seen : read_for b a ≡ byte_answer unrefused (shown_at b.page.starts a)
   unfolding read_at
   seen =
-      let done : read_at b.page.starts a ≡ byte_read unrefused (shown_at b.page.starts a) = rw (over 0 1 a (omega (arith, lo)), inside 2 7 a lo hi) in
+      let done : read_at b.page.starts a ≡ Ok (shown_at b.page.starts a) = rw (over 0 1 a (omega (arith, lo)), inside 2 7 a lo hi) in
       ap (λ (x : ByteRead). byte_answer x.refusal x.byte) (reads r a ∙ done)
 
 module _ {b : Board} (r : Ready b) (a : ℕ) (lo : 2 ≤ a) (hi : a ≤ 7) (v : ℕ) (small : v < 256) {one : BoardAnswer} (e : one ≡ write_for b a v) where

@@ -88,15 +88,15 @@ module _ {b : Board} (r : Ready b) where
       q ∙ commanded v ∙ rw zero.0 (points (within 16 31 v) (pointer_refused b.page (v - 16)) pointer.0 _ (go (within 32 63 v) (eqb (v / 2 % 2) 0 && not (eqb (v / 8 % 4) 0)) pointer.1))
     where
       points : (t u : Bool) → (t && not u) ≡ false → (x : Written) → board_answer x.refusal x.board ≡ board_answer (Err Command) b
-          → board_answer (pick t (pick u (answer (Err Command) b) (answer unrefused (pointed_of b (v - 16)))) x).refusal (pick t (pick u (answer (Err Command) b) (answer unrefused (pointed_of b (v - 16)))) x).board
+          → board_answer (pick t (pick u (answer (Err Command) b) (Ok (pointed_of b (v - 16)))) x).refusal (pick t (pick u (answer (Err Command) b) (Ok (pointed_of b (v - 16)))) x).board
           ≡ board_answer (Err Command) b
       points true true p x e = refl
       points true false p x e = absurd (true≢false p)
       points false u p x e = e
 
       go : (t u : Bool) → (t && u) ≡ false
-          → board_answer (pick t (pick u (answer unrefused (switched_of b v)) (answer (Err Command) b)) (answer (Err Command) b)).refusal
-          (pick t (pick u (answer unrefused (switched_of b v)) (answer (Err Command) b)) (answer (Err Command) b)).board ≡ board_answer (Err Command) b
+          → board_answer (pick t (pick u (Ok (switched_of b v)) (answer (Err Command) b)) (answer (Err Command) b)).refusal
+          (pick t (pick u (Ok (switched_of b v)) (answer (Err Command) b)) (answer (Err Command) b)).board ≡ board_answer (Err Command) b
       go true u p = rw p
       go false u p = refl
 

@@ -27,7 +27,7 @@ either : {b : Board} (t : Bool) (x y : Written) → KeptIn b x → KeptIn b y �
 either true x y p q = p
 either false x y p q = q
 
-done : {b : Board} (x : Board) → KeptIn b (answer unrefused x)
+done : {b : Board} (x : Board) → KeptIn b (Ok x)
 done x n = absurd (n refl)
 
 same : {b : Board} (r : Checked) → KeptIn b (answer r b)
@@ -53,11 +53,11 @@ video-keeps b d strike bkgnd rblank =
     let check = video_check (with_dots b.page d strike) in
     either (is_ok check) _ _ (done _) (same check)
 
-state-keeps : (b : Board) (chars attrs : List ℕ) (n : ℕ) → Kept b (state_of b chars attrs n).refusal (state_of b chars attrs n).board
+state-keeps : (b : Board) (chars attrs : List ℕ) (n : ℕ) → Kept b (check_of (state_of b chars attrs n)) (value_or b (state_of b chars attrs n))
 unfolding state_of
 state-keeps b chars attrs n = go (is_ok (state_check b chars attrs)) refl
   where
-    go : (t : Bool) → is_ok (state_check b chars attrs) ≡ t → Kept b (state_of b chars attrs n).refusal (state_of b chars attrs n).board
+    go : (t : Bool) → is_ok (state_check b chars attrs) ≡ t → Kept b (check_of (state_of b chars attrs n)) (value_or b (state_of b chars attrs n))
     go true t e = absurd (e (eqb-true _ _ t))
     go false t e = rw t
 
@@ -66,11 +66,11 @@ module _ (b : Board) {r : BoardAnswer} where
   kept x y e k n = ap (λ (z : BoardAnswer). z.board) e ∙ k (λ q. n (ap (λ (z : BoardAnswer). z.refusal) e ∙ q))
 
   pub write_kept : (a v : ℕ) → r ≡ write_for b a v → (r.refusal ≡ 0 → ⊥) → r.board ≡ b
-  write_kept a v e = kept (write_of b a v).refusal (write_of b a v).board e (write_keeps b a v)
+  write_kept a v e = kept (check_of (write_of b a v)) (value_or b (write_of b a v)) e (write_keeps b a v)
 
   pub video-kept : (d : Dots) (strike : ℕ) (bkgnd rblank : Bool)
-      → r ≡ board_answer (set_video_of b d strike bkgnd rblank).refusal (set_video_of b d strike bkgnd rblank).board → (r.refusal ≡ 0 → ⊥) → r.board ≡ b
-  video-kept d strike bkgnd rblank e = kept (set_video_of b d strike bkgnd rblank).refusal (set_video_of b d strike bkgnd rblank).board e (video-keeps b d strike bkgnd rblank)
+      → r ≡ board_answer (check_of (set_video_of b d strike bkgnd rblank)) (value_or b (set_video_of b d strike bkgnd rblank)) → (r.refusal ≡ 0 → ⊥) → r.board ≡ b
+  video-kept d strike bkgnd rblank e = kept (check_of (set_video_of b d strike bkgnd rblank)) (value_or b (set_video_of b d strike bkgnd rblank)) e (video-keeps b d strike bkgnd rblank)
 
-  pub state-kept : (chars attrs : List ℕ) (n : ℕ) → r ≡ board_answer (state_of b chars attrs n).refusal (state_of b chars attrs n).board → (r.refusal ≡ 0 → ⊥) → r.board ≡ b
-  state-kept chars attrs n e = kept (state_of b chars attrs n).refusal (state_of b chars attrs n).board e (state-keeps b chars attrs n)
+  pub state-kept : (chars attrs : List ℕ) (n : ℕ) → r ≡ board_answer (check_of (state_of b chars attrs n)) (value_or b (state_of b chars attrs n)) → (r.refusal ≡ 0 → ⊥) → r.board ≡ b
+  state-kept chars attrs n e = kept (check_of (state_of b chars attrs n)) (value_or b (state_of b chars attrs n)) e (state-keeps b chars attrs n)

@@ -17,7 +17,7 @@ use Rattle.callers_registers.specs.Ready.{judged}
 
 -- what the call answers
 abbrev pub video_answered : Board → Dots → (strike : ℕ) → (bkgnd rblank : Bool) → BoardAnswer
-video_answered b d strike bkgnd rblank = board_answer (set_video_of b d strike bkgnd rblank).refusal (set_video_of b d strike bkgnd rblank).board
+video_answered b d strike bkgnd rblank = board_answer (check_of (set_video_of b d strike bkgnd rblank)) (value_or b (set_video_of b d strike bkgnd rblank))
 
 -- what is judged, and its number
 abbrev check : Board → Dots → (strike : ℕ) → Checked
@@ -39,12 +39,12 @@ switch-is n x h = go (eqb x 0) refl
 switches-are : (s : ℕ) → switches_set s (not (eqb (s / 4 % 2) 0)) (not (eqb (s / 8 % 2) 0)) ≡ s
 switches-are s = rw (switch-is 4 (s / 4 % 2) (omega arith), switch-is 8 (s / 8 % 2) (omega arith)) (omega arith)
 
-video-same : (b : Board) → (set_video_of b b.page.video.dots b.page.video.strike (not (eqb (b.page.switches / 4 % 2) 0)) (not (eqb (b.page.switches / 8 % 2) 0))).board ≡ b
+video-same : (b : Board) → (value_or b (set_video_of b b.page.video.dots b.page.video.strike (not (eqb (b.page.switches / 4 % 2) 0)) (not (eqb (b.page.switches / 8 % 2) 0)))) ≡ b
 unfolding set_video_of video_check
 video-same b = go (is_ok (check b b.page.video.dots b.page.video.strike)) refl
   where
     go : (t : Bool) → is_ok (check b b.page.video.dots b.page.video.strike) ≡ t
-        → (set_video_of b b.page.video.dots b.page.video.strike (not (eqb (b.page.switches / 4 % 2) 0)) (not (eqb (b.page.switches / 8 % 2) 0))).board ≡ b
+        → (value_or b (set_video_of b b.page.video.dots b.page.video.strike (not (eqb (b.page.switches / 4 % 2) 0)) (not (eqb (b.page.switches / 8 % 2) 0)))) ≡ b
     go true t = rw (t, switches-are b.page.switches)
     go false t = rw t
 

@@ -78,7 +78,7 @@ module _ {b : Board} {chars attrs words flags unshifted shifted groups : List �
     each = length-dots b chars attrs (font_of words flags unshifted shifted groups) line field (fits b chars attrs (font_of words flags unshifted shifted groups) s.accepted).page
 
     pub line-begins : {n : Clocks} {a : BoardAnswer} → n ≡ clocks (clock_of b field line 0)
-        → a ≡ board_answer (state_of b chars attrs n.0).refusal (state_of b chars attrs n.0).board → a.board ≡ at_column 0
+        → a ≡ board_answer (check_of (state_of b chars attrs n.0)) (value_or b (state_of b chars attrs n.0)) → a.board ≡ at_column 0
     line-begins e q = ap (λ (x : BoardAnswer). x.board) q ∙ rw e (at_once b chars attrs (font_of words flags unshifted shifted groups) s.accepted (clock_of b field line 0)).1
 
     next-clock : (c : ℕ) → clock_of b field line (c + 1) ≡ suc (clock_of b field line c)

@@ -116,7 +116,7 @@ module _ (numbers chars attrs words flags unshifted shifted groups : List ℕ) w
   reached n = go (is_ok (step_check start chars attrs font)) refl
     where
       go : (t : Bool) → is_ok (step_check start chars attrs font) ≡ t
-          → pick t (state_of start chars attrs n).board start ≡ after_c numbers chars attrs words flags unshifted shifted groups n
+          → pick t (value_or start (state_of start chars attrs n)) start ≡ after_c numbers chars attrs words flags unshifted shifted groups n
       go true e = (at_once start chars attrs font (done-is _ e) n).1 ∙ sym (steps-made numbers chars attrs words flags unshifted shifted groups n)
       go false e = sym (stays e n)
 

@@ -22,7 +22,7 @@ use Rattle.callers_stepped.specs.Asked.{step-by-value, step-beside}
 -- what a step answers for the board; where that is 0, the board that is asked for at clock n, and else the old one
 unfoldable pub stepped_to : Board → (chars attrs : List ℕ) → Font → ℕ → BoardAnswer
 stepped_to b chars attrs f n =
-    board_answer (step_check b chars attrs f) (pick (is_ok (step_check b chars attrs f)) (state_of b chars attrs n).board b)
+    board_answer (step_check b chars attrs f) (pick (is_ok (step_check b chars attrs f)) (value_or b (state_of b chars attrs n)) b)
 
 -- the board after i single steps from where it stands
 unfoldable pub on : Board → (chars attrs : List ℕ) → Font → ℕ → Board
@@ -53,7 +53,7 @@ module _ (b : Board) (chars attrs words flags unshifted shifted groups : List �
         rw refused (λ i. record { refusal = r i; beside = k i; board = b })
 
     -- the state asked for at a clock is that of the steps so far, and steps go on from there
-    pub stepped : s.answer.refusal ≡ 0 → (from i : ℕ) {a : BoardAnswer} → a ≡ board_answer (state_of b chars attrs from).refusal (state_of b chars attrs from).board
+    pub stepped : s.answer.refusal ≡ 0 → (from i : ℕ) {a : BoardAnswer} → a ≡ board_answer (check_of (state_of b chars attrs from)) (value_or b (state_of b chars attrs from))
         → {at : Board} → at ≡ on a.board chars attrs font i → from + i ≡ n → record { refusal = 0; beside = 0; board = at } ≡ stepped_to b chars attrs font n
     unfolding stepped_to
     stepped e from i {a} asked here q =
