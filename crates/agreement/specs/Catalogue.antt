@@ -5,7 +5,7 @@
 --     as-sheet-shows       so it shows the same, and moved there again too (sheet-then-table)
 --     table-then-sheet   only screen start 2 differs, and of memory the table's cells (memory-back)
 use Prim.Native.Nat.{ℕ, zero, suc, ◌+◌, ◌-◌, ◌*◌, ◌/◌, ◌%◌, ◌≤◌, ◌<◌}
-use Rattle.std.specs.Prelude.{◌≡◌, true, length, get_or, set, take, drop}
+use Rattle.std.specs.Prelude.{◌≡◌, true, length, get_or, set, take, drop, Ok}
 use Rattle.std.proofs.Math.Path.{refl, sym, ap, ap₂}
 use Rattle.std.proofs.Common.{◌∙◌, zero-mul, add-one, length-append, length-drop, get_or-set_other, get_or-take, get_or-drop, get_or-append-add, length-take-le}
 use Rattle.std.proofs.Math.Bool.{false, not, true≢false}
@@ -21,7 +21,7 @@ use Rattle.lists.specs.Tab.{tab, length-tab, get_or-tab}
 use Rattle.lists.specs.Search.{any_below, none_of, any_none, any_some, first-is}
 use Rattle.raster.specs.declared.Buffer.{Buffer}
 use Rattle.raster.specs.Moves.{advance_by, advance_by-zero, advance_by-add}
-use Rattle.refusal.specs.Number.{unrefused, wrong_size}
+use Rattle.refusal.specs.Number.{unrefused, wrong_size, value_or}
 use Rattle.board.specs.declared.Page.{Page}
 use Rattle.board.specs.declared.Board.{Board}
 use Rattle.board.specs.Range.{memory_refused}
@@ -31,7 +31,7 @@ use Rattle.timing.specs.Laws.{call-passed, buffer-bounded, range-ok, call_ok, ca
 use Rattle.fetch.specs.Rows.{byte_at, entry_of, row_start, cell_at, fetched_of}
 use Rattle.fetch.specs.Laws.{no-codes, entry_lt, row-start-lt, start-table, start-sheet, cell-shown}
 use Rattle.board.specs.Parts.{with_irs, with_starts, with_page}
-use Rattle.catalogue.specs.ToTable.{fetches_cell, table_size, table_places, unfetched_at, table_place, table_byte, as_table_page, as_table_chars, own_check, as_table_check, moved_to, as_table, as_table_left}
+use Rattle.catalogue.specs.ToTable.{fetches_cell, table_size, table_places, unfetched_at, table_place, table_byte, as_table_page, as_table_chars, own_check, as_table_check, as_table, as_table_left}
 use Rattle.catalogue.specs.ToSheet.{follows_row, rows_apart, as_sheet_page, as_sheet_check, as_sheet}
 use Rattle.catalogue.specs.Marks.{Movable, Returnable, as-table-passed, as-sheet-passed}
 use Rattle.alike.specs.Pages.{Same, same_coded, same-buffer, same-hact, same_rows, same-accepted, video-passed, same-state}

@@ -3,19 +3,21 @@
 --     sheet-again, cells-again                 there and back only screen start 2 and the table's cells differ
 --     table-refused, sheet-refused             a refusal leaves numbers and memory
 --     table_same, sheet-same                   so pictures and steps are the same, refused or not
-use Rattle.std.specs.Prelude.{ℕ, ◌+◌, ◌-◌, ◌/◌, ◌%◌, ◌≤◌, ◌<◌, ◌≡◌, Bool, true, false, length, get_or, eqb, is_ok, Err}
+use Rattle.std.specs.Prelude.{ℕ, ◌+◌, ◌-◌, ◌/◌, ◌%◌, ◌≤◌, ◌<◌, ◌≡◌, Bool, true, false, length, get_or, eqb, is_ok, Err, Ok, Result}
 use Rattle.std.proofs.Math.Path.{refl, sym, ap, ap₂}
-use Rattle.std.proofs.Common.{◌∙◌, zero-add, suc-add, arith, length-take-le, drop-cons}
+use Rattle.std.proofs.Common.{true≢false, ◌∙◌, zero-add, suc-add, arith, length-take-le, drop-cons}
 use mathlib.Core.List.{List, [], ◌∷◌, ◌++◌, append_assoc}
 use Rattle.std.proofs.Math.ListN.{set, take, drop, length-set}
 use Rattle.std.proofs.Math.Seq.{take-add}
 use Rattle.lists.specs.Choice.{pick}
+use Rattle.refusal.specs.declared.Refusal.{Refusal}
 use Rattle.refusal.specs.declared.Refusal.TheVariants.{Size}
-use Rattle.refusal.specs.Number.{unrefused, Checked, number_of, beside_of, wrong_size}
-use Rattle.refusal.specs.Laws.{done-is, passed}
+use Rattle.refusal.specs.Number.{unrefused, Checked, number_of, beside_of, wrong_size, given, check_of, value_or}
+use Rattle.refusal.specs.Laws.{done-is, check-given, passed}
 use Rattle.board.specs.declared.Video.{Video}
 use Rattle.board.specs.declared.Page.{Page}
 use Rattle.board.specs.declared.Board.{Board}
+use Rattle.board.specs.Parts.{with_page}
 use Rattle.board.specs.State.{board_of}
 use Rattle.board.specs.Layout.{layout_of, page_length}
 use Rattle.board.specs.Modes.{version_of}
@@ -29,17 +31,16 @@ use Rattle.video.specs.At.{lent_check}
 use Rattle.step.specs.declared.Stepped.{Stepped}
 use Rattle.step.specs.Step.{step_of}
 use Rattle.step.specs.After.{step-answers}
-use Rattle.catalogue.specs.declared.Moved.{Moved}
-use Rattle.catalogue.specs.ToTable.{table_place, table_size, as_table_page, as_table_chars, own_check, as_table_check, moved_to, as_table, as_table_left}
+use Rattle.catalogue.specs.ToTable.{table_place, table_size, as_table_page, as_table_chars, own_check, as_table_check, as_table, as_table_left}
 use Rattle.catalogue.specs.ToSheet.{as_sheet_page, as_sheet_check, as_sheet}
 use Rattle.catalogue.specs.Marks.{as-table-passed, as-sheet-passed}
 use Rattle.files.specs.Page.{version_in, irs_in, page_at, tail_of}
 use Rattle.files.specs.Laws.{page-irs}
 use Rattle.files.specs.Round.{Bytes, bytes-again, ir-byte, version-again, on}
-use Rattle.numbers.specs.Numbers.{numbers_refused, numbers_board, numbers_check, counted, numbers_front, page_in}
+use Rattle.numbers.specs.Numbers.{numbers_refused, numbers_board, numbers_check, counted, numbers_front, page_in, page_or_own}
 use Rattle.numbers.specs.Laws.{numbers-passed, numbers-room, numbers-version, put-fine, put-page, put_rest}
 use Rattle.feldrime.specs.PictureDraw.{picture_draw_check, picture_drawn}
-use Rattle.feldrime.specs.Catalogue.{moved_numbers, to_table_check, to_table_numbers, to_table_chars, to_sheet_check, to_sheet_numbers}
+use Rattle.feldrime.specs.Catalogue.{to_table_check, to_table_numbers, to_table_chars, to_sheet_check, to_sheet_numbers}
 use Rattle.feldrime.specs.Step.{numbered}
 use Rattle.agreement.specs.Catalogue.{changed, ShowsSame, as-table-shows, as-sheet-shows, table-then-sheet, memory-back}
 use Rattle.agreement.specs.FromC.{step_c, fit-from-c, begins-from-c, steps-from-c}
@@ -132,40 +133,54 @@ module _ (numbers chars numbers' chars' : List ℕ) (ok : numbers_check numbers 
 -- a refused move leaves numbers and memory
 pub table-refused : (numbers chars : List ℕ) → is_ok (to_table_check numbers chars) ≡ false → (to_table_numbers numbers chars ≡ numbers) × (to_table_chars numbers chars ≡ chars)
 unfolding to_table_check to_table_numbers to_table_chars as_table as_table_left
-table-refused numbers chars = go (numbers_refused numbers) (value_or (numbers_board numbers) (as_table (numbers_board numbers) chars)).page (as_table_check (numbers_board numbers) chars)
+table-refused numbers chars = go (numbers_refused numbers) (as_table_check (numbers_board numbers) chars)
   where
-    go : (t : Bool) (p : Page) (r : Checked) → is_ok (pick t (Err Size) r) ≡ false → (pick t numbers (pick (is_ok r) (page_in p numbers) numbers) ≡ numbers)
-        × (pick t chars (pick (is_ok r) (as_table_chars (numbers_board numbers).page chars (table_place (numbers_board numbers).page chars)) chars) ≡ chars)
-    go true p r e = (refl, refl)
-    go false p r e = rw e (refl, refl)
+    b : Board
+    b = numbers_board numbers
+
+    m : Page
+    m = as_table_page b.page (table_place b.page chars)
+
+    go : (t : Bool) (r : Checked) → is_ok (pick t (Err Size) (check_of (given r (with_page b m)))) ≡ false → (pick t numbers (page_or_own (given r (with_page b m)) numbers) ≡ numbers)
+        × (pick t chars (pick (is_ok r) (as_table_chars b.page chars (table_place b.page chars)) chars) ≡ chars)
+    go true r e = (refl, refl)
+    go false (Err why) e = (refl, refl)
+    go false (Ok tt) e = absurd (true≢false e)
 
 -- [demand untouched]
 -- and a refused way back the numbers
 pub sheet-refused : (numbers chars : List ℕ) → is_ok (to_sheet_check numbers chars) ≡ false → to_sheet_numbers numbers chars ≡ numbers
 unfolding to_sheet_check to_sheet_numbers as_sheet
-sheet-refused numbers chars = go (numbers_refused numbers) (value_or (numbers_board numbers) (as_sheet (numbers_board numbers) chars)).page (as_sheet_check (numbers_board numbers) chars)
+sheet-refused numbers chars = go (numbers_refused numbers) (as_sheet_check (numbers_board numbers) chars)
   where
-    go : (t : Bool) (p : Page) (r : Checked) → is_ok (pick t (Err Size) r) ≡ false → pick t numbers (pick (is_ok r) (page_in p numbers) numbers) ≡ numbers
-    go true p r e = refl
-    go false p r e = rw e
+    b : Board
+    b = numbers_board numbers
+
+    m : Page
+    m = as_sheet_page b.page chars
+
+    go : (t : Bool) (r : Checked) → is_ok (pick t (Err Size) (check_of (given r (with_page b m)))) ≡ false → pick t numbers (page_or_own (given r (with_page b m)) numbers) ≡ numbers
+    go true r e = refl
+    go false (Err why) e = refl
+    go false (Ok tt) e = absurd (true≢false e)
 
 -- ---- the numbers of a moved page
 
 -- a move that is done, of the board that numbers describe
-module _ (numbers : List ℕ) (fine : numbers_refused numbers ≡ false) (m : Moved) (done : m.refusal ≡ unrefused) (q : Page) (moved : m.board ≡ board_of q) (n : length q.irs ≡ 15)
+module _ (numbers : List ℕ) (fine : numbers_refused numbers ≡ false) (m : Result Board Refusal) (q : Page) (moved : m ≡ Ok (board_of q)) (n : length q.irs ≡ 15)
     (version : q.version ≡ get_or numbers 0 0) (video : q.video ≡ (page_at numbers 1).video) where
-  numbers-are : moved_numbers m numbers ≡ page_in q numbers
-  numbers-are = rw done (ap (λ (x : Board). page_in x.page numbers) moved)
+  numbers-are : page_or_own m numbers ≡ page_in q numbers
+  numbers-are = rw moved
 
   -- numbers have a chip in version 3 alone
   no-chip : eqb q.version 3 ≡ false → q.video.chip ≡ 0
   unfolding page_at
   no-chip e = ap (λ (x : Video). x.chip) video ∙ rw (rw version at e)
 
-  board-is : numbers_board (moved_numbers m numbers) ≡ m.board
-  board-is = ap numbers_board numbers-are ∙ ap board_of (put-page numbers fine q n version no-chip) ∙ sym moved
+  board-is : numbers_board (page_or_own m numbers) ≡ value_or (numbers_board numbers) m
+  board-is = ap numbers_board numbers-are ∙ ap board_of (put-page numbers fine q n version no-chip) ∙ ap (value_or (numbers_board numbers)) (sym moved)
 
-  moved-fine : numbers_refused (moved_numbers m numbers) ≡ false
+  moved-fine : numbers_refused (page_or_own m numbers) ≡ false
   moved-fine = rw numbers-are (put-fine numbers fine q n)
 
 -- numbers with another screen start 2: the two bytes that follow version, IRs, screen start 1 and cursor
@@ -252,18 +267,14 @@ module _ (numbers chars : List ℕ) (done : to_table_check numbers chars ≡ unr
   abbrev place : ℕ
   place = table_place p chars
 
-  abbrev m : Moved
+  abbrev m : Result Board Refusal
   m = as_table b chars
 
   taken : (numbers_refused numbers ≡ false) × (as_table_check b chars ≡ unrefused)
   unfolding to_table_check as_table
-  taken = passed (numbers_refused numbers) (Err Size) _ refl done
+  taken = let t = passed (numbers_refused numbers) (Err Size) _ refl done in (t.0, sym (check-given (as_table_check b chars) _) ∙ t.1)
 
-  m-done : m.refusal ≡ unrefused
-  unfolding as_table
-  m-done = taken.1
-
-  moved : m.board ≡ board_of (as_table_page p place)
+  moved : m ≡ Ok (board_of (as_table_page p place))
   unfolding as_table
   moved = rw taken.1
 
@@ -282,7 +293,7 @@ module _ (numbers chars : List ℕ) (done : to_table_check numbers chars ≡ unr
   unfolding as_table_page
   video = refl
 
-  numbers-left : to_table_numbers numbers chars ≡ moved_numbers m numbers
+  numbers-left : to_table_numbers numbers chars ≡ page_or_own m numbers
   unfolding to_table_numbers
   numbers-left = rw taken.0
 
@@ -291,10 +302,10 @@ module _ (numbers chars : List ℕ) (done : to_table_check numbers chars ≡ unr
   chars-left = rw taken.0
 
   table-fine : numbers_refused (to_table_numbers numbers chars) ≡ false
-  table-fine = rw numbers-left (moved-fine numbers taken.0 m m-done (as_table_page p place) moved long' version video)
+  table-fine = rw numbers-left (moved-fine numbers taken.0 m (as_table_page p place) moved long' version video)
 
-  table-board : numbers_board (to_table_numbers numbers chars) ≡ m.board
-  table-board = ap numbers_board numbers-left ∙ board-is numbers taken.0 m m-done (as_table_page p place) moved long' version video
+  table-board : numbers_board (to_table_numbers numbers chars) ≡ value_or b m
+  table-board = ap numbers_board numbers-left ∙ board-is numbers taken.0 m (as_table_page p place) moved long' version video
 
   -- [R-5 same]
   -- they and character memory show the same
@@ -310,7 +321,7 @@ module _ (numbers chars : List ℕ) (done : to_table_check numbers chars ≡ unr
 
   -- and moved back the numbers have another screen start 2, and nothing else has changed
   module _ (fits : Bytes numbers) where
-    then-sheet : as_sheet m.board (as_table_left b chars) ≡ Ok (board_of (changed p p.irs p.starts.start1 place))
+    then-sheet : as_sheet (value_or b m) (as_table_left b chars) ≡ Ok (board_of (changed p p.irs p.starts.start1 place))
     unfolding page_at
     then-sheet = table-then-sheet b chars (omega (arith, long)) (ir-byte numbers fits 1 2 (numbers-room numbers taken.0)) taken.1
 
@@ -320,7 +331,7 @@ module _ (numbers chars : List ℕ) (done : to_table_check numbers chars ≡ unr
     rest-left : drop (counted p.version) (to_table_numbers numbers chars) ≡ drop (counted p.version) numbers
     unfolding as_table_page
     rest-left =
-        ap (drop (counted p.version)) (numbers-left ∙ numbers-are numbers taken.0 m m-done (as_table_page p place) moved long' version video)
+        ap (drop (counted p.version)) (numbers-left ∙ numbers-are numbers taken.0 m (as_table_page p place) moved long' version video)
         ∙ put_rest numbers taken.0 (as_table_page p place) long'
 
     -- [R-5 both]
@@ -340,15 +351,11 @@ module _ (numbers chars : List ℕ) (done : to_sheet_check numbers chars ≡ unr
 
   as-sheet-taken : (numbers_refused numbers ≡ false) × (as_sheet_check (numbers_board numbers) chars ≡ unrefused)
   unfolding to_sheet_check as_sheet
-  as-sheet-taken = passed (numbers_refused numbers) (Err Size) _ refl done
+  as-sheet-taken = let t = passed (numbers_refused numbers) (Err Size) _ refl done in (t.0, sym (check-given (as_sheet_check (numbers_board numbers) chars) _) ∙ t.1)
 
-  as-sheet-moved : (value_or (numbers_board numbers) (as_sheet (numbers_board numbers) chars)) ≡ board_of sheet_page
+  as-sheet-moved : as_sheet (numbers_board numbers) chars ≡ Ok (board_of sheet_page)
   unfolding as_sheet
   as-sheet-moved = rw as-sheet-taken.1
-
-  as-sheet-done : (check_of (as_sheet (numbers_board numbers) chars)) ≡ unrefused
-  unfolding as_sheet
-  as-sheet-done = as-sheet-taken.1
 
   as-sheet-long : length sheet_page.irs ≡ 15
   unfolding as_sheet_page
@@ -362,7 +369,7 @@ module _ (numbers chars : List ℕ) (done : to_sheet_check numbers chars ≡ unr
   unfolding as_sheet_page
   as-sheet-video = refl
 
-  sheet-left : to_sheet_numbers numbers chars ≡ moved_numbers (as_sheet (numbers_board numbers) chars) numbers
+  sheet-left : to_sheet_numbers numbers chars ≡ page_or_own (as_sheet (numbers_board numbers) chars) numbers
   unfolding to_sheet_numbers
   sheet-left = rw as-sheet-taken.0
 
@@ -371,8 +378,8 @@ module _ (numbers chars : List ℕ) (done : to_sheet_check numbers chars ≡ unr
   pub sheet-shows : ShowsC numbers chars (to_sheet_numbers numbers chars) chars
   sheet-shows =
       let back = as_sheet (numbers_board numbers) chars in
-      let fine = moved-fine numbers as-sheet-taken.0 back as-sheet-done sheet_page as-sheet-moved as-sheet-long as-sheet-version as-sheet-video in
-      let board = board-is numbers as-sheet-taken.0 back as-sheet-done sheet_page as-sheet-moved as-sheet-long as-sheet-version as-sheet-video in
+      let fine = moved-fine numbers as-sheet-taken.0 back sheet_page as-sheet-moved as-sheet-long as-sheet-version as-sheet-video in
+      let board = board-is numbers as-sheet-taken.0 back sheet_page as-sheet-moved as-sheet-long as-sheet-version as-sheet-video in
       shows-from-c numbers chars (to_sheet_numbers numbers chars) chars (own-ok numbers chars as-sheet-taken.0 (as-sheet-passed (numbers_board numbers) chars as-sheet-taken.1).own) (rw sheet-left fine)
       (rw (sheet-left, board) (as-sheet-shows (numbers_board numbers) chars (omega (arith, irs-all numbers as-sheet-taken.0)) as-sheet-taken.1))
 

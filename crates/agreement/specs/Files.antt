@@ -1,6 +1,6 @@
 -- Promise 2: a page file accepted and written again is the same bytes; likewise a font; and a board written and read again is that page at clock 0.
 -- All of it speaks of the public calls that read and write. A file is a list of bytes. Assumes nothing.
-use Rattle.std.specs.Prelude.{ℕ, ◌+◌, ◌*◌, ◌≤◌, ◌≡◌, Bool, ◌&&◌, ◌||◌, eqb, length, take}
+use Rattle.std.specs.Prelude.{ℕ, ◌+◌, ◌*◌, ◌≤◌, ◌≡◌, Bool, ◌&&◌, ◌||◌, eqb, length, take, Ok}
 use Rattle.std.proofs.Math.Path.{refl, ap}
 use Rattle.std.proofs.Common.{sym, ◌∙◌, length-append, take_all, take_at, drop-drop}
 use Rattle.std.proofs.Math.Bool.{true, false, not}
@@ -12,10 +12,10 @@ use Rattle.std.proofs.Math.ListN.{drop}
 use Rattle.std.proofs.Math.Seq.{drop_at}
 use Rattle.lists.specs.Choice.{pick, neither}
 use Rattle.lists.specs.Tab.{length-tab}
-use Rattle.refusal.specs.Number.{unrefused, wrong_size}
+use Rattle.refusal.specs.Number.{unrefused, value_or, wrong_size}
 use Rattle.board.specs.declared.Page.{Page}
 use Rattle.board.specs.declared.Board.{Board}
-use Rattle.board.specs.State.{board_of}
+use Rattle.board.specs.State.{power_of, board_of}
 use Rattle.board.specs.Layout.{newest_version, layout_of, length_field, chars_place, attrs_place, file_size}
 use Rattle.board.specs.Range.{memories_refused}
 use Rattle.board.specs.Laws.{layout-kept}
@@ -24,7 +24,7 @@ use Rattle.timing.specs.Laws.{range-ok, call_ok, call-page}
 use Rattle.shape.specs.Font.{Font, font_refused, groups_check}
 use Rattle.copies.specs.Put.{length_part}
 use Rattle.files.specs.Page.{word_at, version_in, page_at, kept_page}
-use Rattle.files.specs.File.{long_at, version_refused, length_refused, file_check, read_check, page_read, read_page_of, chars_read, attrs_read, head_of, file_of, write_check, written}
+use Rattle.files.specs.File.{long_at, version_refused, length_refused, file_check, read_check, read_page_of, chars_read, attrs_read, head_of, file_of, write_check, written}
 use Rattle.files.specs.FontFile.{font_length, font_size, file_groups, font_short, font_check, font_in, font_read, font_version, font_file_of, font_write_check, font_written, file_font}
 use Rattle.files.specs.Laws.{version-known, file-sized, FilePassed, file-passed, head-all, write-passed}
 use Rattle.files.specs.Round.{Bytes, page-again, page-kept, kept-check, written_known}
@@ -92,8 +92,8 @@ module _ (file : List ℕ) (bytes : Bytes file) (size : Bool) (ok : read_check f
   -- [demand round] a page file accepted and written again is the same bytes
   -- the write answers 0, and out begins with the file
   pub page-same : (chars attrs out : List ℕ) → file_size (version_in file) ≤ length out
-      → (write_check (read_page_of file size).board (length (chars_read file size chars)) (length (attrs_read file size attrs)) (length out) ≡ unrefused)
-      × (written (read_page_of file size).board (chars_read file size chars) (attrs_read file size attrs) out ≡ file ++ drop (file_size (version_in file)) out)
+      → (write_check (value_or power_of (read_page_of file size)) (length (chars_read file size chars)) (length (attrs_read file size attrs)) (length out) ≡ unrefused)
+      × (written (value_or power_of (read_page_of file size)) (chars_read file size chars) (attrs_read file size attrs) out ≡ file ++ drop (file_size (version_in file)) out)
   unfolding read_page_of
   page-same chars attrs out l = rw ok (again chars attrs out l)
 

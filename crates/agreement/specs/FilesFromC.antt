@@ -3,6 +3,7 @@
 use Rattle.std.specs.Prelude.{ℕ, ◌≤◌, ◌≡◌, Bool, List, ◌++◌, length, drop}
 use Rattle.std.proofs.Common.{ap}
 use Rattle.refusal.specs.Number.{unrefused, number_of}
+use Rattle.refusal.specs.Laws.{zero-done}
 use Rattle.board.specs.Layout.{file_size}
 use Rattle.shape.specs.Font.{Font, font_of}
 use Rattle.video.specs.At.{lent_check}
@@ -17,7 +18,7 @@ use Rattle.feldrime.specs.declared.StepAnswer.{StepAnswer}
 use Rattle.feldrime.specs.Answers.{answer_of}
 use Rattle.feldrime.specs.Pages.{board_for, font_for}
 use Rattle.agreement.specs.Files.{file-ok, again, chars-read-all, attrs-read-all, numbers-fine, numbers-are, font-fine, groups-fine}
-use Rattle.agreement.specs.FromC.{zero-done, step_c, fit-from-c, begins-from-c, steps-answer}
+use Rattle.agreement.specs.FromC.{step_c, fit-from-c, begins-from-c, steps-answer}
 
 -- a page file that feldrime_page_read takes
 module _ (file numbers chars attrs : List ℕ)

@@ -2,7 +2,7 @@
 -- makes a board of the same numbers with `feldrime_board_of` and takes it from clock to clock with `feldrime_step`. Both show the same cells and the same dots.
 -- All of it speaks of the definitions that the contracts of these calls cite, over the same numbers, memories and font parts. Assumes nothing.
 use Prim.Native.Nat.{ℕ, zero, suc, ◌+◌, ◌*◌, ◌/◌, ◌%◌, ◌≤◌, ◌<◌}
-use Rattle.std.specs.Prelude.{◌≡◌, Bool, length, get_or, is_ok, Err}
+use Rattle.std.specs.Prelude.{◌≡◌, Bool, length, get_or, is_ok, Err, Ok}
 use Rattle.std.proofs.Math.Path.{refl, ap}
 use Rattle.std.proofs.Common.{sym, ◌∙◌, eq-eqb}
 use Rattle.std.proofs.Math.Bool.{true, false}
@@ -13,8 +13,8 @@ use Rattle.lists.specs.Choice.{pick}
 use Rattle.lists.specs.Join.{joined, same-joined}
 use Rattle.lists.specs.Tab.{tab, same-tab}
 use Rattle.refusal.specs.declared.Refusal.TheVariants.{Size}
-use Rattle.refusal.specs.Number.{unrefused, Checked, number_of}
-use Rattle.refusal.specs.Laws.{done-is, passed}
+use Rattle.refusal.specs.Number.{unrefused, Checked, number_of, given, check_of, value_or}
+use Rattle.refusal.specs.Laws.{done-is, zero-done, check-given, passed}
 use Rattle.raster.specs.Moves.{Inside}
 use Rattle.board.specs.declared.Board.{Board}
 use Rattle.board.specs.State.{clock_zero, power_of}
@@ -22,7 +22,7 @@ use Rattle.timing.specs.Fields.{hact_of, lines_of, rows_of, visible_of, buffer_o
 use Rattle.timing.specs.Check.{page_check, size_of}
 use Rattle.timing.specs.Laws.{call-passed, call_ok, call-page}
 use Rattle.fetch.specs.Rows.{fetched_of}
-use Rattle.fetch.specs.Run.{span_of}
+use Rattle.fetch.specs.Run.{span_of, span_in}
 use Rattle.fetch.specs.RowCells.{cells_put}
 use Rattle.fetch.specs.Laws.{span-number}
 use Rattle.latch.specs.Held.{attributes_at}
@@ -53,10 +53,6 @@ use Rattle.agreement.specs.Frames.{frame_clocks}
 use Rattle.agreement.specs.Pictures.{picture-answers, picture-by-lines, picture-by-steps, picture-from-cells}
 use Rattle.agreement.specs.Rows.{line_of, follows, nth_cell, nth_column, run-answers, run-shown, cells-shown}
 
--- a refusal whose number is 0 is none
-pub zero-done : (r : Checked) → number_of r ≡ 0 → r ≡ unrefused
-zero-done r e = done-is r (eq-eqb (number_of r) 0 e)
-
 -- a step that answers 0 was refused by nothing
 step-taken : (b : Board) (chars attrs : List ℕ) (f : Font) → (step_of b chars attrs f).refusal ≡ unrefused → step_check b chars attrs f ≡ unrefused
 unfolding step_of
@@ -82,11 +78,11 @@ module _ (numbers chars attrs words flags unshifted shifted groups : List ℕ) w
   -- accepted or not, the board that is made stands at clock 0, where the steps begin
   pub steps-made : (n : ℕ) → after_c n ≡ after (board_for numbers).board chars attrs f n
   unfolding after_c after board_for
-  steps-made zero = go (is_ok (numbers_check numbers))
+  steps-made zero = go (numbers_check numbers)
     where
-      go : (t : Bool) → pick t b power_of ≡ with_place (pick t b power_of) clock_zero
-      go true = refl
-      go false = refl
+      go : (r : Checked) → value_or power_of (given r b) ≡ with_place (value_or power_of (given r b)) clock_zero
+      go (Ok tt) = refl
+      go (Err why) = refl
   steps-made (suc n) = ap (λ (x : Board). (step_of x chars attrs f).board) (steps-made n)
 
   -- what the next feldrime_step answers
@@ -137,7 +133,7 @@ module _ (numbers chars attrs words flags unshifted shifted groups : List ℕ) w
   module _ (board-made : (board_for numbers).refusal ≡ 0) (first_step : (step_c 0).refusal ≡ 0) where
     check-ok : numbers_check numbers ≡ unrefused
     unfolding board_for
-    check-ok = zero-done (numbers_check numbers) board-made
+    check-ok = zero-done (numbers_check numbers) (ap number_of (sym (check-given (numbers_check numbers) b)) ∙ board-made)
 
     page-fine : page_check b.page ≡ unrefused
     unfolding numbers_check
@@ -281,8 +277,8 @@ module _ (numbers chars attrs words flags unshifted shifted groups : List ℕ) w
       run_is : run_for numbers chars r ≡ run_answer unrefused (span_in b chars r).start (span_in b chars r).count
       unfolding run_for
       run_is =
-          let s = span_of b chars r in
-          let done : s.refusal ≡ unrefused = span-number b chars r s refl ∙ run-answers b chars attrs f step_ok r l hr hl in
+          let s = span_in b chars r in
+          let done : check_of (span_of b chars r) ≡ unrefused = span-number b chars r ∙ run-answers b chars attrs f step_ok r l hr hl in
           rw (numbers-passed numbers check-ok) (ap (λ (x : Checked). run_answer x s.start s.count) done)
 
       -- [fetch run]

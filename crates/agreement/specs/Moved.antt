@@ -4,7 +4,7 @@
 --     never-coded   and never 19, since 4 comes first
 --     no_place      17 is the fact that from every place on some row fetches one of the table's cells
 --     as-sheet-told     moving back: 16, 19, 18
-use Rattle.std.specs.Prelude.{ℕ, ◌<◌, ◌≡◌, Bool, ◌&&◌, ◌||◌, List, [], ◌∷◌, eqb, ltb, length, is_ok, Err}
+use Rattle.std.specs.Prelude.{ℕ, ◌<◌, ◌≡◌, Bool, ◌&&◌, ◌||◌, List, [], ◌∷◌, eqb, ltb, length, is_ok, Err, Ok}
 use Rattle.std.proofs.Math.Path.{refl}
 use Rattle.std.proofs.Common.{sym, ◌∙◌, true≢false}
 use Rattle.std.proofs.Math.Bool.{true, false, not}
@@ -13,7 +13,7 @@ use borrow.Author.Tests.{ltb-true, eqb-true, eq-eqb, ne_eqb}
 use Rattle.lists.specs.Choice.{pick, first_of}
 use Rattle.lists.specs.Search.{first-not, first-none}
 use Rattle.refusal.specs.declared.Refusal.TheVariants.{Range, Room, Address, Reserved, BackPorch, LineShort, FrontPorch, Width, Kind, Stretch, Apart, Coded}
-use Rattle.refusal.specs.Number.{unrefused, number_of, wrong_size}
+use Rattle.refusal.specs.Number.{Checked, unrefused, after, number_of, wrong_size}
 use Rattle.refusal.specs.Laws.{done-is}
 use Rattle.units.specs.declared.Clocks.{Clocks}
 use Rattle.board.specs.declared.Page.{Page}
@@ -30,7 +30,7 @@ unfolding page_check
 page-below p = go (address_refused p) (reserved_refused p) (back_porch_refused p) (line_short p) (front_porch_refused p) (width_refused p.video.dots) (missing p)
   where
     go : (a r b l f w : Bool) (n : Clocks)
-        → number_of (first_of ((a, Err Address) ∷ (r, Err Reserved) ∷ (b, Err BackPorch) ∷ (l, LineShort n) ∷ (f, FrontPorch n) ∷ (w, Err Width) ∷ []) unrefused) < 16
+        → number_of (first_of ((a, Err Address) ∷ (r, Err Reserved) ∷ (b, Err BackPorch) ∷ (l, Err (LineShort n)) ∷ (f, Err (FrontPorch n)) ∷ (w, Err Width) ∷ []) unrefused) < 16
     go true r b l f w n = omega arith
     go false true b l f w n = omega arith
     go false false true l f w n = omega arith
@@ -76,17 +76,17 @@ module _ (b : Board) where
         × (eqb (number_of (as_table_check b chars)) 19 ≡ own && not on && coded)
         × (eqb (number_of (as_table_check b chars)) 17 ≡ own && not on && not coded && none)
     unfolding as_table_check
-    as-table-told = go own refl on coded none
+    as-table-told = go (own_check b (length chars)) refl on coded none
       where
-        go : (t : Bool) → own ≡ t → (o c n : Bool)
-            → (eqb (number_of (pick t (first_of ((o, Err Kind) ∷ (c, Err Coded) ∷ (n, Err Stretch) ∷ []) unrefused) (own_check b (length chars)))) 16 ≡ t && o)
-            × (eqb (number_of (pick t (first_of ((o, Err Kind) ∷ (c, Err Coded) ∷ (n, Err Stretch) ∷ []) unrefused) (own_check b (length chars)))) 19 ≡ t && not o && c)
-            × (eqb (number_of (pick t (first_of ((o, Err Kind) ∷ (c, Err Coded) ∷ (n, Err Stretch) ∷ []) unrefused) (own_check b (length chars)))) 17 ≡ t && not o && not c && n)
-        go false e o c n = (not_own (length chars) 16 refl, not_own (length chars) 19 refl, not_own (length chars) 17 refl)
-        go true e true c n = (refl, refl, refl)
-        go true e false true n = (refl, refl, refl)
-        go true e false false true = (refl, refl, refl)
-        go true e false false false = (refl, refl, refl)
+        go : (r : Checked) → own_check b (length chars) ≡ r → (o c n : Bool)
+            → (eqb (number_of (after r (first_of ((o, Err Kind) ∷ (c, Err Coded) ∷ (n, Err Stretch) ∷ []) unrefused))) 16 ≡ is_ok r && o)
+            × (eqb (number_of (after r (first_of ((o, Err Kind) ∷ (c, Err Coded) ∷ (n, Err Stretch) ∷ []) unrefused))) 19 ≡ is_ok r && not o && c)
+            × (eqb (number_of (after r (first_of ((o, Err Kind) ∷ (c, Err Coded) ∷ (n, Err Stretch) ∷ []) unrefused))) 17 ≡ is_ok r && not o && not c && n)
+        go (Err why) e o c n = (rw e at (not_own (length chars) 16 refl), rw e at (not_own (length chars) 19 refl), rw e at (not_own (length chars) 17 refl))
+        go (Ok tt) e true c n = (refl, refl, refl)
+        go (Ok tt) e false true n = (refl, refl, refl)
+        go (Ok tt) e false false true = (refl, refl, refl)
+        go (Ok tt) e false false false = (refl, refl, refl)
 
     -- [R-5 refusals]
     -- 19 is never answered moving there: 4 comes first
@@ -114,14 +114,14 @@ module _ (b : Board) where
         × (eqb (number_of (as_sheet_check b chars)) 19 ≡ own && on && coded)
         × (eqb (number_of (as_sheet_check b chars)) 18 ≡ own && on && not coded && rows_apart b.page chars)
     unfolding as_sheet_check
-    as-sheet-told = go own on coded (rows_apart b.page chars)
+    as-sheet-told = go (own_check b (length chars)) refl on coded (rows_apart b.page chars)
       where
-        go : (t o c n : Bool)
-            → (eqb (number_of (pick t (first_of ((not o, Err Kind) ∷ (c, Err Coded) ∷ (n, Err Apart) ∷ []) unrefused) (own_check b (length chars)))) 16 ≡ t && not o)
-            × (eqb (number_of (pick t (first_of ((not o, Err Kind) ∷ (c, Err Coded) ∷ (n, Err Apart) ∷ []) unrefused) (own_check b (length chars)))) 19 ≡ t && o && c)
-            × (eqb (number_of (pick t (first_of ((not o, Err Kind) ∷ (c, Err Coded) ∷ (n, Err Apart) ∷ []) unrefused) (own_check b (length chars)))) 18 ≡ t && o && not c && n)
-        go false o c n = (not_own (length chars) 16 refl, not_own (length chars) 19 refl, not_own (length chars) 18 refl)
-        go true false c n = (refl, refl, refl)
-        go true true true n = (refl, refl, refl)
-        go true true false true = (refl, refl, refl)
-        go true true false false = (refl, refl, refl)
+        go : (r : Checked) → own_check b (length chars) ≡ r → (o c n : Bool)
+            → (eqb (number_of (after r (first_of ((not o, Err Kind) ∷ (c, Err Coded) ∷ (n, Err Apart) ∷ []) unrefused))) 16 ≡ is_ok r && not o)
+            × (eqb (number_of (after r (first_of ((not o, Err Kind) ∷ (c, Err Coded) ∷ (n, Err Apart) ∷ []) unrefused))) 19 ≡ is_ok r && o && c)
+            × (eqb (number_of (after r (first_of ((not o, Err Kind) ∷ (c, Err Coded) ∷ (n, Err Apart) ∷ []) unrefused))) 18 ≡ is_ok r && o && not c && n)
+        go (Err why) e o c n = (rw e at (not_own (length chars) 16 refl), rw e at (not_own (length chars) 19 refl), rw e at (not_own (length chars) 18 refl))
+        go (Ok tt) e false c n = (refl, refl, refl)
+        go (Ok tt) e true true n = (refl, refl, refl)
+        go (Ok tt) e true false true = (refl, refl, refl)
+        go (Ok tt) e true false false = (refl, refl, refl)

@@ -1,10 +1,10 @@
 -- A board's page as numbers, there and back. All of it speaks of `numbers_of`, and of `feldrime_numbers_of` and `feldrime_board_of`. Assumes nothing.
 use Rattle.std.specs.Prelude.{ℕ, ◌≡◌, not, List, eqb, length, Err}
 use Rattle.std.proofs.Math.Path.{refl, ap}
-use Rattle.std.proofs.Common.{◌∙◌}
-use Rattle.refusal.specs.Number.{unrefused}
+use Rattle.std.proofs.Common.{sym, ◌∙◌}
+use Rattle.refusal.specs.Number.{unrefused, number_of}
 use Rattle.refusal.specs.declared.Refusal.TheVariants.{Size}
-use Rattle.refusal.specs.Laws.{passed}
+use Rattle.refusal.specs.Laws.{check-given, passed, zero-done}
 use Rattle.board.specs.declared.Board.{Board}
 use Rattle.board.specs.State.{board_of}
 use Rattle.files.specs.Page.{kept_page}
@@ -13,7 +13,6 @@ use Rattle.numbers.specs.Numbers.{numbers_refused, numbers_check, numbers_board,
 use Rattle.numbers.specs.Laws.{numbers-passed, saved-fine, saved-page, saved-numbers}
 use Rattle.feldrime.specs.Answers.{answer_of, board_answer}
 use Rattle.feldrime.specs.Pages.{board_for}
-use Rattle.agreement.specs.FromC.{zero-done}
 
 -- a board, which has fifteen IRs, and a buffer that its numbers are put into
 module _ (b : Board) (irs-all : length b.page.irs ≡ 15) (out : List ℕ) where
@@ -48,6 +47,6 @@ module _ (numbers : List ℕ) (fits : Bytes numbers) (out : List ℕ) (room : le
       → (answer_of (numbers_of_check (board_for numbers).board (length out)) ≡ answer_of unrefused) × (numbers_of (board_for numbers).board out ≡ cleared numbers)
   unfolding board_for
   numbers-back-from-c e =
-      let ok = zero-done (numbers_check numbers) e in
+      let ok = zero-done (numbers_check numbers) (ap number_of (sym (check-given (numbers_check numbers) (numbers_board numbers))) ∙ e) in
       let s = numbers-back ok in
       rw ok (ap answer_of s.0, s.1)

@@ -1,6 +1,6 @@
 -- No second answer meets the contract of a public function of `units`, `refusal`, `raster`, `board`, `timing` or `registers`: it names its answer, so each of
 -- these is `only`.
-use Rattle.std.specs.Prelude.{ℕ, min, ◌+◌, ◌-◌, ◌*◌, ◌/◌, ◌%◌, eqb, ltb, leb, ◌≡◌, Bool, is_ok}
+use Rattle.std.specs.Prelude.{ℕ, min, ◌+◌, ◌-◌, ◌*◌, ◌/◌, ◌%◌, eqb, ltb, leb, ◌≡◌, Bool}
 use Rattle.lists.specs.Answer.{OneAnswer, only}
 use Rattle.units.specs.declared.Dots.{Dots}
 use Rattle.units.specs.declared.Clocks.{Clocks}
@@ -124,9 +124,6 @@ number-one x = only _
 
 pub beside-one : (x : Checked) → OneAnswer (λ r. r ≡ beside_of x)
 beside-one x = only _
-
-pub is-done-one : (x : Checked) → OneAnswer (λ r. r ≡ is_ok x)
-is-done-one x = only _
 
 pub wrong-size-one : (wrong : Bool) → OneAnswer (λ r. r ≡ wrong_size wrong)
 wrong-size-one wrong = only _

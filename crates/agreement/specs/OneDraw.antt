@@ -1,9 +1,10 @@
 -- No second answer meets the contract of a public function of `fetch`, `catalogue`, `records`, `phrases`, `columns`, `shape`, `video`, `dots`, `tables`, `line`, `picture`, `place` or `step`: it names its answer,
 -- so each of these is `only`.
-use Rattle.std.specs.Prelude.{ℕ, ◌≡◌, Bool, List, length}
+use Rattle.std.specs.Prelude.{ℕ, ◌≡◌, Bool, List, length, Result}
 use Rattle.std.proofs.Common.{arith, length-drop, length-take-le}
 use Rattle.lists.specs.Answer.{OneAnswer, only, only-both, only-four}
 use Rattle.units.specs.Units.{lines}
+use Rattle.refusal.specs.declared.Refusal.{Refusal}
 use Rattle.refusal.specs.Number.{Checked}
 use Rattle.raster.specs.declared.Buffer.{Buffer}
 use Rattle.raster.specs.declared.Cell.{Cell}
@@ -12,12 +13,10 @@ use Rattle.raster.specs.Moves.{cell}
 use Rattle.board.specs.declared.Page.{Page}
 use Rattle.board.specs.declared.Place.{Place}
 use Rattle.board.specs.declared.Board.{Board}
-use Rattle.fetch.specs.declared.RowCells.{RowCells}
-use Rattle.fetch.specs.Run.{span_of, run_of, one_run, GivesSpan, GivesRun}
+use Rattle.fetch.specs.Run.{span_of, run_of, one_run, GivesSpan, GivesRun, span_in}
 use Rattle.fetch.specs.RowCells.{GivesCells}
 use Rattle.fetch.specs.Laws.{span_fits}
 use Rattle.fetch.specs.Rows.{entry_of, code_at, row_start, cell_at, fetched_of, fetched_before}
-use Rattle.catalogue.specs.declared.Moved.{Moved}
 use Rattle.catalogue.specs.ToTable.{MovesToTable}
 use Rattle.catalogue.specs.ToSheet.{as_sheet}
 use Rattle.records.specs.declared.Phrase.{Phrase}
@@ -65,11 +64,11 @@ pub run_length : (b : Board) (chars : List ℕ) (row : ℕ) → length (run_of b
 unfolding run_of
 run_length b chars row = length-take-le _ _ (rw length-drop (omega (arith, span_fits b chars row)))
 
-pub span-of-one : (b : Board) (chars : List ℕ) (row : ℕ) → OneAnswer (λ (r : Span). GivesSpan b chars row r)
+pub span-of-one : (b : Board) (chars : List ℕ) (row : ℕ) → OneAnswer (λ (r : Result Span Refusal). GivesSpan b chars row r)
 span-of-one b chars row r s p q = only _ r s p.0 q.0
 
 -- the refusal and the count, and the buffer
-pub row-cells-one : (b : Board) (chars : List ℕ) (row : ℕ) (cells : List ℕ) → OneAnswer (λ (r : RowCells × List ℕ). GivesCells b chars row cells r.0 r.1)
+pub row-cells-one : (b : Board) (chars : List ℕ) (row : ℕ) (cells : List ℕ) → OneAnswer (λ (r : Result ℕ Refusal × List ℕ). GivesCells b chars row cells r.0 r.1)
 row-cells-one b chars row cells = only-both _ _
 
 pub entry-one : (p : Page) (chars : List ℕ) (row : ℕ) → OneAnswer (λ r. r ≡ cell (entry_of p chars row))
@@ -96,7 +95,7 @@ cell-at-one p chars row column = only _
 -- ---- `catalogue`
 
 -- the answer and character memory
-pub to-table-one : (b : Board) (chars : List ℕ) → OneAnswer (λ (r : Moved × List ℕ). MovesToTable b chars r.0 r.1)
+pub to-table-one : (b : Board) (chars : List ℕ) → OneAnswer (λ (r : Result Board Refusal × List ℕ). MovesToTable b chars r.0 r.1)
 to-table-one b chars = only-both _ _
 
 pub to-sheet-one : (b : Board) (chars : List ℕ) → OneAnswer (λ r. r ≡ as_sheet b chars)

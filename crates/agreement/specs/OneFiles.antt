@@ -1,19 +1,18 @@
 -- No second answer meets the contract of a public function of `copies`, `files`, `numbers` or `listing`: it names its answer, so each of these is `only`.
-use Rattle.std.specs.Prelude.{ℕ, ◌≡◌, Bool, List}
+use Rattle.std.specs.Prelude.{ℕ, ◌≡◌, Bool, List, Result}
 use Rattle.lists.specs.Answer.{OneAnswer, only, only-both, only-three, only-four}
+use Rattle.refusal.specs.declared.Refusal.{Refusal}
 use Rattle.refusal.specs.Number.{Checked}
 use Rattle.board.specs.declared.Page.{Page}
 use Rattle.board.specs.declared.Board.{Board}
 use Rattle.board.specs.Layout.{chars_place, file_size}
 use Rattle.shape.specs.Font.{Font}
 use Rattle.copies.specs.Put.{put_at, taken_from}
-use Rattle.files.specs.declared.PageRead.{PageRead}
 use Rattle.files.specs.File.{version_refused, read_check, ReadsPage, WritesPage}
 use Rattle.files.specs.FontFile.{group_count, ReadsFont, WritesFont}
 use Rattle.files.specs.Page.{version_in, page_at, board_at, page_bytes}
 use Rattle.numbers.specs.Numbers.{numbers_refused, numbers_check, page_or_own, GivesNumbers}
 use Rattle.numbers.specs.Files.{ReadsFile, WritesFile}
-use Rattle.listing.specs.declared.Listed.{Listed}
 use Rattle.listing.specs.Listing.{ListsHead, ListsLine}
 
 -- ---- `copies`
@@ -28,7 +27,7 @@ put_one src at out = only _
 -- ---- `files`
 
 -- the answer and both memories
-pub read-page-one : (file chars attrs : List ℕ) → OneAnswer (λ (r : PageRead × List ℕ × List ℕ). ReadsPage file chars attrs r.0 r.1 r.2)
+pub read-page-one : (file chars attrs : List ℕ) → OneAnswer (λ (r : Result Board Refusal × List ℕ × List ℕ). ReadsPage file chars attrs r.0 r.1 r.2)
 read-page-one file chars attrs = only-three _ _ _
 
 pub write-page-one : (b : Board) (chars attrs out : List ℕ) → OneAnswer (λ (r : Checked × List ℕ). WritesPage b chars attrs out r.0 r.1)
@@ -82,8 +81,8 @@ pub write-file-one : (numbers chars attrs out : List ℕ) → OneAnswer (λ (r :
 write-file-one numbers chars attrs out = only-both _ _
 
 -- the numbers
-pub put-page-one : (x : Checked) (p : Page) (numbers : List ℕ) → OneAnswer (λ r. r ≡ page_or_own x p numbers)
-put-page-one x p numbers = only _
+pub put-page-one : (moved : Result Board Refusal) (numbers : List ℕ) → OneAnswer (λ r. r ≡ page_or_own moved numbers)
+put-page-one moved numbers = only _
 
 -- the refusal and the numbers
 pub numbers-of-one : (b : Board) (numbers : List ℕ) → OneAnswer (λ (r : Checked × List ℕ). GivesNumbers b numbers r.0 r.1)
@@ -92,8 +91,8 @@ numbers-of-one b numbers = only-both _ _
 -- ---- `listing`
 
 -- the answer and the buffer
-pub listing-head-one : (p : Page) (out : List ℕ) → OneAnswer (λ (r : Listed × List ℕ). ListsHead p out r.0 r.1)
+pub listing-head-one : (p : Page) (out : List ℕ) → OneAnswer (λ (r : Result ℕ Refusal × List ℕ). ListsHead p out r.0 r.1)
 listing-head-one p out = only-both _ _
 
-pub listing-line-one : (b : Board) (chars attrs : List ℕ) (f : Font) (line field : ℕ) (out : List ℕ) → OneAnswer (λ (r : Listed × List ℕ). ListsLine b chars attrs f line field out r.0 r.1)
+pub listing-line-one : (b : Board) (chars attrs : List ℕ) (f : Font) (line field : ℕ) (out : List ℕ) → OneAnswer (λ (r : Result ℕ Refusal × List ℕ). ListsLine b chars attrs f line field out r.0 r.1)
 listing-line-one b chars attrs f line field out = only-both _ _

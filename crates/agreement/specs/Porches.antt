@@ -1,7 +1,7 @@
 -- 02, R-2: which porch. A page is accepted exactly if neither 12 nor 4 refuses it, its back porch code is not 0, its front
 -- porch is at least 2, and 6 does not refuse it. Each of 13, 14 and 15 is answered exactly if its fact holds and none
 -- before it does, and the number beside it is what the front porch misses. Assumes nothing.
-use Rattle.std.specs.Prelude.{ℕ, ◌+◌, ◌-◌, ◌%◌, ◌≤◌, ◌≡◌, Bool, ◌&&◌, ◌||◌, [], ◌∷◌, ltb, is_ok, Err}
+use Rattle.std.specs.Prelude.{ℕ, ◌+◌, ◌-◌, ◌%◌, ◌≤◌, ◌≡◌, Bool, ◌&&◌, ◌||◌, [], ◌∷◌, ltb, is_ok, Err, Ok}
 use Rattle.std.proofs.Math.Path.{refl}
 use Rattle.std.proofs.Common.{sym, ap, ◌∙◌, arith, lt-ltb, ltb-true, ltb-false}
 use Rattle.std.proofs.Math.Bool.{true, false, not}
@@ -25,7 +25,7 @@ accepted p = not (address_refused p) && not (reserved_refused p) && not (porch_r
 
 -- the page check by its six facts
 abbrev order : (a r b l f w : Bool) → Clocks → Checked
-order a r b l f w n = first_of ((a, Err Address) ∷ (r, Err Reserved) ∷ (b, Err BackPorch) ∷ (l, LineShort n) ∷ (f, FrontPorch n) ∷ (w, Err Width) ∷ []) unrefused
+order a r b l f w n = first_of ((a, Err Address) ∷ (r, Err Reserved) ∷ (b, Err BackPorch) ∷ (l, Err (LineShort n)) ∷ (f, Err (FrontPorch n)) ∷ (w, Err Width) ∷ []) unrefused
 
 module _ (p : Page) where
   by-facts : page_check p ≡ order (address_refused p) (reserved_refused p) (back_porch_refused p) (line_short p) (front_porch_refused p) (width_refused p.video.dots) (missing p)
@@ -104,7 +104,7 @@ module _ (p : Page) where
 -- [R-2 missing]
 -- no other refusal has a number beside it
 pub beside_none : (r : Checked) → (number_of r ≡ 14 → ⊥) → (number_of r ≡ 15 → ⊥) → beside_of r ≡ 0
-beside_none unrefused s f = refl
+beside_none (Ok tt) s f = refl
 beside_none (Err Version) s f = refl
 beside_none (Err Length) s f = refl
 beside_none (Err Size) s f = refl

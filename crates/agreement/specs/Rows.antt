@@ -2,7 +2,7 @@
 -- `draw_line` writes, are those that follow from the row's own table entry, whatever the rest of memory holds; with it off, those that follow from screen
 -- start 1. Whether each has one column or two is the row's code, in the same entry. They are the cells that `row_cells` gives, and the run that `row_run` gives is the first of them. In character mode the row's dots depend on these
 -- cells alone; in field mode also on what the rows above it latched. Assumes nothing.
-use Rattle.std.specs.Prelude.{ℕ, ◌+◌, ◌*◌, ◌/◌, ◌≤◌, ◌<◌, ◌≡◌, refl, Bool, true, false, length, get_or}
+use Rattle.std.specs.Prelude.{ℕ, ◌+◌, ◌*◌, ◌/◌, ◌≤◌, ◌<◌, ◌≡◌, refl, Bool, true, false, length, get_or, Ok}
 use Rattle.std.proofs.Common.{sym, ◌∙◌, arith, eq-eqb}
 use Rattle.std.proofs.Math.Path.{ap}
 use mathlib.Core.List.{List, ◌++◌}
@@ -21,8 +21,8 @@ use Rattle.board.specs.Range.{memory_refused}
 use Rattle.timing.specs.Fields.{hact_of, lines_of, rows_of, visible_of, buffer_of}
 use Rattle.timing.specs.Laws.{range-ok, call_ok}
 use Rattle.fetch.specs.Rows.{code_at, cell_at, fetched_of, fetch_at}
-use Rattle.fetch.specs.Run.{run_check, span_of}
-use Rattle.fetch.specs.RowCells.{cells_of, cells_check, row_of, cells_given, cells_put}
+use Rattle.fetch.specs.Run.{run_check, span_of, span_in}
+use Rattle.fetch.specs.RowCells.{cells_of, cells_check, cells_given, cells_put}
 use Rattle.fetch.specs.Laws.{cell-shown}
 use Rattle.fetch.specs.RowLaws.{cells-as-run, cells_at, run_at}
 use Rattle.raster.specs.Latch.{latched}

@@ -7,7 +7,7 @@ use Rattle.std.proofs.Math.Dec.{ltb}
 use Rattle.lists.specs.Choice.{pick}
 use Rattle.refusal.specs.declared.Refusal.TheVariants.{Size}
 use Rattle.refusal.specs.Number.{unrefused, Checked, number_of, beside_of}
-use Rattle.refusal.specs.Laws.{done-is}
+use Rattle.refusal.specs.Laws.{zero-done, some-refused}
 use Rattle.board.specs.declared.Board.{Board}
 use Rattle.board.specs.Layout.{file_size}
 use Rattle.board.specs.Range.{memories_refused}
@@ -36,13 +36,13 @@ written_again read n file out = pick (is_ok (again_check read n (length out))) (
 
 -- a call's answer that is 0, and one that is not
 pub answer-done : (r : Checked) {a : Answer} → a ≡ answer_of r → a.refusal ≡ 0 → r ≡ unrefused
-answer-done r p e = done-is r (eq-eqb _ _ (ap (λ (x : Answer). x.refusal) (sym p) ∙ e))
+answer-done r p e = zero-done r (ap (λ (x : Answer). x.refusal) (sym p) ∙ e)
 
 -- a read that refuses
 pub read-stops : (r : Checked) (n : ℕ) (file out : List ℕ) {a : Answer} → a ≡ answer_of r → (a.refusal ≡ 0 → ⊥)
     → (a ≡ answer_of (again_check r n (length out))) × (out ≡ written_again r n file out)
 unfolding again_check written_again
-read-stops r n file out p e = let d : is_ok r ≡ false = ne_eqb _ _ (λ q. e (ap (λ (x : Answer). x.refusal) p ∙ q)) in (rw d p, rw (d, d))
+read-stops r n file out p e = let d : is_ok r ≡ false = some-refused r (λ q. e (ap (λ (x : Answer). x.refusal) p ∙ q)) in (rw d p, rw (d, d))
 
 -- a read that is done, and the write after it: w is the write's answer, and out' what it leaves
 module _ (n : ℕ) (file out : List ℕ) {r w : Checked} {a : Answer} {out' : List ℕ} (ok : r ≡ unrefused) (p : a ≡ answer_of w)
@@ -67,7 +67,10 @@ page-short : (numbers chars attrs out : List ℕ) → ltb (length out) (file_siz
 unfolding page_write_check page_written written page_at
 page-short numbers chars attrs out t = rw (write-short (numbers_board numbers) (length chars) (length attrs) (length out) t) (both (numbers_refused numbers))
   where
-    both : (x : Bool) → (pick x (Err Size) (Err Size) ≡ Err Size) × (pick x out out ≡ out)
+    short : Checked
+    short = Err Size
+
+    both : (x : Bool) → (pick x short short ≡ short) × (pick x out out ≡ out)
     both true = (refl, refl)
     both false = (refl, refl)
 
@@ -92,7 +95,7 @@ module _ (file : List ℕ) (bytes : Bytes file) (out : List ℕ) {a : Answer} {n
       wrote (file_size (version_in file)) file out ok write.0
       (λ l. let s = page-same-from-c file (zeros 32) (zeros 16384) (zeros 16384) (ap number_of ok) bytes out l in
       let zero : number_of (page_write_check numbers (length chars) (length attrs) (length out)) ≡ 0 = rw (read.1, read.2, read.3) s.0 in
-      (done-is (page_write_check numbers (length chars) (length attrs) (length out)) (eq-eqb _ _ zero), write.1 ∙ rw (read.1, read.2, read.3) s.1))
+      (zero-done (page_write_check numbers (length chars) (length attrs) (length out)) zero, write.1 ∙ rw (read.1, read.2, read.3) s.1))
       (λ t. let s = page-short numbers chars attrs out (ap (λ (v : ℕ). ltb (length out) (file_size v)) (version-read ok) ∙ t) in (s.0, write.1 ∙ s.1))
 
 -- ---- a font

@@ -1,20 +1,19 @@
 -- An index of phrases, as columns of numbers. Assumes nothing.
-use Rattle.std.specs.Prelude.{ℕ, zero, suc, ◌+◌, ◌<◌, ◌≡◌, Bool, true, false, ◌&&◌, ◌||◌, List, [], ◌∷◌, eqb, leb, ltb, length, get_or, replicate, is_ok}
+use Rattle.std.specs.Prelude.{ℕ, zero, suc, ◌+◌, ◌<◌, ◌≡◌, Bool, true, false, ◌&&◌, ◌||◌, List, [], ◌∷◌, eqb, leb, ltb, length, get_or, replicate, is_ok, Ok}
 use Rattle.std.proofs.Math.Path.{refl}
 use Rattle.std.proofs.Common.{sym, ap, ◌∙◌, arith, lt-ltb, le-leb, eq-eqb, eqb-true, leb-false}
 use Rattle.std.proofs.lemmas.Bool.{eqb-false}
 use Rattle.lists.specs.Choice.{pick, first_of, neither}
 use Rattle.lists.specs.Search.{any_below, first_below}
 use Rattle.refusal.specs.Number.{unrefused, number_of, beside_of}
-use Rattle.refusal.specs.Laws.{done-is}
+use Rattle.refusal.specs.Laws.{done-is, zero-done}
 use Rattle.raster.specs.Moves.{advance_by-lt}
 use Rattle.board.specs.declared.Page.{Page}
 use Rattle.board.specs.declared.Board.{Board}
 use Rattle.timing.specs.Fields.{buffer_of}
-use Rattle.fetch.specs.declared.RowCells.{RowCells}
 use Rattle.fetch.specs.Rows.{row_start, fetched_of, fetch_at}
 use Rattle.fetch.specs.Run.{run_check}
-use Rattle.fetch.specs.RowCells.{cells_given, cells_put}
+use Rattle.fetch.specs.RowCells.{cells_given, cells_put, cells_count}
 use Rattle.fetch.specs.RowLaws.{cells-as-run, cells_at, count_small}
 use Rattle.records.specs.declared.Phrase.{Phrase}
 use Rattle.records.specs.declared.PhraseAnswer.{PhraseAnswer}
@@ -56,9 +55,9 @@ module _ (b : Board) (chars : List ℕ) (rs : List Phrase) (row : ℕ) where
 
 -- c is the column of a cell that fetch::row_cells put into a buffer of 256 elements
 module _ (b : Board) (chars ls ns fs cs : List ℕ) (row : ℕ) {a : PhraseAnswer} (e : a ≡ phrase_of_row b chars (records_of ls ns fs cs) row)
-    {g : RowCells} {cells : List ℕ} (p : (g ≡ cells_given b chars row 256) × (cells ≡ cells_put b chars row (replicate 256 0))) (c : ℕ)
-    (asked : (eqb a.found 0 || leb g.count c) ≡ false) where
-  tests : (eqb a.found 0 ≡ false) × (leb g.count c ≡ false)
+    {n : ℕ} {cells : List ℕ} (p : (Ok n ≡ cells_given b chars row 256) × (cells ≡ cells_put b chars row (replicate 256 0))) (c : ℕ)
+    (asked : (eqb a.found 0 || leb n c) ≡ false) where
+  tests : (eqb a.found 0 ≡ false) × (leb n c ≡ false)
   tests = neither _ _ asked
 
   here : Found b chars (records_of ls ns fs cs) row a.position
@@ -136,13 +135,13 @@ module _ (b : Board) (chars : List ℕ) (rs : List Phrase) (row : ℕ) {one : Ph
   own-number {n} {m} p q f = go (is_ok (run_check b (length chars) row)) refl
     where
       go : (t : Bool) → is_ok (run_check b (length chars) row) ≡ t → ((eqb one.refusal n && eqb one.beside m) && eqb one.found 0) ≡ true
-      go true t = absurd (f (p ∙ eqb-true _ _ t))
+      go true t = absurd (f (p ∙ ap number_of (done-is _ t)))
       go false t = rw (e ∙ refused-own b chars rs row t) (simp (eq-eqb _ n (sym p), eq-eqb _ m (sym q)))
 
   pub same-bad : {two : PairAnswer} → two ≡ phrases_differ rs → number_of (run_check b (length chars) row) ≡ 0 → alike one two ≡ true
   unfolding phrase_of_row phrases_differ among
   same-bad k z =
-      rw (e, k, z)
+      rw (e, k, zero-done _ z)
       (told-alike (any_below (at rs bad_record) (length rs)) (any_below (at rs (holds_row b.page chars row)) (length rs)) (any_below (λ i. any_below (later_differs rs i) (length rs)) (length rs))
       (first_below (at rs bad_record) (length rs)) _ _ _)
 

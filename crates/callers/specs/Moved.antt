@@ -6,6 +6,7 @@ use Rattle.std.proofs.Math.Bool.{false}
 use borrow.Author.Tests.{ne_eqb}
 use Rattle.lists.specs.Choice.{pick}
 use Rattle.refusal.specs.Number.{unrefused}
+use Rattle.refusal.specs.Laws.{some-refused}
 use Rattle.catalogue.specs.ToTable.{table_place}
 use Rattle.files.specs.Page.{page_at}
 use Rattle.files.specs.Round.{Bytes}
@@ -24,7 +25,7 @@ module _ (numbers chars : List ℕ) {a : Answer} {x y : List ℕ}
   pub not-moved : (a.refusal ≡ 0 → ⊥) → (a ≡ answer_of (to_table_check numbers chars)) × (x ≡ returned_numbers numbers chars) × (y ≡ to_table_chars numbers chars)
   unfolding returned_numbers
   not-moved e =
-      let refused : is_ok (to_table_check numbers chars) ≡ false = ne_eqb _ _ (λ z. e (ap (λ (k : Answer). k.refusal) there.0 ∙ z)) in
+      let refused : is_ok (to_table_check numbers chars) ≡ false = some-refused _ (λ z. e (ap (λ (k : Answer). k.refusal) there.0 ∙ z)) in
       (there.0, rw refused (there.1 ∙ (table-refused numbers chars refused).0), there.2)
 
   pub moved-to-sheet : Bytes numbers → a.refusal ≡ 0 → {c : Answer} {z : List ℕ} → (c ≡ answer_of (to_sheet_check x y)) × (z ≡ to_sheet_numbers x y)

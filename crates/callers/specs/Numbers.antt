@@ -7,8 +7,8 @@ use mathlib.Core.List.{List, [], ◌++◌}
 use borrow.Author.Tests.{eq-eqb, le-ltb}
 use Rattle.lists.specs.Choice.{pick}
 use Rattle.refusal.specs.declared.Refusal.TheVariants.{Size}
-use Rattle.refusal.specs.Number.{unrefused, Checked, number_of}
-use Rattle.refusal.specs.Laws.{done-is, passed}
+use Rattle.refusal.specs.Number.{unrefused, Checked, number_of, check_of}
+use Rattle.refusal.specs.Laws.{done-is, zero-done, check-given, passed}
 use Rattle.board.specs.declared.Page.{Page}
 use Rattle.board.specs.declared.Board.{Board}
 use Rattle.board.specs.Layout.{newest_version, page_length, length_field, file_size}
@@ -17,7 +17,6 @@ use Rattle.board.specs.Range.{memories_refused}
 use Rattle.board.specs.Laws.{layout-kept}
 use Rattle.timing.specs.Check.{page_check, state_refused, call_check}
 use Rattle.timing.specs.Laws.{range-ok}
-use Rattle.files.specs.declared.PageRead.{PageRead}
 use Rattle.files.specs.Page.{version_in, page_at, page_bytes}
 use Rattle.files.specs.File.{file_check, read_check, read_page_of, head_of, file_of, write_check, written}
 use Rattle.files.specs.Laws.{file-passed, page-irs, bytes-all, file-most}
@@ -106,7 +105,7 @@ module _ (numbers : List ℕ) (fits : Bytes numbers) (chars attrs out : List ℕ
     -- as many bytes of it as the page's version has are read
     module _ {n : ℕ} (e : n ≡ number_of w) (y : n ≡ 0) {part : List ℕ} (cut : part ≡ take (file_size m.board.page.version) file) where
       fine : memories_refused (length chars) (length attrs) ≡ false
-      fine = (passed (memories_refused (length chars) (length attrs)) (Err Size) unrefused refl (sym wrote-is ∙ done-is w (eq-eqb _ _ (sym e ∙ y)))).0
+      fine = (passed (memories_refused (length chars) (length attrs)) (Err Size) unrefused refl (sym wrote-is ∙ zero-done w (sym e ∙ y))).0
 
       irs-all : length (numbers_board numbers).page.irs ≡ 15
       irs-all = page-irs numbers 1 (numbers-room numbers (numbers-passed numbers done))
@@ -121,7 +120,7 @@ module _ (numbers : List ℕ) (fits : Bytes numbers) (chars attrs out : List ℕ
 
       read_done : read_check part false ≡ unrefused
       unfolding read_page_of
-      read_done = ap (λ (r : PageRead). r.refusal) (board-same (numbers_board numbers) irs-all chars attrs zeros ok [] [] part front).0
+      read_done = sym (check-given (read_check part false) _) ∙ ap check_of (board-same (numbers_board numbers) irs-all chars attrs zeros ok [] [] part front).0
 
       read_is : (size : Bool) → read_check part size ≡ pick size (Err Size) unrefused
       unfolding read_check file_check

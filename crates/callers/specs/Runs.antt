@@ -8,7 +8,7 @@ use borrow.Author.Tests.{eq-eqb}
 use Rattle.std.proofs.Math.ListN.{length, take}
 use Rattle.lists.specs.Choice.{pick}
 use Rattle.refusal.specs.Number.{number_of}
-use Rattle.fetch.specs.Run.{run_check, span_of, run_of}
+use Rattle.fetch.specs.Run.{run_check, span_of, run_of, span_in}
 use Rattle.fetch.specs.Laws.{span_small, run-part, span-number}
 use Rattle.copies.specs.Put.{length_part}
 use Rattle.numbers.specs.Numbers.{numbers_refused, numbers_board}
@@ -41,7 +41,7 @@ module _ (numbers chars : List ℕ) (row : ℕ) {a : RunAnswer} (e : a ≡ run_f
     where
       go : (t : Bool) → numbers_refused numbers ≡ t → take (a.first + a.count - a.first) (drop a.first chars) ≡ run_part numbers chars row
       go true t = rw (e, t)
-      go false t = rw (e, t) (run-part (numbers_board numbers) chars row (span_of (numbers_board numbers) chars row) refl)
+      go false t = rw (e, t) (run-part (numbers_board numbers) chars row (span_in (numbers_board numbers) chars row) refl)
 
   pub start_is : a.first ≡ run_start numbers chars row
   unfolding run_for run_start
@@ -60,4 +60,4 @@ module _ (numbers chars : List ℕ) (row : ℕ) {a : RunAnswer} (e : a ≡ run_f
     unfolding run_for
     runs_same p q =
         rw (e, q, p, (made-done numbers made done).1, numbers-passed numbers (made-done numbers made done).0, count-is, eq-eqb (span_in (numbers_board numbers) chars row).count _ refl)
-        (rw (eq-eqb _ _ (ap number_of (span-number (numbers_board numbers) chars row (span_of (numbers_board numbers) chars row) refl))))
+        (rw (eq-eqb _ _ (ap number_of (span-number (numbers_board numbers) chars row))))

@@ -7,6 +7,7 @@ use borrow.Author.Tests.{ne_eqb, eqb-true}
 use Rattle.lists.specs.Choice.{pick}
 use Rattle.refusal.specs.declared.Refusal.TheVariants.{Size}
 use Rattle.refusal.specs.Number.{unrefused, Checked, number_of}
+use Rattle.refusal.specs.Laws.{some-refused}
 use Rattle.board.specs.declared.Board.{Board}
 use Rattle.board.specs.State.{power_of, board_of}
 use Rattle.timing.specs.Check.{page_check}
@@ -41,7 +42,7 @@ module _ (b : Board) (irs-all : length b.page.irs ≡ 15) {a : Answer} {numbers 
   unfolding saved_board numbers_of_check
   board-refused e q =
       let r : a.refusal ≡ number_of (page_check b.page) = ap (λ (x : Answer). x.refusal) saved.0 in
-      let refused : is_ok (page_check b.page) ≡ false = ne_eqb _ _ (λ z. e (r ∙ z)) in
+      let refused : is_ok (page_check b.page) ≡ false = some-refused _ (λ z. e (r ∙ z)) in
       rw (refused, q) (ap (λ (x : Answer). record { refusal = x.refusal; beside = x.beside; board = power_of }) saved.0)
 
   pub board-again : a.refusal ≡ 0 → {m : BoardAnswer} → m ≡ board_for numbers → m ≡ saved_board b

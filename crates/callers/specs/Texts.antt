@@ -1,5 +1,5 @@
 -- The text that a row shows: a code for each cell that it fetches. Assumes nothing.
-use Rattle.std.specs.Prelude.{ℕ, ◌≤◌, ◌<◌, ◌≡◌, Bool, ◌&&◌, eqb, leb, replicate, is_ok}
+use Rattle.std.specs.Prelude.{ℕ, ◌≤◌, ◌<◌, ◌≡◌, Bool, ◌&&◌, eqb, leb, replicate, is_ok, Ok, Err}
 use Rattle.std.proofs.Math.Path.{refl, sym, ap}
 use Rattle.std.proofs.Common.{◌∙◌, arith, length-append, ext_get_or, length-take-le}
 use Rattle.std.proofs.Math.Bool.{true, false}
@@ -9,14 +9,15 @@ use Rattle.std.proofs.Math.ListN.{length, get_or, take, drop, get_or-append}
 use Rattle.std.proofs.Math.Seq.{get_or-take, get_or-drop}
 use Rattle.lists.specs.Choice.{pick}
 use Rattle.lists.specs.Tab.{tab, same-tab, length-tab, get_or-tab}
-use Rattle.refusal.specs.Number.{unrefused, number_of, beside_of}
-use Rattle.refusal.specs.Laws.{done-is}
+use Rattle.refusal.specs.declared.Refusal.{Refusal}
+use Rattle.refusal.specs.Number.{Checked, unrefused, given, number_of, beside_of, check_of}
+use Rattle.refusal.specs.Laws.{check-given}
 use Rattle.board.specs.declared.Board.{Board}
 use Rattle.raster.specs.Moves.{advance_by-lt}
 use Rattle.timing.specs.Fields.{buffer_of}
 use Rattle.fetch.specs.Rows.{row_start, fetched_of, fetch_at}
-use Rattle.fetch.specs.Run.{run_check, span_of, run_of}
-use Rattle.fetch.specs.RowCells.{cells_check, row_of, cells_given}
+use Rattle.fetch.specs.Run.{run_check, span_of, run_of, span_in}
+use Rattle.fetch.specs.RowCells.{cells_check, cells_given, cells_count}
 use Rattle.fetch.specs.Laws.{run-passed, fetched-small, span_fits, span-number}
 use Rattle.fetch.specs.RowLaws.{cells-passed, cells-as-run, cells-some, count_small, cells_at, run_at, run-least}
 use Rattle.copies.specs.Put.{length_part}
@@ -124,14 +125,14 @@ module _ (numbers chars : List ℕ) (row : ℕ) (text : List ℕ) (room : 256 �
   unfolding run_of
   part-long = length_part chars (span_in m chars row).start n (span_fits m chars row)
 
-  given : run_check m (length chars) row ≡ unrefused → cells_given m chars row 256 ≡ Ok (fetched_of m.page chars row)
+  given-all : run_check m (length chars) row ≡ unrefused → cells_given m chars row 256 ≡ Ok (fetched_of m.page chars row)
   unfolding cells_given
-  given q = rw (cells-as-run m (length chars) row 256 (omega arith), q)
+  given-all q = rw (cells-as-run m (length chars) row 256 (omega arith), q)
 
   count-is : run_check m (length chars) row ≡ unrefused → numbers_refused numbers ≡ false → count numbers chars row ≡ fetched_of m.page chars row
   unfolding cells_for
   count-is q t =
-      let answered : cells_for numbers chars row 256 ≡ cells_answer unrefused (fetched_of m.page chars row) = rw (t, given q) in
+      let answered : cells_for numbers chars row 256 ≡ cells_answer unrefused (fetched_of m.page chars row) = rw (t, given-all q) in
       ap (λ (x : CellsAnswer). x.count) answered
 
   most-count : n ≤ cells_count m chars row 256
@@ -145,7 +146,7 @@ module _ (numbers chars : List ℕ) (row : ℕ) (text : List ℕ) (room : 256 �
       let f = char_at numbers chars row in
       let h_le : h ≤ length text = omega (arith, room, (fetched-small m.page chars row).1) in
       let text-is : row_text numbers chars row text ≡ tab h f ++ drop h text = rw (count-is q t, le-leb h (length text) h_le) in
-      let few : n ≤ h = rw (given q) at most-count in
+      let few : n ≤ h = rw (given-all q) at most-count in
       let long : n ≤ length (tab h f ++ drop h text) = rw (length-append (tab h f) (drop h text), length-tab h f) (omega (arith, few)) in
       let start = (span_in m chars row).start in
       rw text-is
@@ -156,19 +157,19 @@ module _ (numbers chars : List ℕ) (row : ℕ) (text : List ℕ) (room : 256 �
       ∙ ap (λ (x : ℕ). get_or chars x 0) s.1 ∙ sym (get_or-take n (drop start chars) i 0 k ∙ get_or-drop start chars i 0)))
 
   -- a row that is
-  none : (xs : List ℕ) → is_ok (run_check m (length chars) row) ≡ false → take (length (run_of m chars row)) xs ≡ run_of m chars row
+  none : (xs : List ℕ) (why : Refusal) → run_check m (length chars) row ≡ Err why → take (length (run_of m chars row)) xs ≡ run_of m chars row
   unfolding run_of span_of
-  none xs z = rw z
+  none xs why z = rw z
 
   pub text-begins : {part text' : List ℕ} → part ≡ run_part numbers chars row → text' ≡ row_text numbers chars row text → take (length part) text' ≡ part
   unfolding run_part
-  text-begins p q = rw (p, q) (go (numbers_refused numbers) refl (is_ok (run_check m (length chars) row)) refl)
+  text-begins p q = rw (p, q) (go (numbers_refused numbers) refl (run_check m (length chars) row) refl)
     where
-      go : (t : Bool) → numbers_refused numbers ≡ t → (d : Bool) → is_ok (run_check m (length chars) row) ≡ d
+      go : (t : Bool) → numbers_refused numbers ≡ t → (r : Checked) → run_check m (length chars) row ≡ r
           → take (length (run_part numbers chars row)) (row_text numbers chars row text) ≡ run_part numbers chars row
-      go true t d z = rw t
-      go false t true z = rw (t, part-long) (shown (done-is _ z) t)
-      go false t false z = rw t (none (row_text numbers chars row text) z)
+      go true t r z = rw t
+      go false t (Ok tt) z = rw (t, part-long) (shown z t)
+      go false t (Err why) z = rw t (none (row_text numbers chars row text) why z)
 
 -- ---- both calls
 
@@ -183,6 +184,6 @@ calls-agree numbers chars row {a} {r} e q = go (numbers_refused numbers) refl
     go : (t : Bool) → numbers_refused numbers ≡ t → ((eqb a.refusal r.refusal && eqb a.beside r.beside) && leb r.count a.count) ≡ true
     go true t = rw (e, q, t)
     go false t =
-        let same : cells_check b (length chars) row 256 ≡ (check_of (span_of b chars row))
-        = cells-as-run b (length chars) row 256 (omega arith) ∙ sym (span-number b chars row (span_of b chars row) refl) in
+        let same : check_of (given (cells_check b (length chars) row 256) (fetched_of b.page chars row)) ≡ check_of (span_of b chars row) =
+        check-given (cells_check b (length chars) row 256) _ ∙ cells-as-run b (length chars) row 256 (omega arith) ∙ sym (span-number b chars row) in
         rw (e, q, t, eq-eqb _ _ (ap number_of same), eq-eqb _ _ (ap beside_of same)) (le-leb _ _ (run-least b chars row 256 (omega arith)))

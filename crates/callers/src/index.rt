@@ -35,8 +35,10 @@ pub fn found_holds(
 {
     let answer = columns::record_of_row(b, chars, languages, numbers, firsts, lengths, row);
     let mut cells = [0u16; 256];
-    let given = fetch::row_cells(b, chars, row, &mut cells);
-    if (answer.found == 0) | (given.count <= column) {
+    let Ok(count) = fetch::row_cells(b, chars, row, &mut cells) else {
+        return true;
+    };
+    if (answer.found == 0) | (count <= column) {
         return true;
     }
     covers_at(firsts, lengths, answer.position, cells[column])
@@ -68,11 +70,9 @@ pub fn refused_alike(
 {
     let one = columns::record_of_row(b, chars, languages, numbers, firsts, lengths, row);
     let two = columns::records_differ(languages, numbers, firsts, lengths);
-    let span = fetch::span_of(b, chars, row);
-    let own = span.refusal;
-    let number = refusal::number(own);
-    let beside = refusal::beside(own);
-    if number != 0 {
+    if let Err(why) = fetch::span_of(b, chars, row) {
+        let number = refusal::number(Err(why));
+        let beside = refusal::beside(Err(why));
         return (one.refusal == number) & (one.beside == beside) & (one.found == 0);
     }
     (one.refusal == two.refusal)

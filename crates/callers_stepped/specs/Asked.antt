@@ -49,7 +49,7 @@ page-not-three p =
     n = missing p
 
     go : (a r b l f w : Bool)
-        → number_of (first_of ((a, Err Address) ∷ (r, Err Reserved) ∷ (b, Err BackPorch) ∷ (l, LineShort n) ∷ (f, FrontPorch n) ∷ (w, Err Width) ∷ []) unrefused) ≡ 3 → ⊥
+        → number_of (first_of ((a, Err Address) ∷ (r, Err Reserved) ∷ (b, Err BackPorch) ∷ (l, Err (LineShort n)) ∷ (f, Err (FrontPorch n)) ∷ (w, Err Width) ∷ []) unrefused) ≡ 3 → ⊥
     go true r b l f w e = omega arith
     go false true b l f w e = omega arith
     go false false true l f w e = omega arith

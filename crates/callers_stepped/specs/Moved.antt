@@ -7,7 +7,7 @@ use Rattle.std.proofs.Math.Bool.{true, false}
 use Rattle.std.proofs.Math.ListN.{drop}
 use Rattle.lists.specs.Choice.{pick}
 use Rattle.refusal.specs.declared.Refusal.TheVariants.{Size}
-use Rattle.refusal.specs.Number.{Checked, number_of}
+use Rattle.refusal.specs.Number.{Checked, number_of, value_or}
 use Rattle.refusal.specs.Laws.{done-is}
 use Rattle.board.specs.declared.Board.{Board}
 use Rattle.shape.specs.Font.{Font, font_of}

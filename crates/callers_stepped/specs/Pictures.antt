@@ -8,7 +8,7 @@ use Rattle.lists.specs.Fill.{lent}
 use Rattle.lists.specs.Join.{joined, length-joined, stretch-inside}
 use Rattle.refusal.specs.Number.{unrefused}
 use Rattle.refusal.specs.declared.Refusal.TheVariants.{Size}
-use Rattle.refusal.specs.Laws.{passed}
+use Rattle.refusal.specs.Laws.{passed, zero-done}
 use Rattle.board.specs.declared.Board.{Board}
 use Rattle.timing.specs.Fields.{visible_of}
 use Rattle.timing.specs.Check.{page_check, size_of}
@@ -28,7 +28,7 @@ use Rattle.feldrime.specs.Pages.{size_for}
 use Rattle.feldrime.specs.LineDraw.{line_drawn}
 use Rattle.feldrime.specs.PictureDraw.{picture_draw_check, picture_drawn}
 use Rattle.agreement.specs.Lines.{draw-is}
-use Rattle.agreement.specs.FromC.{zero-done, fit-from-c}
+use Rattle.agreement.specs.FromC.{fit-from-c}
 
 -- stretch l of stretches that are d long
 stretch : (f : ℕ → List ℕ) (d : ℕ) → ((c : ℕ) → length (f c) ≡ d) → (rest : List ℕ) (n c l : ℕ) → l < n → take d (drop (l * d) (joined c n f ++ rest)) ≡ f (c + l)

@@ -5,7 +5,7 @@ use Rattle.std.proofs.Common.{◌∙◌, add-zero, add-suc, add-one}
 use Rattle.std.proofs.Math.Bool.{false}
 use borrow.Author.Tests.{eq-eqb, ne_eqb}
 use Rattle.lists.specs.Choice.{pick}
-use Rattle.refusal.specs.Number.{unrefused, number_of}
+use Rattle.refusal.specs.Number.{unrefused, number_of, check_of, value_or}
 use Rattle.refusal.specs.Laws.{done-is}
 use Rattle.board.specs.declared.Board.{Board}
 use Rattle.shape.specs.Font.{Font, font_of}

@@ -1,7 +1,8 @@
 -- What callers use of a check's answer: which test was passed where nothing is refused. Assumes nothing.
 use Rattle.std.specs.Prelude.{◌≡◌, refl, Bool, true, false, not, eqb, is_ok, Result, IsErrAnd, Ok, Err}
-use Rattle.std.proofs.Common.{sym, ap, ◌∙◌, true≢false}
+use Rattle.std.proofs.Common.{sym, ap, ◌∙◌, true≢false, eq-eqb}
 use Rattle.lists.specs.Choice.{pick}
+use Rattle.std.proofs.lemmas.Bool.{ne_eqb}
 use Rattle.std.proofs.lemmas.Result.{err_from_is_err_and}
 use Rattle.refusal.specs.declared.Refusal.{Refusal}
 use Rattle.refusal.specs.declared.Refusal.TheVariants.{Version, Length, Size, Reserved, BackPorch, LineShort, FrontPorch, Width, Range, Room, Register, Command, Address, Kind, Stretch, Apart, Coded}
@@ -37,6 +38,12 @@ number-ok (Err Kind) = refl
 number-ok (Err Stretch) = refl
 number-ok (Err Apart) = refl
 number-ok (Err Coded) = refl
+
+pub zero-done : (r : Checked) → number_of r ≡ 0 → r ≡ unrefused
+zero-done r e = done-is r (sym (number-ok r) ∙ eq-eqb (number_of r) 0 e)
+
+pub some-refused : (r : Checked) → (number_of r ≡ 0 → ⊥) → is_ok r ≡ false
+some-refused r f = sym (number-ok r) ∙ ne_eqb (number_of r) 0 f
 
 -- a choice of a refusal x, which came out as unrefused, was not taken; so a list of tests is gone through one by one
 pub passed : (t : Bool) (x r : Checked) → is_ok x ≡ false → pick t x r ≡ unrefused → (t ≡ false) × (r ≡ unrefused)
