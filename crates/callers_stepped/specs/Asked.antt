@@ -1,5 +1,5 @@
 -- What the calls that step answer, put together, is what the call that draws answers. Assumes nothing.
-use Rattle.std.specs.Prelude.{ℕ, ◌≤◌, ◌<◌, ◌≡◌, Bool, ◌&&◌, ◌||◌, not, List, [], ◌∷◌, ◌++◌, eqb, ltb, length, drop, is_ok, Err}
+use Rattle.std.specs.Prelude.{ℕ, ◌≤◌, ◌<◌, ◌≡◌, Bool, ◌&&◌, ◌||◌, not, List, [], ◌∷◌, ◌++◌, eqb, ltb, length, drop, is_ok, Err, Ok}
 use Rattle.std.proofs.Math.Path.{refl, sym, ap}
 use Rattle.std.proofs.Common.{◌∙◌}
 use Rattle.std.proofs.Math.Bool.{true, false, or-true}
@@ -9,8 +9,8 @@ use Rattle.std.proofs.Math.Dec.{leb}
 use Rattle.lists.specs.Choice.{pick, first_of, neither}
 use Rattle.units.specs.declared.Clocks.{Clocks}
 use Rattle.refusal.specs.declared.Refusal.TheVariants.{Size, Reserved, BackPorch, LineShort, FrontPorch, Width, Range, Room, Address}
-use Rattle.refusal.specs.Number.{unrefused, number_of, beside_of}
-use Rattle.refusal.specs.Laws.{done-is, passed, not-refused}
+use Rattle.refusal.specs.Number.{Checked, unrefused, given, value_or, number_of, beside_of}
+use Rattle.refusal.specs.Laws.{done-is, zero-done, some-refused, check-given, passed, not-refused}
 use Rattle.board.specs.declared.Page.{Page}
 use Rattle.board.specs.declared.Board.{Board}
 use Rattle.board.specs.State.{power_of}
@@ -121,7 +121,7 @@ module _ (numbers chars attrs words flags unshifted shifted groups : List ℕ) (
 
   made-is : m.refusal ≡ number_of (numbers_check numbers)
   unfolding board_for
-  made-is = ap (λ (x : BoardAnswer). x.refusal) made
+  made-is = ap (λ (x : BoardAnswer). x.refusal) made ∙ ap number_of (check-given (numbers_check numbers) (numbers_board numbers))
 
   -- its answer without the board
   abbrev own : Answer
@@ -129,7 +129,9 @@ module _ (numbers chars attrs words flags unshifted shifted groups : List ℕ) (
 
   own_is : own ≡ answer_of (numbers_check numbers)
   unfolding board_for
-  own_is = ap (λ (x : BoardAnswer). record { refusal = x.refusal; beside = x.beside }) made
+  own_is =
+      ap (λ (x : BoardAnswer). record { refusal = x.refusal; beside = x.beside }) made
+      ∙ ap answer_of (check-given (numbers_check numbers) (numbers_board numbers))
 
   -- a size that is wrong, and a group that is refused
   abbrev short : Bool
@@ -141,11 +143,11 @@ module _ (numbers chars attrs words flags unshifted shifted groups : List ℕ) (
   -- the page of the board that is made has no 12 of its own
   made-page : number_of (page_check m.board.page) ≡ 12 → ⊥
   unfolding board_for numbers_check page_check address_refused coded_of table_of hbp_of
-  made-page e = go (is_ok (numbers_check numbers)) refl (ap (λ (x : BoardAnswer). number_of (page_check x.board.page)) (sym made) ∙ e)
+  made-page e = go (numbers_check numbers) refl (ap (λ (x : BoardAnswer). number_of (page_check x.board.page)) (sym made) ∙ e)
     where
-      go : (t : Bool) → is_ok (numbers_check numbers) ≡ t → number_of (page_check (pick t (numbers_board numbers) power_of).page) ≡ 12 → ⊥
-      go true d q = let ok = (passed (numbers_refused numbers) (Err Size) _ refl (done-is _ d)).1 in omega (arith, sym (ap number_of ok) ∙ q)
-      go false d q = omega arith
+      go : (r : Checked) → numbers_check numbers ≡ r → number_of (page_check (value_or power_of (given r (numbers_board numbers))).page) ≡ 12 → ⊥
+      go (Ok tt) d q = let ok = (passed (numbers_refused numbers) (Err Size) _ refl d).1 in omega (arith, sym (ap number_of ok) ∙ q)
+      go (Err why) d q = omega arith
 
   -- 3 for the numbers, which a page's own answer never is
   pub numbers-three : m.refusal ≡ 3 → alone_of 3 ≡ answer
@@ -193,13 +195,13 @@ module _ (numbers chars attrs words flags unshifted shifted groups : List ℕ) (
       unfolding line_draw_check draw_check call_check numbers_check
       pages-own e =
           let page : own ≡ answer_of (page_check (page_at numbers 1)) = own_is ∙ rw (numbers-fine no-three) in
-          let refused : is_ok (page_check (page_at numbers 1)) ≡ false = ne_eqb _ _ (λ q. e (ap (λ (x : Answer). x.refusal) page ∙ q)) in
+          let refused : is_ok (page_check (page_at numbers 1)) ≡ false = some-refused _ (λ q. e (ap (λ (x : Answer). x.refusal) page ∙ q)) in
           rw (numbers-fine no-three, lent-fine.0, lent-fine.1, refused) page
 
       module _ (done : m.refusal ≡ 0) {z : SizeAnswer} (size : z ≡ size_for numbers) where
         page-done : page_check (page_at numbers 1) ≡ unrefused
         unfolding numbers_check
-        page-done = done-is _ (eq-eqb _ _ (rw (numbers-fine no-three) at (sym made-is ∙ done)))
+        page-done = zero-done _ (rw (numbers-fine no-three) at (sym made-is ∙ done))
 
         lines_are : z.lines ≡ (visible_of (page_at numbers 1)).0
         unfolding size_for size_of
@@ -237,7 +239,7 @@ module _ (numbers chars attrs : List ℕ) (f : Font) (line : ℕ) (out : List �
   kept n field = (e, go (numbers_refused numbers) refl)
     where
       refused : is_ok (line_draw_check numbers chars attrs f line (length out)) ≡ false
-      refused = ne_eqb _ _ (λ q. n (number_is ∙ q))
+      refused = some-refused _ (λ q. n (number_is ∙ q))
 
       go : (t : Bool) → numbers_refused numbers ≡ t → out ≡ line_drawn numbers chars attrs f line field out
       go true t = rw t
@@ -246,7 +248,7 @@ module _ (numbers chars attrs : List ℕ) (f : Font) (line : ℕ) (out : List �
   module _ (z : r.refusal ≡ 0) {m : BoardAnswer} (made : m ≡ board_for numbers) where
     accepted : (numbers_refused numbers ≡ false) × (draw_check (numbers_board numbers) (lent_check chars attrs f) line (length out) ≡ unrefused)
     unfolding line_draw_check
-    accepted = passed (numbers_refused numbers) (Err Size) _ refl (done-is _ (eq-eqb _ _ (sym number_is ∙ z)))
+    accepted = passed (numbers_refused numbers) (Err Size) _ refl (zero-done _ (sym number_is ∙ z))
 
     -- what the draw's checks passed
     record Steps : Type 0 where

@@ -54,7 +54,7 @@ module _ (numbers chars attrs words flags unshifted shifted groups : List ℕ) (
     where
       go : (t : Bool) → is_ok (picture_draw_check numbers chars attrs f (length out)) ≡ t → length (draw out) ≡ length out
       go true e =
-          let zero = eqb-true _ _ e in
+          let zero = ap number_of (done-is _ e) in
           same_length numbers chars attrs words flags unshifted shifted groups field out zero (draw out) (pictured numbers chars attrs words flags unshifted shifted groups field out zero)
       go false e = ap length (refused-kept out e)
 
@@ -66,7 +66,7 @@ module _ (numbers chars attrs words flags unshifted shifted groups : List ℕ) (
       go true e =
           let b = numbers_board numbers in
           let dots = picture_dots b chars attrs f field in
-          let zero = eqb-true _ _ e in
+          let zero = ap number_of (done-is _ e) in
           let again : number_of (picture_draw_check numbers chars attrs f (length (draw out))) ≡ 0 = rw (drawn-long out) zero in
           let first = pictured numbers chars attrs words flags unshifted shifted groups field out zero in
           let long = dots-long numbers chars attrs words flags unshifted shifted groups field out zero in

@@ -6,7 +6,7 @@ use Rattle.std.proofs.Math.Bool.{false}
 use borrow.Author.Tests.{eq-eqb, ne_eqb}
 use Rattle.lists.specs.Choice.{pick}
 use Rattle.refusal.specs.Number.{unrefused, number_of, check_of, value_or}
-use Rattle.refusal.specs.Laws.{done-is}
+use Rattle.refusal.specs.Laws.{zero-done, some-refused}
 use Rattle.board.specs.declared.Board.{Board}
 use Rattle.shape.specs.Font.{Font, font_of}
 use Rattle.place.specs.State.{state_of}
@@ -48,7 +48,7 @@ module _ (b : Board) (chars attrs words flags unshifted shifted groups : List �
     unfolding stepped_to
     not-stepped e =
         let r : s.answer.refusal ≡ number_of (step_check b chars attrs font) = step-by-value b chars attrs words flags unshifted shifted groups tried in
-        let refused : is_ok (step_check b chars attrs font) ≡ false = ne_eqb _ _ (λ q. e (r ∙ q)) in
+        let refused : is_ok (step_check b chars attrs font) ≡ false = some-refused _ (λ q. e (r ∙ q)) in
         let k = step-beside b chars attrs words flags unshifted shifted groups tried in
         rw refused (λ i. record { refusal = r i; beside = k i; board = b })
 
@@ -58,7 +58,7 @@ module _ (b : Board) (chars attrs words flags unshifted shifted groups : List �
     unfolding stepped_to
     stepped e from i {a} asked here q =
         let r : s.answer.refusal ≡ number_of (step_check b chars attrs font) = step-by-value b chars attrs words flags unshifted shifted groups tried in
-        let ok : step_check b chars attrs font ≡ unrefused = done-is _ (eq-eqb _ _ (sym r ∙ e)) in
+        let ok : step_check b chars attrs font ≡ unrefused = zero-done _ (sym r ∙ e) in
         let start : a.board ≡ after b chars attrs font from = ap (λ (x : BoardAnswer). x.board) asked ∙ (at_once b chars attrs font ok from).1 in
         let last = here ∙ ap (λ (x : Board). on x chars attrs font i) start ∙ later b chars attrs font from i ∙ ap (after b chars attrs font) q ∙ sym (at_once b chars attrs font ok n).1 in
         rw ok (λ k. record { refusal = 0; beside = 0; board = last k })
