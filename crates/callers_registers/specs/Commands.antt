@@ -84,8 +84,8 @@ module _ {b : Board} (r : Ready b) where
   refused v e q =
       let zero = neither (eqb v 0) (within 16 31 v && not (pointer_refused b.page (v - 16)) || switching v) e in
       let pointer = neither (within 16 31 v && not (pointer_refused b.page (v - 16))) (switching v) zero.1 in
-      let is : command_of b v ≡ Err Command =
-          rw zero.0 (points (within 16 31 v) (pointer_refused b.page (v - 16)) pointer.0 _ (go (within 32 63 v) (eqb (v / 2 % 2) 0 && not (eqb (v / 8 % 4) 0)) pointer.1)) in
+      let last = go (within 32 63 v) (eqb (v / 2 % 2) 0 && not (eqb (v / 8 % 4) 0)) pointer.1 in
+      let is : command_of b v ≡ Err Command = rw zero.0 (points (within 16 31 v) (pointer_refused b.page (v - 16)) pointer.0 _ last) in
       q ∙ commanded v ∙ ap (λ (x : Result Board Refusal). board_given x b) is
     where
       points : (t u : Bool) → (t && not u) ≡ false → (x : Result Board Refusal) → x ≡ Err Command
