@@ -1,23 +1,21 @@
 -- The address registers: what is written is read, and the rest stays. Assumes nothing.
-use Rattle.std.specs.Prelude.{ℕ, ◌%◌, ◌≤◌, ◌<◌, ◌≡◌, refl, Bool, true, false, ◌||◌, eqb, ltb, is_ok, Err}
+use Rattle.std.specs.Prelude.{ℕ, ◌%◌, ◌≤◌, ◌<◌, ◌≡◌, refl, Bool, true, false, ◌||◌, eqb, ltb, Result, Ok, Err}
 use Rattle.std.proofs.Math.Path.{ap}
 use Rattle.std.proofs.Common.{◌∙◌, arith}
 use borrow.Author.Tests.{ne_eqb, eqb-true, eqb-false, le-ltb, ltb-false}
 use Rattle.lists.specs.Choice.{pick, within, inside, over, neither, pick-lt}
+use Rattle.refusal.specs.declared.Refusal.{Refusal}
 use Rattle.refusal.specs.declared.Refusal.TheVariants.{Register}
-use Rattle.refusal.specs.Number.{unrefused}
+use Rattle.refusal.specs.Number.{Checked, unrefused, after, check_of, value_or}
 use Rattle.board.specs.declared.Starts.{Starts}
 use Rattle.board.specs.declared.Board.{Board}
 use Rattle.board.specs.Range.{starts_refused}
-use Rattle.registers.specs.declared.Written.{Written}
-use Rattle.registers.specs.declared.ByteRead.{ByteRead}
 use Rattle.board.specs.Parts.{with_starts, with_page}
-use Rattle.registers.specs.Answers.{answer, byte_read}
 use Rattle.registers.specs.Write.{register_check, lower_of, upper_of, starts_after, started_of, active_of}
 use Rattle.registers.specs.Read.{lower_shown, upper_shown, shown_at, read_at, read_of}
 use Rattle.feldrime.specs.declared.BoardAnswer.{BoardAnswer}
 use Rattle.feldrime.specs.declared.ByteAnswer.{ByteAnswer}
-use Rattle.feldrime.specs.Answers.{board_answer, byte_answer}
+use Rattle.feldrime.specs.Answers.{board_answer, board_given, byte_answer}
 use Rattle.feldrime.specs.Boards.{write_for, read_for}
 use Rattle.callers_registers.specs.Ready.{Ready, writes, reads, parts, ready}
 
@@ -109,13 +107,13 @@ shown-lt s a =
 -- whatever is read is a byte
 pub read-lt : (b : Board) (a : ℕ) {x : ByteAnswer} → x ≡ read_for b a → x.byte < 256
 unfolding read_of read_at
-read-lt b a e = rw e (go (is_ok (register_check b)) (within 0 1 a) (within 2 7 a))
+read-lt b a e = rw e (go (register_check b) (within 0 1 a) (within 2 7 a))
   where
-    go : (t u w : Bool) → (pick t (pick u (Ok 0) (pick w (Ok (shown_at b.page.starts a)) (byte_read (Err Register) 0))) (byte_read (register_check b) 0)).byte < 256
-    go true true w = omega arith
-    go true false true = shown-lt b.page.starts a
-    go true false false = omega arith
-    go false u w = omega arith
+    go : (r : Checked) (u w : Bool) → value_or 0 (after r (pick u (Ok 0) (pick w (Ok (shown_at b.page.starts a)) (Err Register)))) < 256
+    go (Ok tt) true w = omega arith
+    go (Ok tt) false true = shown-lt b.page.starts a
+    go (Ok tt) false false = omega arith
+    go (Err why) u w = omega arith
 
 module _ {b : Board} (r : Ready b) (a : ℕ) (lo : 2 ≤ a) (hi : a ≤ 7) where
   put : (v : ℕ) → write_for b a v ≡ board_answer unrefused (started_of b a v)
@@ -124,13 +122,13 @@ module _ {b : Board} (r : Ready b) (a : ℕ) (lo : 2 ≤ a) (hi : a ≤ 7) where
       let not-0 = ne_eqb a 0 (λ e. omega (arith, e, lo)) in
       let not-1 = ne_eqb a 1 (λ e. omega (arith, e, lo)) in
       let done : active_of b a v ≡ Ok (started_of b a v) = rw (not-0, not-1, inside 2 7 a lo hi) in
-      ap (λ (x : Written). board_answer x.refusal x.board) (writes r a v ∙ done)
+      ap (λ (x : Result Board Refusal). board_given x b) (writes r a v ∙ done)
 
   seen : read_for b a ≡ byte_answer unrefused (shown_at b.page.starts a)
   unfolding read_at
   seen =
       let done : read_at b.page.starts a ≡ Ok (shown_at b.page.starts a) = rw (over 0 1 a (omega (arith, lo)), inside 2 7 a lo hi) in
-      ap (λ (x : ByteRead). byte_answer x.refusal x.byte) (reads r a ∙ done)
+      ap (λ (x : Result ℕ Refusal). byte_answer (check_of x) (value_or 0 x)) (reads r a ∙ done)
 
 module _ {b : Board} (r : Ready b) (a : ℕ) (lo : 2 ≤ a) (hi : a ≤ 7) (v : ℕ) (small : v < 256) {one : BoardAnswer} (e : one ≡ write_for b a v) where
   abbrev s : Starts

@@ -1,5 +1,5 @@
 -- What commands do. Assumes nothing.
-use Rattle.std.specs.Prelude.{ℕ, ◌+◌, ◌-◌, ◌*◌, ◌/◌, ◌%◌, ◌≤◌, ◌<◌, ◌≡◌, Bool, ◌&&◌, ◌||◌, ◌∷◌, replicate, set, eqb, leb, Err}
+use Rattle.std.specs.Prelude.{ℕ, ◌+◌, ◌-◌, ◌*◌, ◌/◌, ◌%◌, ◌≤◌, ◌<◌, ◌≡◌, Bool, ◌&&◌, ◌||◌, ◌∷◌, replicate, set, eqb, leb, Result, Ok, Err}
 use Rattle.std.proofs.Math.Path.{refl, ap}
 use Rattle.std.proofs.Common.{◌∙◌, true≢false, arith}
 use Rattle.std.proofs.Math.Bool.{true, false, not}
@@ -7,6 +7,7 @@ use borrow.Author.Tests.{ne_eqb, leb-true, le-ltb}
 use Rattle.lists.specs.Choice.{pick, within, has_bit, inside, over, both, neither, pick-lt}
 use Rattle.units.specs.Units.{dots}
 use Rattle.refusal.specs.Number.{unrefused}
+use Rattle.refusal.specs.declared.Refusal.{Refusal}
 use Rattle.refusal.specs.declared.Refusal.TheVariants.{Command}
 use Rattle.board.specs.declared.Page.{Page}
 use Rattle.board.specs.declared.Board.{Board}
@@ -14,12 +15,10 @@ use Rattle.board.specs.State.{clock_zero, power_of}
 use Rattle.board.specs.Layout.{layout_of, last_ir}
 use Rattle.board.specs.Range.{address_refused, pointer_refused}
 use Rattle.board.specs.Laws.{layout-fits}
-use Rattle.registers.specs.declared.Written.{Written}
 use Rattle.board.specs.Parts.{with_irs, with_switches, with_page, with_pointer}
-use Rattle.registers.specs.Answers.{answer}
 use Rattle.registers.specs.Write.{register_check, pointed_of, switches_after, switched_of, command_of, next_pointer, active_of, inactive_of, write_of}
 use Rattle.feldrime.specs.declared.BoardAnswer.{BoardAnswer}
-use Rattle.feldrime.specs.Answers.{board_answer}
+use Rattle.feldrime.specs.Answers.{board_answer, board_given}
 use Rattle.feldrime.specs.Boards.{write_for}
 use Rattle.callers_registers.specs.Ready.{Ready, writes, parts, ready, judged}
 
@@ -76,27 +75,26 @@ module _ {off : Board} {once : BoardAnswer} (p : off ≡ power_of) (q : once ≡
 -- ---- an active board
 
 module _ {b : Board} (r : Ready b) where
-  commanded : (v : ℕ) → write_for b 1 v ≡ board_answer (command_of b v).refusal (command_of b v).board
+  commanded : (v : ℕ) → write_for b 1 v ≡ board_given (command_of b v) b
   unfolding active_of
-  commanded v = ap (λ (x : Written). board_answer x.refusal x.board) (writes r 1 v)
+  commanded v = ap (λ (x : Result Board Refusal). board_given x b) (writes r 1 v)
 
   pub refused : (v : ℕ) → carried b.page v ≡ false → {x : BoardAnswer} → x ≡ write_for b 1 v → x ≡ board_answer (Err Command) b
   unfolding command_of
   refused v e q =
       let zero = neither (eqb v 0) (within 16 31 v && not (pointer_refused b.page (v - 16)) || switching v) e in
       let pointer = neither (within 16 31 v && not (pointer_refused b.page (v - 16))) (switching v) zero.1 in
-      q ∙ commanded v ∙ rw zero.0 (points (within 16 31 v) (pointer_refused b.page (v - 16)) pointer.0 _ (go (within 32 63 v) (eqb (v / 2 % 2) 0 && not (eqb (v / 8 % 4) 0)) pointer.1))
+      let last = go (within 32 63 v) (eqb (v / 2 % 2) 0 && not (eqb (v / 8 % 4) 0)) pointer.1 in
+      let is : command_of b v ≡ Err Command = rw zero.0 (points (within 16 31 v) (pointer_refused b.page (v - 16)) pointer.0 _ last) in
+      q ∙ commanded v ∙ ap (λ (x : Result Board Refusal). board_given x b) is
     where
-      points : (t u : Bool) → (t && not u) ≡ false → (x : Written) → board_answer x.refusal x.board ≡ board_answer (Err Command) b
-          → board_answer (pick t (pick u (answer (Err Command) b) (Ok (pointed_of b (v - 16)))) x).refusal (pick t (pick u (answer (Err Command) b) (Ok (pointed_of b (v - 16)))) x).board
-          ≡ board_answer (Err Command) b
+      points : (t u : Bool) → (t && not u) ≡ false → (x : Result Board Refusal) → x ≡ Err Command
+          → pick t (pick u (Err Command) (Ok (pointed_of b (v - 16)))) x ≡ Err Command
       points true true p x e = refl
       points true false p x e = absurd (true≢false p)
       points false u p x e = e
 
-      go : (t u : Bool) → (t && u) ≡ false
-          → board_answer (pick t (pick u (Ok (switched_of b v)) (answer (Err Command) b)) (answer (Err Command) b)).refusal
-          (pick t (pick u (Ok (switched_of b v)) (answer (Err Command) b)) (answer (Err Command) b)).board ≡ board_answer (Err Command) b
+      go : (t u : Bool) → (t && u) ≡ false → pick t (pick u (Ok (switched_of b v)) (Err Command)) (Err Command) ≡ Err Command
       go true u p = rw p
       go false u p = refl
 
@@ -117,7 +115,7 @@ module _ {b : Board} (r : Ready b) where
     unfolding active_of
     loaded byte e q =
         q ∙ ap (λ (x : BoardAnswer). write_for x.board 0 byte) (e ∙ pointed)
-        ∙ ap (λ (x : Written). board_answer x.refusal x.board) (writes ready-pointed 0 byte)
+        ∙ ap (λ (x : Result Board Refusal). board_given x (pointed_of b (v - 16))) (writes ready-pointed 0 byte)
 
 -- ---- display and cursor
 

@@ -1,23 +1,24 @@
 -- Video numbers that are set again. Assumes nothing.
-use Rattle.std.specs.Prelude.{ℕ, ◌*◌, ◌/◌, ◌%◌, ◌<◌, ◌≡◌, Bool, not, eqb, is_ok}
+use Rattle.std.specs.Prelude.{ℕ, ◌*◌, ◌/◌, ◌%◌, ◌<◌, ◌≡◌, Bool, not, eqb, Ok, Err}
 use Rattle.std.proofs.Math.Path.{refl, ap}
 use Rattle.std.proofs.Common.{sym, ◌∙◌, mul-zero, mul-one, arith}
 use Rattle.std.proofs.Math.Bool.{true, false}
 use borrow.Author.Tests.{eqb-true, eqb-false}
 use Rattle.lists.specs.Choice.{pick}
 use Rattle.units.specs.declared.Dots.{Dots}
-use Rattle.refusal.specs.Number.{Checked, number_of}
+use Rattle.refusal.specs.Number.{Checked, number_of, given, value_or}
+use Rattle.refusal.specs.Laws.{number-ok}
 use Rattle.board.specs.declared.Board.{Board}
 use Rattle.board.specs.Parts.{with_switches, with_page}
 use Rattle.board.specs.Range.{address_refused}
 use Rattle.registers.specs.Video.{video_check, with_dots, switches_set, video_set, set_video_of}
 use Rattle.feldrime.specs.declared.BoardAnswer.{BoardAnswer}
-use Rattle.feldrime.specs.Answers.{board_answer}
+use Rattle.feldrime.specs.Answers.{board_given}
 use Rattle.callers_registers.specs.Ready.{judged}
 
 -- what the call answers
 abbrev pub video_answered : Board → Dots → (strike : ℕ) → (bkgnd rblank : Bool) → BoardAnswer
-video_answered b d strike bkgnd rblank = board_answer (check_of (set_video_of b d strike bkgnd rblank)) (value_or b (set_video_of b d strike bkgnd rblank))
+video_answered b d strike bkgnd rblank = board_given (set_video_of b d strike bkgnd rblank) b
 
 -- what is judged, and its number
 abbrev check : Board → Dots → (strike : ℕ) → Checked
@@ -39,14 +40,14 @@ switch-is n x h = go (eqb x 0) refl
 switches-are : (s : ℕ) → switches_set s (not (eqb (s / 4 % 2) 0)) (not (eqb (s / 8 % 2) 0)) ≡ s
 switches-are s = rw (switch-is 4 (s / 4 % 2) (omega arith), switch-is 8 (s / 8 % 2) (omega arith)) (omega arith)
 
-video-same : (b : Board) → (value_or b (set_video_of b b.page.video.dots b.page.video.strike (not (eqb (b.page.switches / 4 % 2) 0)) (not (eqb (b.page.switches / 8 % 2) 0)))) ≡ b
-unfolding set_video_of video_check
-video-same b = go (is_ok (check b b.page.video.dots b.page.video.strike)) refl
+video-same : (b : Board) → value_or b (set_video_of b b.page.video.dots b.page.video.strike (not (eqb (b.page.switches / 4 % 2) 0)) (not (eqb (b.page.switches / 8 % 2) 0))) ≡ b
+unfolding set_video_of
+video-same b = go (check b b.page.video.dots b.page.video.strike)
   where
-    go : (t : Bool) → is_ok (check b b.page.video.dots b.page.video.strike) ≡ t
-        → (value_or b (set_video_of b b.page.video.dots b.page.video.strike (not (eqb (b.page.switches / 4 % 2) 0)) (not (eqb (b.page.switches / 8 % 2) 0)))) ≡ b
-    go true t = rw (t, switches-are b.page.switches)
-    go false t = rw t
+    go : (c : Checked)
+        → value_or b (given c (video_set b b.page.video.dots b.page.video.strike (not (eqb (b.page.switches / 4 % 2) 0)) (not (eqb (b.page.switches / 8 % 2) 0)))) ≡ b
+    go (Ok tt) = rw (switches-are b.page.switches)
+    go (Err why) = refl
 
 pub same-video : (b : Board) {r : BoardAnswer}
     → r ≡ video_answered b b.page.video.dots b.page.video.strike (not (eqb (b.page.switches / 4 % 2) 0)) (not (eqb (b.page.switches / 8 % 2) 0)) → r.board ≡ b
@@ -66,13 +67,13 @@ module _ (d : Dots) (strike : ℕ) (bkgnd rblank : Bool) where
   set_is : (x : Board) {r : BoardAnswer} → r ≡ video_answered x d strike bkgnd rblank
       → (r.refusal ≡ video_number x d strike) × (r.refusal ≡ 0 → r.board ≡ video_set x d strike bkgnd rblank)
   unfolding set_video_of
-  set_is x {r} e = go (is_ok (check x d strike)) refl
+  set_is x {r} e = go (check x d strike) e
     where
-      go : (t : Bool) → is_ok (check x d strike) ≡ t → (r.refusal ≡ video_number x d strike) × (r.refusal ≡ 0 → r.board ≡ video_set x d strike bkgnd rblank)
-      go true t = let zero = eqb-true _ _ t in (ap (λ (y : BoardAnswer). y.refusal) e ∙ rw t (sym zero), λ q. ap (λ (y : BoardAnswer). y.board) e ∙ rw t)
-      go false t =
-          let number : r.refusal ≡ video_number x d strike = ap (λ (y : BoardAnswer). y.refusal) e ∙ rw t in
-          (number, λ q. absurd (eqb-false _ _ t (sym number ∙ q)))
+      go : (c : Checked) → r ≡ board_given (given c (video_set x d strike bkgnd rblank)) x → (r.refusal ≡ number_of c) × (r.refusal ≡ 0 → r.board ≡ video_set x d strike bkgnd rblank)
+      go (Ok tt) p = (ap (λ (y : BoardAnswer). y.refusal) p, λ q. ap (λ (y : BoardAnswer). y.board) p)
+      go (Err why) p =
+          let number : r.refusal ≡ number_of (Err why) = ap (λ (y : BoardAnswer). y.refusal) p in
+          (number, λ q. absurd (eqb-false _ _ (number-ok (Err why)) (sym number ∙ q)))
 
   -- they are judged and set as they were where others are set before them
   module _ (b : Board) (d₀ : Dots) (strike₀ : ℕ) (bkgnd₀ rblank₀ : Bool) where
@@ -92,13 +93,13 @@ module _ (d : Dots) (strike : ℕ) (bkgnd rblank : Bool) where
     pub set_last : {one two : BoardAnswer} → one ≡ video_answered b d₀ strike₀ bkgnd₀ rblank₀ → two ≡ video_answered one.board d strike bkgnd rblank
         → (two.refusal ≡ video_number b d strike) × (two.refusal ≡ 0 → two.board ≡ video_set b d strike bkgnd rblank)
     unfolding set_video_of
-    set_last {one} {two} e q = go (is_ok (check b d₀ strike₀)) refl
+    set_last {one} {two} e q = go (check b d₀ strike₀) (ap (λ (y : BoardAnswer). y.board) e)
       where
         on : (x : Board) → one.board ≡ x → two ≡ video_answered x d strike bkgnd rblank
         on x p = q ∙ ap (λ (y : Board). video_answered y d strike bkgnd rblank) p
 
-        go : (t : Bool) → is_ok (check b d₀ strike₀) ≡ t → (two.refusal ≡ video_number b d strike) × (two.refusal ≡ 0 → two.board ≡ video_set b d strike bkgnd rblank)
-        go false t = set_is b (on b (ap (λ (y : BoardAnswer). y.board) e ∙ rw t))
-        go true t =
-            let r = set_is between (on between (ap (λ (y : BoardAnswer). y.board) e ∙ rw t)) in
+        go : (c : Checked) → one.board ≡ value_or b (given c between) → (two.refusal ≡ video_number b d strike) × (two.refusal ≡ 0 → two.board ≡ video_set b d strike bkgnd rblank)
+        go (Err why) p = set_is b (on b p)
+        go (Ok tt) p =
+            let r = set_is between (on between p) in
             (r.0 ∙ judged-same, λ z. r.1 z ∙ set-over)

@@ -1,6 +1,7 @@
 // The commands, written at address 1.
-ghost use Rattle.std.specs.Prelude.{◌≡◌, true, false, ◌+◌, ◌-◌, ◌≤◌};
+ghost use Rattle.std.specs.Prelude.{◌≡◌, true, false, ◌+◌, ◌-◌, ◌≤◌, Err};
 ghost use Rattle.refusal.specs.declared.Refusal.{Refusal};
+ghost use Rattle.refusal.specs.Number.{unrefused};
 ghost use Rattle.board.specs.State.{power_of};
 ghost use Rattle.board.specs.Layout.{last_ir};
 ghost use Rattle.feldrime.specs.Answers.{board_answer};
@@ -11,7 +12,7 @@ use feldrime::BoardAnswer;
 
 // Two resets in a row make the board that power gives active: the next write at 0 loads IR0.
 pub fn woken(byte: u8) -> BoardAnswer
-    ensures { result ≡ board_answer Refusal.Done (loaded_first byte) }
+    ensures { result ≡ board_answer unrefused (loaded_first byte) }
 {
     let off = feldrime::feldrime_power();
     let once = feldrime::feldrime_register_write(off, 1, 0);
@@ -23,7 +24,7 @@ pub fn woken(byte: u8) -> BoardAnswer
 
 // After one reset it is not: a write at 0 loads nothing, and the reset no longer counts.
 pub fn half_woken(byte: u8) -> BoardAnswer
-    ensures { result ≡ board_answer Refusal.Done power_of }
+    ensures { result ≡ board_answer unrefused power_of }
 {
     let off = feldrime::feldrime_power();
     let once = feldrime::feldrime_register_write(off, 1, 0);
@@ -33,7 +34,7 @@ pub fn half_woken(byte: u8) -> BoardAnswer
 
 // From 10 hex up to the last IR of the page: the next write at 0 loads the register that the command names, and no other.
 pub fn pointed_load(b: board::Board, command: u8, byte: u8) -> BoardAnswer
-    ensures { Ready b → 16 ≤ command → command ≤ last_ir b.page.version + 16 → result ≡ board_answer Refusal.Done (loaded_at b (command - 16) byte) }
+    ensures { Ready b → 16 ≤ command → command ≤ last_ir b.page.version + 16 → result ≡ board_answer unrefused (loaded_at b (command - 16) byte) }
 {
     let pointed = feldrime::feldrime_register_write(b, 1, command);
     let board = pointed.board;
@@ -42,7 +43,7 @@ pub fn pointed_load(b: board::Board, command: u8, byte: u8) -> BoardAnswer
 
 // Two commands for display and cursor: each is as the last command says that names it, else as it was.
 pub fn switched(b: board::Board, first: u8, second: u8) -> BoardAnswer
-    ensures { Ready b → switching first ≡ true → switching second ≡ true → result ≡ board_answer Refusal.Done (switched_by b first second) }
+    ensures { Ready b → switching first ≡ true → switching second ≡ true → result ≡ board_answer unrefused (switched_by b first second) }
 {
     let once = feldrime::feldrime_register_write(b, 1, first);
     let board = once.board;
@@ -51,7 +52,7 @@ pub fn switched(b: board::Board, first: u8, second: u8) -> BoardAnswer
 
 // Every other byte is refused by 10, and the board stays.
 pub fn not_carried(b: board::Board, command: u8) -> BoardAnswer
-    ensures { Ready b → carried b.page command ≡ false → result ≡ board_answer Refusal.Command b }
+    ensures { Ready b → carried b.page command ≡ false → result ≡ board_answer (Err Refusal.Command) b }
 {
     feldrime::feldrime_register_write(b, 1, command)
 }
