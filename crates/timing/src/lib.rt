@@ -7,6 +7,8 @@ ghost use Rattle.refusal.specs.declared.Refusal.{Refusal};
 ghost use Rattle.timing.specs.Fields.{coded_of, scans_of, lines_of, ec_of, table_of, hsync_of, hbp_of, vfp_of, vbp_of, blink_of, rows_of, hact_of, cursor_of, vsync_of, underline_of, buffer_of, ht_of, rest_of, hfp_of, visible_of, vt_of, counts_of, timing_of};
 ghost use Rattle.timing.specs.Check.{reserved_refused, back_porch_refused, line_short, front_porch_refused, missing, width_refused, page_check, size_of, state_refused, call_check};
 
+use units::Unit;
+
 // A line's and a frame's front porch and sync, and the counts that the beam goes by.
 #[derive(Clone, Copy)]
 pub struct Timing {
@@ -237,14 +239,14 @@ fn back_porch_refused(p: board::Page) -> bool
 fn line_short(p: board::Page) -> bool
     ensures { result ≡ line_short p }
 {
-    ht_of(p).below(rest_of(p))
+    ht_of(p) < rest_of(p)
 }
 
 // 15: a front porch of 0 or 1.
 fn front_porch_refused(p: board::Page) -> bool
     ensures { result ≡ front_porch_refused p }
 {
-    hfp_of(p).below(units::Clocks(2))
+    hfp_of(p) < units::Clocks(2)
 }
 
 // By how many clocks the front porch misses 2.
@@ -258,7 +260,7 @@ fn missing(p: board::Page) -> units::Clocks
 pub fn width_refused(d: units::Dots) -> bool
     ensures { result ≡ width_refused d }
 {
-    d.below(units::Dots(6)) | units::Dots(12).below(d)
+    (d < units::Dots(6)) | (units::Dots(12) < d)
 }
 
 // The order of the page check, where so many clocks are missing.
@@ -331,8 +333,8 @@ pub fn state_refused(b: board::Board) -> bool
 {
     let page = b.page;
     let place = b.place;
-    vt_of(page).at_most(place.line)
-        | ht_of(page).at_most(place.clock)
+    (vt_of(page) <= place.line)
+        | (ht_of(page) <= place.clock)
         | board::cells_refused(place)
         | board::pointer_refused(page, b.pointer)
 }
