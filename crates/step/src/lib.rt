@@ -15,6 +15,8 @@ ghost use Rattle.step.specs.Signals.{scan_in, hsync_in, vsync_in, padded, odd_in
 ghost use Rattle.step.specs.Step.{step_of, clock_in};
 ghost use Rattle.step.specs.Shown.{signals_with, cell_shown, blank_shown, line_in, shown_in, clock_with};
 
+use units::Unit;
+
 #[derive(Clone, Copy)]
 pub struct Signals {
     pub hsync: bool,
@@ -57,7 +59,7 @@ fn scan_in(b: board::Board, code: u8) -> units::Lines
     ensures { result ≡ lines (scan_in b code) }
 {
     let page = b.page;
-    video::scan_at(page, raster::code_of(code), b.place.line)
+    video::scan_at(page, raster::Code::from(code), b.place.line)
 }
 
 fn hsync_in(b: board::Board) -> bool
@@ -118,7 +120,7 @@ fn cell_shown(
     let scene = scene_in(b, code);
     let cursor = video::cursor_at(scene, address);
     let byte = attrs[address];
-    let again = raster::again_at(raster::code_of(code), b.place.clock);
+    let again = raster::again_at(raster::Code::from(code), b.place.clock);
     let reading = video::reading_of(page);
     let counted = video::counted_byte(reading, again, byte);
     let valid = raster::latched(counted, held);
@@ -190,13 +192,6 @@ fn shown_in(
     blank_shown(b)
 }
 
-// Where a column's dots begin among the cell's, each twice.
-fn half_from(odd: bool, d: usize) -> usize
-    ensures { result ≡ pick odd d 0 }
-{
-    if odd { d } else { 0 }
-}
-
 // The twelve dot places of a column of what is shown, of double width or not.
 fn column_dots(b: board::Board, wide: bool, s: Shown) -> [u8; 12]
     requires { (6 ≤ b.page.video.dots.0) × (b.page.video.dots.0 ≤ 12) × (s.word < 1024) }
@@ -208,7 +203,8 @@ fn column_dots(b: board::Board, wide: bool, s: Shown) -> [u8; 12]
     if wide {
         let mut out = [0u8; 12];
         let d = b.page.video.dots.places();
-        let from = half_from(b.place.clock.is_odd(), d);
+        // Where the column's dots begin among the cell's, each twice.
+        let from = if b.place.clock.is_odd() { d } else { 0 };
         dots::halve(&mut out, &cell, from, d);
         return out;
     }
@@ -251,7 +247,7 @@ fn one_clock(
         refusal: refusal::Refusal::Done,
         signals: signals_of(b, active, shown.cursor),
         address: c.beam.address,
-        dots: column_dots(b, active & raster::is_wide(raster::code_of(code)), shown),
+        dots: column_dots(b, active & raster::Code::from(code).is_wide(), shown),
         place: next,
     }
 }
@@ -319,7 +315,7 @@ fn clock_of(
         },
         address: 0,
         dots: [0u8; 12],
-        place: place,
+        place,
     }
 }
 
@@ -344,9 +340,9 @@ pub fn step(
     let place = c.place;
     Stepped {
         refusal: refused,
-        signals: signals,
+        signals,
         address: c.address,
-        dots: dots,
+        dots,
         board: place::with_place(b, place),
     }
 }
