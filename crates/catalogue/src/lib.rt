@@ -12,6 +12,8 @@ ghost use Rattle.catalogue.specs.ToTable.{table_size, as_table_page, own_check, 
 ghost use Rattle.catalogue.specs.ToSheet.{rows_apart, as_sheet_page, as_sheet_order, as_sheet_check, as_sheet};
 ghost use Rattle.catalogue.specs.Marks.{marked_by, free_in, sheet_place, entry_byte, sheet_check};
 
+use units::Unit;
+
 // A board with its page moved, or the old one.
 #[derive(Clone, Copy)]
 pub struct Moved {

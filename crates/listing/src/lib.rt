@@ -6,6 +6,8 @@ ghost use Rattle.listing.specs.Decimal.{Spelled};
 ghost use Rattle.listing.specs.Answers.{listed};
 ghost use Rattle.listing.specs.Listing.{line_feed, letter_of, ListsHead, ListsLine};
 
+use units::Unit;
+
 // How many bytes were written.
 #[derive(Clone, Copy)]
 pub struct Listed {

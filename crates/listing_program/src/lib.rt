@@ -5,6 +5,7 @@ ghost use Rattle.std.specs.Prelude.{◌≤◌, length};
 ghost use Rattle.io.specs.Counts.{IsPrefixLen};
 
 use listing::{Listed, listing_head, listing_line};
+use units::Unit;
 
 const STDIN: i32 = 0;
 
@@ -67,7 +68,7 @@ fn print_listing(
     }
     let shown = timing::page_size(page).lines;
     let mut line = units::Lines(0);
-    while line.below(shown) {
+    while line < shown {
         let listed = listing_line(
             b, chars, attrs, words, flags, unshifted, shifted, groups, line, 0, &mut out,
         );

@@ -5,6 +5,8 @@ ghost use Rattle.lists.specs.Tab.{tab};
 ghost use Rattle.shape.specs.Font.{font_refused, groups_refused, groups_check, position_of, group_in, font_line_of, font_lines_of, font_line_at, chosen_by, font_word, pair_of, graphics_word, word_by, lent_font};
 ghost use Rattle.shape.specs.Laws.{weight_of};
 
+use units::Unit;
+
 // What a scan line takes from a font: the first position in each of its two lists that equals the scan line, or the list's length; and its group.
 #[derive(Clone, Copy)]
 pub struct FontLine {
@@ -28,7 +30,7 @@ fn position(list: &[u8], scan: units::Lines) -> usize
     let mut i = 0;
     while i < list.len() {
         let line = units::Lines(list[i] as u32 % 16);
-        if line.same(scan) {
+        if line == scan {
             return i;
         }
         i += 1;
