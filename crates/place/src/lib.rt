@@ -35,6 +35,7 @@ fn set_by(p: board::Page, byte: u8) -> u8
 }
 
 // A row's code as it counts.
+#[tactic(auto, unfolding(crate::specs::Place::counted_code))]
 fn counted_code(p: board::Page, code: u8) -> u8
     ensures { result ≡ counted_code p code }
 {
@@ -42,6 +43,7 @@ fn counted_code(p: board::Page, code: u8) -> u8
 }
 
 // What is carried, with latch byte and code as they count.
+#[tactic(auto, unfolding(crate::specs::Place::counted_latch))]
 fn settled(p: board::Page, x: raster::Row) -> raster::Row
     ensures { result ≡ settled p x }
 {
@@ -124,7 +126,6 @@ pub fn loaded_at(p: board::Page, chars: &[u8], q: board::Place) -> Carried
 }
 
 // An active clock of a visible line.
-#[tactic(auto, unfolding(timing::specs::Fields::timing_of, timing::specs::Fields::counts_of))]
 pub fn active_at(p: board::Page, q: board::Place) -> bool
     ensures { result ≡ active_at p q }
 {
@@ -154,6 +155,7 @@ fn next_latch(p: board::Page, again: bool, byte: u8, held: u8) -> u8
 }
 
 // A cell's last column.
+#[tactic(auto, unfolding(timing::specs::Fields::timing_of))]
 fn ends_at(p: board::Page, k: raster::Code, clock: units::Clocks) -> bool
     requires { clock.0 < 384 }
     ensures { result ≡ ends_at (counts_of p) k clock.0 }
@@ -279,6 +281,7 @@ pub struct Spot {
 }
 
 // The end of the last row.
+#[tactic(auto, unfolding(timing::specs::Fields::counts_of, timing::specs::Fields::timing_of))]
 fn last_spot(p: board::Page) -> Spot
     ensures { result ≡ last_spot p }
 {

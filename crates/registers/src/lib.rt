@@ -109,6 +109,7 @@ fn upper(x: u16, v: u8) -> u16
 }
 
 // Addresses 2 to 7: lower, then upper.
+#[tactic(auto, unfolding(crate::specs::Write::starts_after))]
 fn starts_after(s: board::Starts, a: u8, v: u8) -> board::Starts
     ensures { result ≡ starts_after s a v }
 {
@@ -193,6 +194,7 @@ fn point(b: board::Board, at: u8) -> Written
 }
 
 // The command byte (003 Table 6).
+#[tactic(auto, unfolding(crate::specs::Write::command_of))]
 fn command(b: board::Board, v: u8) -> Written
     ensures { result ≡ command_of b v }
 {
@@ -217,6 +219,7 @@ fn command(b: board::Board, v: u8) -> Written
 }
 
 // The register address (003 Table 1), on an active board.
+#[tactic(auto, unfolding(crate::specs::Write::active_of))]
 fn active(b: board::Board, a: u8, v: u8) -> Written
     requires { b.pointer ≤ last_ir b.page.version }
     ensures { result ≡ active_of b a v }
@@ -232,6 +235,7 @@ fn active(b: board::Board, a: u8, v: u8) -> Written
     }
 }
 
+#[tactic(auto, unfolding(crate::specs::Write::inactive_of))]
 fn inactive(b: board::Board, a: u8, v: u8) -> Written
     ensures { result ≡ inactive_of b a v }
 {
@@ -268,6 +272,7 @@ pub fn write(b: board::Board, a: u8, v: u8) -> Written
 }
 
 // What addresses 2 to 7 show: lower, then upper.
+#[tactic(auto, unfolding(crate::specs::Read::shown_at))]
 fn shown_at(s: board::Starts, a: u8) -> u8
     ensures { result ≡ shown_at s a }
 {

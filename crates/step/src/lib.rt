@@ -62,6 +62,7 @@ fn scan_in(b: board::Board, code: u8) -> units::Lines
     video::scan_at(page, raster::Code::from(code), b.place.line)
 }
 
+#[tactic(auto, unfolding(timing::specs::Fields::counts_of, timing::specs::Fields::timing_of))]
 fn hsync_in(b: board::Board) -> bool
     ensures { result ≡ hsync_in b }
 {
@@ -70,6 +71,7 @@ fn hsync_in(b: board::Board) -> bool
     b.place.clock.during(t.counts.hact.plus(t.hfp), t.hsync)
 }
 
+#[tactic(auto, unfolding(timing::specs::Fields::counts_of, timing::specs::Fields::timing_of))]
 fn vsync_in(b: board::Board) -> bool
     ensures { result ≡ vsync_in b }
 {
@@ -80,6 +82,7 @@ fn vsync_in(b: board::Board) -> bool
 }
 
 // BLINK and whether the picture is shown are the same on every scan line. So line 0 will do, and nothing is divided.
+#[tactic(auto, unfolding(video::specs::Scene::scene_of, crate::specs::Shown::signals_with))]
 fn signals_of(b: board::Board, active: bool, cursor: bool) -> Signals
     requires { active ≡ active_at b.page b.place }
     ensures { result ≡ signals_with b cursor }
@@ -134,6 +137,7 @@ fn cell_shown(
 }
 
 // What is shown off the active clocks: a cell of the blank level, which is the same on every scan line.
+#[tactic(auto, unfolding(crate::specs::Shown::blank_shown))]
 fn blank_shown(b: board::Board) -> Shown
     ensures { result ≡ blank_shown b }
 {
@@ -171,6 +175,7 @@ fn line_in(
 }
 
 // What a clock shows that fetches or holds an address, where held is valid before its cell.
+#[tactic(auto, unfolding(crate::specs::Shown::shown_in))]
 fn shown_in(
     b: board::Board,
     active: bool,

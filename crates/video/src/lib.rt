@@ -141,6 +141,7 @@ fn of_two(mark: u8, t: bool, a: TableLine, b: TableLine) -> TableLine
 }
 
 // Of eight lines that count upward in REVERSE, AHILT and NON-DISPLAY.
+#[tactic(auto, unfolding(crate::specs::Table::of_eight))]
 fn of_eight(
     k: Case,
     l1: TableLine,
