@@ -1,5 +1,5 @@
 -- Rests on what the calls ensure, and on the two choices.
-use Rattle.std.proofs.Common.{◌≡◌, refl, ℕ, Bool, true, false}
+use Rattle.std.proofs.Common.{◌≡◌, refl}
 use Rattle.lists.specs.Choice.{pick}
 use Rattle.registers.proofs.with_video.Goals.{then-rblank, else-rblank, then-bkgnd, else-bkgnd}
 use Rattle.registers.proofs.with_video.Goals as goal
