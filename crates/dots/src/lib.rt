@@ -7,6 +7,8 @@ ghost use Rattle.lists.specs.Tab.{tab};
 ghost use Rattle.dots.specs.Width.{shades, cell_put, cell_written, cell_drawn};
 ghost use Rattle.dots.specs.Half.{half_by, halved};
 
+use units::Unit;
+
 // Four bits, each in a byte of its own: the product has each at the lowest place of a byte, which the mask keeps.
 fn nibble(w: u16) -> u64
     ensures { result ≡ spread_of 4 w }

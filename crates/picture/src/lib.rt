@@ -15,6 +15,7 @@ ghost use Rattle.picture.specs.Plan.{plan_of, cell_dots_of, cell_from, line_from
 ghost use Rattle.picture.specs.Agree.{shaped_over};
 
 use refusal::Refusal;
+use units::Unit;
 
 // What is the same for all rows: columns, dots a cell, lines a row, its scan lines, rows, the bytes of a line and of a row, the buffer, how cells are read.
 #[derive(Clone, Copy)]
@@ -138,7 +139,7 @@ fn draw_lines(
 {
     let n = p.lines.places();
     let width = p.width;
-    let wide = raster::is_wide(k);
+    let wide = k.is_wide();
     let mut s: usize = 0;
     while s < n {
         let a = s * width;
@@ -202,7 +203,7 @@ fn draw_rows(
     let mut r: u32 = 0;
     while r < n {
         let start = fetch::row_start(page, chars, r);
-        let code = raster::code_of(fetch::code_at(page, chars, r));
+        let code = raster::Code::from(fetch::code_at(page, chars, r));
         let a = r as usize * size;
         held = draw_row(
             &mut out[a..],

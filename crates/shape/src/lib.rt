@@ -6,6 +6,7 @@ ghost use Rattle.shape.specs.Font.{font_refused, groups_refused, groups_check, p
 ghost use Rattle.shape.specs.Laws.{weight_of};
 
 use refusal::Refusal;
+use units::Unit;
 
 // What a scan line takes from a font: the first position in each of its two lists that equals the scan line, or the list's length; and its group.
 #[derive(Clone, Copy)]
@@ -30,7 +31,7 @@ fn position(list: &[u8], scan: units::Lines) -> usize
     let mut i = 0;
     while i < list.len() {
         let line = units::Lines(list[i] as u32 % 16);
-        if line.same(scan) {
+        if line == scan {
             return i;
         }
         i += 1;

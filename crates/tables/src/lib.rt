@@ -7,6 +7,8 @@ ghost use Rattle.raster.specs.Moves.{Bounded};
 ghost use Rattle.tables.specs.Run.{whole};
 ghost use Rattle.tables.specs.Tables.{cell_number, levels_for, no_word, shown_word, pair_word, Gathers, looks_put, looks_filled, words_filled};
 
+use units::Unit;
+
 // What attribute bit 5 adds to a code: 256 if it means graphics. A number, since a test in the loop would keep the compiler from making vectors.
 fn graphics_step(graphics: bool) -> u16
     ensures { result ≡ pick graphics 256 0 }

@@ -37,7 +37,7 @@ draw_row-held-requires c =
     let a = c.args in record {
       tables_fit = pre.tables_fit;
       n_value = (
-        counted a.p a.page a.chars.now a.attrs.now _ c.code_at.ensures c.code_of-code.ensures c.loop-r.invariant.2 c.row_start-start.ensures pre.accepted.1 _ c.fetched_of.ensures,
+        counted a.p a.page a.chars.now a.attrs.now _ c.code_at.ensures c.from-code.ensures c.loop-r.invariant.2 c.row_start-start.ensures pre.accepted.1 _ c.fetched_of.ensures,
         rw c.row_start-start.ensures (row-start-lt _ _ pre.accepted.0 _),
         simp (length-take, length-drop) (omega (arith, room, pre.tables_fit.0.size_is)),
       );
@@ -47,7 +47,7 @@ pub loop-r-preserved : goal.loop-r-preserved
 loop-r-preserved c =
     let begun = c.row_start-start.ensures in
     let byte = c.code_at.ensures in
-    let code = c.code_of-code.ensures in
+    let code = c.from-code.ensures in
     let held = c.loop-r.invariant.2 in
     let pre = c.requires in
     let sheet = pre.tables_fit.0 in

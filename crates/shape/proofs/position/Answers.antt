@@ -25,13 +25,13 @@ module _ (xs : List ℕ) (k i : ℕ) (inv : position_of xs k ≡ i + position_of
   unfolding position_of
   end h = sym (inv ∙ rw (drop_of_length-le xs h, add-zero))
 
-pub returns-then-same : goal.returns-then-same
-returns-then-same c =
-    hit _ _ _ c.loop-i.invariant.1 c.loop-i-test.true (sym c.same.ensures ∙ c.if-same.true)
+pub returns-then-eq : goal.returns-then-eq
+returns-then-eq c =
+    hit _ _ _ c.loop-i.invariant.1 c.loop-i-test.true (sym c.eq.ensures ∙ c.if-eq.true)
 
 pub loop-i-preserved : goal.loop-i-preserved
 loop-i-preserved c =
-    (omega arith, miss _ _ _ c.loop-i.invariant.1 c.loop-i-test.true (sym c.same.ensures ∙ c.if-same.false))
+    (omega arith, miss _ _ _ c.loop-i.invariant.1 c.loop-i-test.true (sym c.eq.ensures ∙ c.if-eq.false))
 
 pub returns : goal.returns
 returns c = end _ _ _ c.loop-i.invariant.1 c.loop-i-test.false
