@@ -30,7 +30,7 @@ fn position(list: &[u8], scan: units::Lines) -> usize
 
 // The group of a scan line; a font without groups has none.
 fn group_at(groups: &[u8], s: usize) -> u8
-    ensures { result ≡ get_or groups.now s 0 }
+    ensures { result ≡ group_in groups.now s }
 {
     groups.get(s).copied().unwrap_or(0)
 }

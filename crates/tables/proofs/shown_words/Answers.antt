@@ -1,7 +1,7 @@
--- Rests on signs: the letters, then graphics.
+-- Rests on signs: the codes in character mode, then in graphics mode.
 use Rattle.tables.specs.Halves.{signs}
 use Rattle.tables.proofs.shown_words.Goals as goal
 
 pub returns : goal.returns
 returns c =
-    signs c.args.words.now c.args.flags.now c.args.line c.args.d c.args.table.now _ _ c.requires.2 c.letter_words.ensures c.pair_words.ensures
+    signs c.args.words.now c.args.flags.now c.args.line c.args.d c.args.table.now _ _ c.requires.2 c.code_words.ensures c.code_words-2.ensures
