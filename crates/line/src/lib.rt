@@ -42,11 +42,8 @@ fn cells(out: &mut [u8], w: Walk, row: &[u16], looks: &[u8], words: &[u16], flag
         ++ drop (n * w.width.0) out.old }
 {
     let d = w.width.places();
-    let mut c = 0;
-    while c < n {
-        let a = c * d;
-        put(&mut out[a..], w, looks, words, flags, row[c], d);
-        c += 1;
+    for (c, number) in row[..n].iter().enumerate() {
+        put(&mut out[c * d..], w, looks, words, flags, *number, d);
     }
 }
 

@@ -9,11 +9,12 @@ use Rattle.line.proofs.cells.Goals as goal
 
 pub loop-c-preserved : goal.loop-c-preserved
 loop-c-preserved c =
+    let turn : c.loop-c.c < c.args.n = omega (arith, length-take-le c.args.n c.args.row.now c.requires.ready.cells) in
     let wide : (i : ℕ)
     → length (column_for c.args.w c.args.row.now c.args.looks.now c.args.words.now c.args.flags.now i) ≡ c.places-d.result = λ i. length-column _ _ _ _ _ i ∙ sym c.places-d.ensures in
     let whole : c.args.n * c.places-d.result ≤ length c.args.out.now = omega (arith, ap (λ (d : ℕ). c.args.n * d) c.places-d.ensures, c.requires.width_in_bounds) in (
-      omega (arith, c.loop-c-test.true),
-      join-turn _ _ wide _ _ _ c.loop-c.invariant.1 c.loop-c-test.true whole (as-column _ _ _ _ _ _ _ _ c.places-d.ensures c.put.ensures),
+      turn,
+      join-turn _ _ wide _ _ _ c.loop-c.invariant.1 turn whole (as-column _ _ _ _ _ _ _ _ c.places-d.ensures c.put.ensures),
     )
 
 pub returns : goal.returns

@@ -15,6 +15,9 @@ pub loop-c-init : goal.loop-c-init
 unfolding tab
 loop-c-init c = (refl, not-run _ _ _ _ _)
 
+pub cell_at-requires : goal.cell_at-requires
+cell_at-requires c = (c.requires.0, c.requires.1, omega (arith, length-take-le c.args.n c.args.cells.now c.requires.2), refl)
+
 pub loop-c-preserved : goal.loop-c-preserved
 loop-c-preserved c =
     let inside : c.args.from + c.loop-c.c < 16384 = omega (arith, length-take-le c.args.n c.args.cells.now c.requires.2) in
