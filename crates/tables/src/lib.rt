@@ -174,33 +174,34 @@ pub fn fill_looks(table: &mut [u8], b: board::Board, field: u8, n: units::Lines)
     }
 }
 
-// A scan line's table by code, in graphics mode or not: numbers whose low bits are the dots.
+// The codes from the first on, in graphics mode or not: numbers whose low bits are the dots.
 fn code_words(
     table: &mut [u16],
+    first: usize,
     words: &[u16],
     flags: &[u8],
     line: shape::FontLine,
     graphics: bool,
     d: usize,
 )
-    requires { (length words.now ≡ 1152) × (length flags.now ≡ 128) × (256 ≤ length table.old) }
-    ensures { table.new
-        ≡ tab 256 (code_word words.now flags.now line graphics d) ++ drop 256 table.old }
+    requires { (length words.now ≡ 1152) × (length flags.now ≡ 128) × (first + length table.old ≤ 256) }
+    ensures { table.new ≡ tab (length table.old) (code_word words.now flags.now line graphics d first) }
 {
-    for (code, number) in table[..256].iter_mut().enumerate() {
-        let word = shape::word_by(words, flags, line, graphics, code as u8);
+    for (i, number) in table.iter_mut().enumerate() {
+        let word = shape::word_by(words, flags, line, graphics, (first + i) as u8);
         *number = dots::wide(word, d);
     }
 }
 
-// A scan line's table by sign: the codes in character mode, and then in graphics mode.
+// A scan line's table by sign: in character mode the codes below 128, which show nothing, and the others; then all in graphics mode.
 fn shown_words(table: &mut [u16], words: &[u16], flags: &[u8], line: shape::FontLine, d: usize)
     requires { (length words.now ≡ 1152) × (length flags.now ≡ 128) × (512 ≤ length table.old) }
     ensures { table.new
         ≡ tab 512 (shown_word words.now flags.now line d) ++ drop 512 table.old }
 {
-    code_words(table, words, flags, line, false, d);
-    code_words(&mut table[256..], words, flags, line, true, d);
+    table[..128].fill(0);
+    code_words(&mut table[128..256], 128, words, flags, line, false, d);
+    code_words(&mut table[256..512], 0, words, flags, line, true, d);
 }
 
 // Those of n scan lines, end to end.
