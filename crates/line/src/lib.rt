@@ -47,7 +47,8 @@ fn cells(out: &mut [u8], w: Walk, row: &[u16], looks: &[u8], words: &[u16], flag
     }
 }
 
-// Writes the dots of n columns: of a row of double width its cells first, and then each dot twice.
+// Writes the dots of n columns: of a row of double width its cells first, and then each dot twice. A picture does it with cells from tables:
+// one function for both would take the cells' drawing as a closure, with clauses over all that it lends, and be longer.
 fn columns(
     out: &mut [u8],
     w: Walk,

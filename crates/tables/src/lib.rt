@@ -146,10 +146,10 @@ fn levels(s: video::Scene, attributes: u8, here: bool) -> u8
 
 // Half of a scan line's table by mark: the cells at the cursor's address, or the others.
 fn half(table: &mut [u8], s: video::Scene, here: bool)
-    requires { (64 ≤ length table.old) × (s.blank < 4) }
-    ensures { table.new ≡ tab 64 (levels_for s here) ++ drop 64 table.old }
+    requires { (length table.old ≤ 64) × (s.blank < 4) }
+    ensures { table.new ≡ tab (length table.old) (levels_for s here) }
 {
-    for (attributes, number) in table[..64].iter_mut().enumerate() {
+    for (attributes, number) in table.iter_mut().enumerate() {
         *number = levels(s, attributes as u8, here);
     }
 }
@@ -159,11 +159,11 @@ pub fn looks(table: &mut [u8], s: video::Scene)
     requires { (128 ≤ length table.old) × (s.blank < 4) }
     ensures { table.new ≡ looks_put s table.old }
 {
-    half(table, s, false);
-    half(&mut table[64..], s, true);
+    half(&mut table[..64], s, false);
+    half(&mut table[64..128], s, true);
 }
 
-// Those of n scan lines, end to end.
+// Those of n scan lines, end to end. One function for this loop and that of `fill_words` would take the filling as a closure with clauses, and be longer.
 pub fn fill_looks(table: &mut [u8], b: board::Board, field: u8, n: units::Lines)
     requires { (n.0 ≤ 16) × (n.0 * 128 ≤ length table.old) }
     ensures { table.new ≡ looks_filled b field n.0 table.old }

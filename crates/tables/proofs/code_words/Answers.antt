@@ -1,7 +1,7 @@
 -- Rests on the loop that stores one element a turn (lists Tab).
 use mathlib.Core.Path.{refl}
 use native.Mathlib.Omega.{arith}
-use Rattle.lists.specs.Tab.{tab, tab-turn, tab-ends}
+use Rattle.lists.specs.Tab.{tab, tab-turn}
 use Rattle.shape.specs.Laws.{by-small}
 use Rattle.tables.specs.Tables.{code_word}
 use Rattle.tables.proofs.code_words.Goals as goal
