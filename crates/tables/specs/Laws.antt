@@ -1,13 +1,13 @@
 -- What a drawer makes of a cell's number and the tables is what the scan line makes of the cell. Assumes nothing.
-use Rattle.std.specs.Prelude.{ℕ, zero, suc, ◌+◌, ◌*◌, ◌/◌, ◌%◌, ◌≤◌, ◌<◌, ◌≡◌, refl, Bool, true, false, ◌&&◌, List, ◌++◌, leb, eqb, length, get_or}
-use Rattle.std.proofs.Common.{sym, ◌∙◌}
+use Rattle.std.specs.Prelude.{ℕ, zero, suc, ◌+◌, ◌*◌, ◌/◌, ◌%◌, ◌≤◌, ◌<◌, ◌≡◌, refl, Bool, true, false, ◌&&◌, List, ◌++◌, leb, eqb, length, get_or, take, drop}
+use Rattle.std.proofs.Common.{sym, ◌∙◌, length-take-le}
 use Rattle.std.proofs.Math.Numerals.{add-one}
 use native.Mathlib.Omega.{arith}
 use borrow.Author.Tests.{eqb-true, eqb-false, lt-leb, le-leb}
 use Rattle.std.proofs.Math.ListN.{get_or-append}
 use Rattle.lists.specs.Choice.{pick, pick-lt}
 use Rattle.lists.specs.Join.{joined, join-element}
-use Rattle.lists.specs.Tab.{tab, length-tab, get_or-tab}
+use Rattle.lists.specs.Tab.{tab, length-tab, get_or-tab, tab-ends}
 use Rattle.raster.specs.declared.Buffer.{Buffer}
 use Rattle.raster.specs.declared.Cell.{Cell}
 use Rattle.raster.specs.Moves.{cell, advance_by}
@@ -36,6 +36,11 @@ length-words words flags lines d s = length-tab 512 _
 pub length-levels : (b : Board) (field s : ℕ) → length (levels_at b field s) ≡ 128
 unfolding levels_at
 length-levels b field s = length-tab 128 _
+
+-- a table's front, when the loop over it has come to its end
+pub tab-front : (f : ℕ → ℕ) (n : ℕ) (table front : List ℕ) (i : ℕ) → front ≡ tab i f ++ drop i (take n table) → n ≤ length table
+    → length (take n table) ≤ i → i ≤ length (take n table) → front ≡ tab n f
+tab-front f n table front i e room l h = rw (length-take-le n table room) at (tab-ends f (take n table) front i e (omega arith))
 
 -- a sign has its mode and its code
 module _ (code : ℕ) (h : code < 256) where

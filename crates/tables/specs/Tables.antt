@@ -55,13 +55,13 @@ levels_of s mark = levels_by (look_of s mark (s.gate && eqb (mark / 64 % 2) 1))
 unfoldable pub levels_at : Board → (field scan : ℕ) → List ℕ
 levels_at b field scan = tab 128 (levels_of (scene_of b scan field))
 
--- a code's dots on a scan line, in graphics mode or not, as the low bits of a number: the code that is i from the first
-abbrev pub code_word : (words flags : List ℕ) → FontLine → (graphics : Bool) → (d first i : ℕ) → ℕ
-code_word words flags line graphics d first i = wide_of (word_by words flags line graphics (first + i)) d
+-- a code's dots on a scan line, in graphics mode or not, as the low bits of a number
+abbrev pub code_word : (words flags : List ℕ) → FontLine → (graphics : Bool) → (d code : ℕ) → ℕ
+code_word words flags line graphics d code = wide_of (word_by words flags line graphics code) d
 
 -- those of a sign
 unfoldable pub shown_word : (words flags : List ℕ) → FontLine → (d sign : ℕ) → ℕ
-shown_word words flags line d sign = wide_of (word_by words flags line (leb 256 sign) (sign % 256)) d
+shown_word words flags line d sign = code_word words flags line (leb 256 sign) d (sign % 256)
 
 unfoldable pub words_at : (words flags : List ℕ) → FontLines → (d scan : ℕ) → List ℕ
 words_at words flags lines d scan = tab 512 (shown_word words flags (font_line_at lines scan) d)

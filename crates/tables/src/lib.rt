@@ -146,10 +146,10 @@ fn levels(s: video::Scene, attributes: u8, here: bool) -> u8
 
 // Half of a scan line's table by mark: the cells at the cursor's address, or the others.
 fn half(table: &mut [u8], s: video::Scene, here: bool)
-    requires { (length table.old ≤ 64) × (s.blank < 4) }
-    ensures { table.new ≡ tab (length table.old) (levels_for s here) }
+    requires { (64 ≤ length table.old) × (s.blank < 4) }
+    ensures { table.new ≡ tab 64 (levels_for s here) ++ drop 64 table.old }
 {
-    for (attributes, number) in table.iter_mut().enumerate() {
+    for (attributes, number) in table[..64].iter_mut().enumerate() {
         *number = levels(s, attributes as u8, here);
     }
 }
@@ -159,8 +159,8 @@ pub fn looks(table: &mut [u8], s: video::Scene)
     requires { (128 ≤ length table.old) × (s.blank < 4) }
     ensures { table.new ≡ looks_put s table.old }
 {
-    half(&mut table[..64], s, false);
-    half(&mut table[64..128], s, true);
+    half(table, s, false);
+    half(&mut table[64..], s, true);
 }
 
 // Those of n scan lines, end to end. One function for this loop and that of `fill_words` would take the filling as a closure with clauses, and be longer.
@@ -174,7 +174,7 @@ pub fn fill_looks(table: &mut [u8], b: board::Board, field: u8, n: units::Lines)
     }
 }
 
-// The codes from the first on, in graphics mode or not: numbers whose low bits are the dots.
+// A scan line's table by code, in graphics mode or not: numbers whose low bits are the dots. Those of the codes below the first stand there already.
 fn code_words(
     table: &mut [u16],
     first: usize,
@@ -184,24 +184,27 @@ fn code_words(
     graphics: bool,
     d: usize,
 )
-    requires { (length words.now ≡ 1152) × (length flags.now ≡ 128) × (first + length table.old ≤ 256) }
-    ensures { table.new ≡ tab (length table.old) (code_word words.now flags.now line graphics d first) }
+    requires fit { (length words.now ≡ 1152) × (length flags.now ≡ 128) × (256 ≤ length table.old) × (first ≤ 256) }
+    requires begun { table.old
+        ≡ tab first (code_word words.now flags.now line graphics d) ++ drop first table.old }
+    ensures { table.new
+        ≡ tab 256 (code_word words.now flags.now line graphics d) ++ drop 256 table.old }
 {
-    for (i, number) in table.iter_mut().enumerate() {
-        let word = shape::word_by(words, flags, line, graphics, (first + i) as u8);
-        *number = dots::wide(word, d);
+    for code in first..256 {
+        let word = shape::word_by(words, flags, line, graphics, code as u8);
+        table[code] = dots::wide(word, d);
     }
 }
 
-// A scan line's table by sign: in character mode the codes below 128, which show nothing, and the others; then all in graphics mode.
+// A scan line's table by sign: the codes in character mode, of which those below 128 show nothing, and then in graphics mode.
 fn shown_words(table: &mut [u16], words: &[u16], flags: &[u8], line: shape::FontLine, d: usize)
     requires { (length words.now ≡ 1152) × (length flags.now ≡ 128) × (512 ≤ length table.old) }
     ensures { table.new
         ≡ tab 512 (shown_word words.now flags.now line d) ++ drop 512 table.old }
 {
     table[..128].fill(0);
-    code_words(&mut table[128..256], 128, words, flags, line, false, d);
-    code_words(&mut table[256..512], 0, words, flags, line, true, d);
+    code_words(table, 128, words, flags, line, false, d);
+    code_words(&mut table[256..], 0, words, flags, line, true, d);
 }
 
 // Those of n scan lines, end to end.

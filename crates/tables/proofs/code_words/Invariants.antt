@@ -6,5 +6,5 @@ use Rattle.lists.specs.Tab.{tab}
 use Rattle.tables.specs.Tables.{code_word}
 use Rattle.tables.proofs.code_words.Given as goal
 
-abbrev pub invariant-loop-i : goal.invariant-loop-i
-invariant-loop-i l = l.table ≡ tab l.i (code_word l.words l.flags l.line l.graphics l.d l.first) ++ drop l.i l.initial.table
+abbrev pub invariant-loop-code : goal.invariant-loop-code
+invariant-loop-code l = l.table ≡ tab l.code (code_word l.words l.flags l.line l.graphics l.d) ++ drop l.code l.initial.table

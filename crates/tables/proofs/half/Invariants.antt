@@ -7,4 +7,4 @@ use Rattle.tables.specs.Tables.{levels_for}
 use Rattle.tables.proofs.half.Given as goal
 
 abbrev pub invariant-loop-attributes : goal.invariant-loop-attributes
-invariant-loop-attributes l = l.table ≡ tab l.attributes (levels_for l.s l.here) ++ drop l.attributes l.initial.table
+invariant-loop-attributes l = l.number-items ≡ tab l.attributes (levels_for l.s l.here) ++ drop l.attributes l.initial.number-items
