@@ -1,5 +1,4 @@
 -- Rests on the invariant: cells put, the cell that comes next, and what is valid before it.
-use Prim.Native.Nat.{◌<◌}
 use mathlib.Core.Path.{refl}
 use native.Mathlib.Omega.{arith}
 use lib.ListN.{take}
@@ -12,11 +11,6 @@ use Rattle.tables.proofs.gather_round.Goals as goal
 pub loop-number-init : goal.loop-number-init
 unfolding tab
 loop-number-init c = (not-moved _ _ c.requires.4, refl, not-run _ _ _ _ _)
-
-pub overflow_cast-at : goal.overflow_cast-at
-overflow_cast-at c =
-    let at : c.loop-number.cell.address < 16384 = at_lt _ _ _ _ c.loop-number.invariant.0 in
-    omega (arith, at)
 
 pub cell_at-requires : goal.cell_at-requires
 cell_at-requires c = (c.requires.0, c.requires.1, at_lt _ _ _ _ c.loop-number.invariant.0, refl)
