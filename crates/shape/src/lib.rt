@@ -1,7 +1,6 @@
 #![tactic(auto)]
 // The character generator (002): from a code, a scan line and the font to ten dots.
-ghost use Rattle.std.specs.Prelude.{◌≡◌, ◌<◌, length, get_or};
-ghost use Rattle.lists.specs.Tab.{tab};
+ghost use Rattle.std.specs.Prelude.{◌≡◌, ◌<◌, length};
 ghost use Rattle.shape.specs.Font.{font_refused, groups_refused, groups_check, position_of, group_in, font_line_of, font_lines_of, font_line_at, chosen_by, font_word, pair_of, graphics_word, word_by, lent_font};
 ghost use Rattle.shape.specs.Laws.{weight_of};
 
