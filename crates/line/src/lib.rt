@@ -45,15 +45,13 @@ fn cells(out: &mut [u8], w: Walk, row: &[u16], looks: &[u8], words: &[u16], flag
         ++ drop (n * w.width.0) out.old }
 {
     let d = w.width.places();
-    let mut c = 0;
-    while c < n {
-        let a = c * d;
-        put(&mut out[a..], w, looks, words, flags, row[c], d);
-        c += 1;
+    for (c, number) in row[..n].iter().enumerate() {
+        put(&mut out[c * d..], w, looks, words, flags, *number, d);
     }
 }
 
-// Writes the dots of n columns: of a row of double width its cells first, and then each dot twice.
+// Writes the dots of n columns: of a row of double width its cells first, and then each dot twice. A picture does it with cells from tables:
+// one function for both would take the cells' drawing as a closure, with clauses over all that it lends, and be longer.
 fn columns(
     out: &mut [u8],
     w: Walk,
