@@ -9,7 +9,7 @@ pub returns : goal.returns
 returns c =
     let resets : c.if-b-eq0.resets ≡ pick (eqb c.args.b.resets 0) 1 2 =
     elim c.if-b-eq0.branch [
-      then-b-eq0 w ↦ rw (w.resets-is, eq-eqb _ _ w.if-b-eq0.true)
-    | else-b-eq0 w ↦ rw (w.resets-is, ne_eqb _ _ w.if-b-eq0.false)
+      | then-b-eq0 w ↦ rw (w.resets-is, eq-eqb _ _ w.if-b-eq0.true)
+      | else-b-eq0 w ↦ rw (w.resets-is, ne_eqb _ _ w.if-b-eq0.false)
     ] in
     rw (resets, c.clock_zero.ensures) refl
