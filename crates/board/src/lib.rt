@@ -110,6 +110,7 @@ pub fn power() -> Board
 pub const NEWEST_VERSION: u8 = 3;
 
 // A page's layout by its version: version 3 has one byte more.
+#[tactic(auto, unfolding(crate::specs::Layout::layout_of))]
 pub fn layout_of(version: u8) -> Layout
     ensures { result ≡ layout_of version }
 {

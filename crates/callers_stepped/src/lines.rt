@@ -11,6 +11,7 @@ ghost use Rattle.callers_stepped.specs.Asked.{alone_of};
 ghost use Rattle.callers_stepped.specs.Lines.{Steppable};
 
 use feldrime::Answer;
+use units::Unit;
 
 // The board's clock at the first dot of a line, in the frame whose number is the field's.
 fn clock_of(b: board::Board, line: units::Lines, field: u8) -> units::Clocks

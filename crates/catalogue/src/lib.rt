@@ -13,6 +13,7 @@ ghost use Rattle.catalogue.specs.ToSheet.{rows_apart, as_sheet_page, as_sheet_or
 ghost use Rattle.catalogue.specs.Marks.{marked_by, free_in, sheet_place, entry_byte, sheet_check};
 
 use refusal::Refusal;
+use units::Unit;
 
 // Marks the cells that are fetched from a cell on, n of them.
 fn mark(marks: &mut [u8], buffer: raster::Buffer, start: raster::Cell, n: u32)

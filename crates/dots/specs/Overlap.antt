@@ -1,10 +1,10 @@
--- Stores of four and eight bytes, and two of them that overlap. Assumes nothing.
-use Rattle.std.specs.Prelude.{◌≡◌, refl, List, ◌∷◌, ◌++◌, ℕ, zero, suc, ◌+◌, ◌*◌, ◌/◌, ◌%◌, ◌^◌, ◌-◌, ◌≤◌, length, take, drop, set}
+-- A store of a number's lowest bytes, and two of them that overlap. Assumes nothing.
+use Rattle.std.specs.Prelude.{◌≡◌, refl, List, ◌∷◌, ◌++◌, ℕ, zero, suc, ◌+◌, ◌*◌, ◌/◌, ◌%◌, ◌^◌, ◌-◌, ◌≤◌, length, take, drop}
 use Rattle.std.proofs.Common.{sym, ap, ◌∙◌, append_assoc, div-one, mul_comm, pow-suc, not-suc-le-zero, le_of_suc-le-suc, zero-add, suc-add, arith, length-append, length-drop, drop-drop}
 use Rattle.std.proofs.Math.Nat.{div-div-eq-div-mul}
 use Rattle.std.proofs.lemmas.List.{take-append-le}
 use Rattle.std.proofs.Math.Seq.{drop-append-add}
-use Rattle.std.proofs.lemmas.List.Edits.{sets-eq}
+use Rattle.std.specs.Int.{w64, to_le_bytes}
 use Rattle.lists.specs.Fill.{lent}
 use Rattle.dots.specs.Stores.{bytes_of, overlap_of}
 
@@ -12,28 +12,6 @@ pub length-bytes : (n v : ℕ) → length (bytes_of n v) ≡ n
 unfolding bytes_of
 length-bytes zero v = refl
 length-bytes (suc n) v = ap suc (length-bytes n (v / 256))
-
--- the eight stores
-pub stored-eight : (v : ℕ) (o : List ℕ) → 8 ≤ length o
-    → set (set (set (set (set (set (set (set o 0 (v % 256)) 1 (v / 256 % 256)) 2 (v / 65536 % 256)) 3 (v / 16777216 % 256)) 4 (v / 4294967296 % 256)) 5 (v / 1099511627776 % 256)) 6 (v / 281474976710656 % 256)) 7 (v / 72057594037927936 % 256)
-    ≡ bytes_of 8 v ++ drop 8 o
-unfolding bytes_of
-stored-eight v o h =
-    let y2 : v / 65536 ≡ v / 256 / 256 = omega arith in
-    let y3 : v / 16777216 ≡ v / 256 / 256 / 256 = omega arith in
-    let y4 : v / 4294967296 ≡ v / 256 / 256 / 256 / 256 = omega arith in
-    let y5 : v / 1099511627776 ≡ v / 256 / 256 / 256 / 256 / 256 = omega arith in
-    let y6 : v / 281474976710656 ≡ v / 256 / 256 / 256 / 256 / 256 / 256 = omega arith in
-    let y7 : v / 72057594037927936 ≡ v / 256 / 256 / 256 / 256 / 256 / 256 / 256 = omega arith in
-    rw (y7, y6, y5, y4, y3, y2) (sets-eq (bytes_of 8 v) o 0 h)
-
-pub stored-four : (v : ℕ) (o : List ℕ) → 4 ≤ length o
-    → set (set (set (set o 0 (v % 256)) 1 (v / 256 % 256)) 2 (v / 65536 % 256)) 3 (v / 16777216 % 256) ≡ bytes_of 4 v ++ drop 4 o
-unfolding bytes_of
-stored-four v o h =
-    let y2 : v / 65536 ≡ v / 256 / 256 = omega arith in
-    let y3 : v / 16777216 ≡ v / 256 / 256 / 256 = omega arith in
-    rw (y3, y2) (sets-eq (bytes_of 4 v) o 0 h)
 
 -- the first n, then the last n into a part that was lent
 pub overlapped : (n d a z : ℕ) (o o1 ys : List ℕ) → n ≤ d → d ≤ n + n → d ≤ length o → o1 ≡ bytes_of n a ++ drop n o
@@ -65,6 +43,21 @@ add-bytes zero n v = rw (zero-add, div-one)
 add-bytes (suc e) n v =
     let k : v / 256 ^ suc e ≡ v / 256 / 256 ^ e = rw (pow-suc 256 e, mul_comm (256 ^ e) 256) (sym (div-div-eq-div-mul v 256 (256 ^ e))) in
     rw (k, suc-add e n) (ap (λ (l : List ℕ). (v % 256) ∷ l) (add-bytes e n (v / 256)))
+
+-- the lowest n bytes of eight
+eight : (v : ℕ) → to_le_bytes w64 v ≡ bytes_of 8 v
+unfolding bytes_of
+eight v =
+    let y2 : v / 65536 ≡ v / 256 / 256 = omega arith in
+    let y3 : v / 16777216 ≡ v / 256 / 256 / 256 = omega arith in
+    let y4 : v / 4294967296 ≡ v / 256 / 256 / 256 / 256 = omega arith in
+    let y5 : v / 1099511627776 ≡ v / 256 / 256 / 256 / 256 / 256 = omega arith in
+    let y6 : v / 281474976710656 ≡ v / 256 / 256 / 256 / 256 / 256 / 256 = omega arith in
+    let y7 : v / 72057594037927936 ≡ v / 256 / 256 / 256 / 256 / 256 / 256 / 256 = omega arith in
+    rw (y7, y6, y5, y4, y3, y2)
+
+pub low-bytes : (n v : ℕ) → n ≤ 8 → take n (to_le_bytes w64 v) ≡ bytes_of n v
+low-bytes n v h = rw (eight v) (take-bytes n 8 v h)
 
 pub overlap-bytes : (n d v : ℕ) → n ≤ d → d ≤ n + n → overlap_of n d v (v / 256 ^ (d - n)) ≡ bytes_of d v
 unfolding overlap_of

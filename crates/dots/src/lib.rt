@@ -1,11 +1,13 @@
 #![tactic(auto)]
 // The dots of a cell into a buffer, a byte each and several to a store.
-ghost use Rattle.std.specs.Prelude.{◌≡◌, ◌++◌, ◌-◌, ◌*◌, ◌/◌, ◌%◌, ◌^◌, ◌≤◌, ◌<◌, length, take, drop};
+ghost use Rattle.std.specs.Prelude.{◌≡◌, ◌++◌, ◌+◌, ◌-◌, ◌*◌, ◌/◌, ◌%◌, ◌^◌, ◌≤◌, ◌<◌, length, take, drop};
 ghost use Rattle.std.specs.Int.Bits.{bit_xor};
 ghost use Rattle.dots.specs.Stores.{wide_of, under_of, spread_of, blend_of, mix_of, bytes_of, overlap_of, ink_of, reach_of, ink_table};
 ghost use Rattle.lists.specs.Tab.{tab};
 ghost use Rattle.dots.specs.Width.{shades, cell_put, cell_written, cell_drawn};
 ghost use Rattle.dots.specs.Half.{half_by, halved};
+
+use units::Unit;
 
 // Four bits, each in a byte of its own: the product has each at the lowest place of a byte, which the mask keeps.
 fn nibble(w: u16) -> u64
@@ -38,50 +40,29 @@ fn mix(s: u64, symbol: u8, surround: u8) -> u64
     s * symbol as u64 + (0x0101_0101_0101_0101 - s) * surround as u64
 }
 
-// Four bytes of a number at the front of out. The compiler stores them at once.
-fn four(out: &mut [u8], v: u64)
-    requires { 4 ≤ length out.old }
-    ensures { out.new ≡ bytes_of 4 v ++ drop 4 out.old }
+// The lowest N bytes of a number at the front of out. The compiler stores them at once.
+fn store<const N: usize>(out: &mut [u8], v: u64)
+    requires { (N ≤ 8) × (N ≤ length out.old) }
+    ensures { out.new ≡ bytes_of N v ++ drop N out.old }
 {
-    out[0] = (v % 256) as u8;
-    out[1] = (v / 0x100 % 256) as u8;
-    out[2] = (v / 0x1_0000 % 256) as u8;
-    out[3] = (v / 0x100_0000 % 256) as u8;
+    out[..N].copy_from_slice(&v.to_le_bytes()[..N]);
 }
 
-// Eight of them.
-fn eight(out: &mut [u8], v: u64)
-    requires { 8 ≤ length out.old }
-    ensures { out.new ≡ bytes_of 8 v ++ drop 8 out.old }
+// N to 2 N bytes: the first N and the last N, which overlap.
+fn ends<const N: usize>(out: &mut [u8], first: u64, last: u64, d: usize)
+    requires { (N ≤ 8) × (N ≤ d) × (d ≤ N + N) × (d ≤ length out.old) }
+    ensures { out.new ≡ overlap_of N d first last ++ drop d out.old }
 {
-    out[0] = (v % 256) as u8;
-    out[1] = (v / 0x100 % 256) as u8;
-    out[2] = (v / 0x1_0000 % 256) as u8;
-    out[3] = (v / 0x100_0000 % 256) as u8;
-    out[4] = (v / 0x1_0000_0000 % 256) as u8;
-    out[5] = (v / 0x100_0000_0000 % 256) as u8;
-    out[6] = (v / 0x1_0000_0000_0000 % 256) as u8;
-    out[7] = (v / 0x100_0000_0000_0000 % 256) as u8;
+    store::<N>(out, first);
+    store::<N>(&mut out[d - N..], last);
 }
 
-// Four to eight bytes of a number: the first four and the last four, which overlap.
+// Four to eight bytes of a number.
 fn narrow(out: &mut [u8], v: u64, d: usize)
     requires { (4 ≤ d) × (d ≤ 8) × (d ≤ length out.old) }
     ensures { out.new ≡ bytes_of d v ++ drop d out.old }
 {
-    four(out, v);
-    let e = d - 4;
-    four(&mut out[e..], v >> (8 * e));
-}
-
-// Eight to sixteen bytes: the first eight and the last eight.
-fn broad(out: &mut [u8], first: u64, last: u64, d: usize)
-    requires { (8 ≤ d) × (d ≤ 16) × (d ≤ length out.old) }
-    ensures { out.new ≡ overlap_of 8 d first last ++ drop d out.old }
-{
-    eight(out, first);
-    let e = d - 8;
-    eight(&mut out[e..], last);
+    ends::<4>(out, v, v >> (8 * (d - 4)), d);
 }
 
 // What makes one level of another by an exclusive or.
@@ -113,10 +94,8 @@ pub fn inks(table: &mut [u64])
     requires { length table.old ≡ 288 }
     ensures { table.new ≡ ink_table }
 {
-    let mut i: usize = 0;
-    while i < 288 {
-        table[i] = ink(i);
-        i += 1;
+    for (i, number) in table.iter_mut().enumerate() {
+        *number = ink(i);
     }
 }
 
@@ -138,11 +117,11 @@ pub fn put_cell(out: &mut [u8], inks: &[u64], levels: u8, word: u16, d: usize, t
     let first = blend(inks, levels, word);
     if 8 < d {
         let last = blend(inks, levels, word >> (d - 8));
-        broad(out, first, last, d);
+        ends::<8>(out, first, last, d);
     } else if tight {
         narrow(out, first, d);
     } else {
-        eight(out, first);
+        store::<8>(out, first);
     }
 }
 
@@ -153,7 +132,7 @@ fn last_four(out: &mut [u8], symbol: u8, surround: u8, w: u16, d: usize)
 {
     let e = d - 4;
     let last = mix(nibble(w >> e), symbol, surround);
-    four(&mut out[e..], last);
+    store::<4>(&mut out[e..], last);
 }
 
 // A cell from its word. To spread the last eight dots too would cost more than it saves: four reach, and overlap.
@@ -164,11 +143,11 @@ pub fn write_cell(out: &mut [u8], symbol: u8, surround: u8, word: u16, d: usize)
     let w = wide(word, d);
     let first = mix(spread(w), symbol, surround);
     if d == 8 {
-        eight(out, first);
+        store::<8>(out, first);
     } else if d < 8 {
         narrow(out, first, d);
     } else {
-        eight(out, first);
+        store::<8>(out, first);
         last_four(out, symbol, surround, w, d);
     }
 }
@@ -193,10 +172,8 @@ pub fn halve(out: &mut [u8], cell: &[u8], from: usize, d: usize)
     requires { (d ≤ length out.old) × (d ≤ length cell.now) × (from ≤ d) × (d ≤ 12) }
     ensures { out.new ≡ halved cell.now from d out.old }
 {
-    let mut i = 0;
-    while i < d {
-        out[i] = cell[(from + i) / 2];
-        i += 1;
+    for (i, dot) in out[..d].iter_mut().enumerate() {
+        *dot = cell[(from + i) / 2];
     }
 }
 
@@ -205,12 +182,9 @@ fn pairs(out: &mut [u8], dots: &[u8], n: usize)
     requires { (2 * n ≤ length out.old) × (n ≤ length dots.now) × (n ≤ 4096) }
     ensures { out.new ≡ tab (2 * n) (half_by dots.now 0) ++ drop (2 * n) out.old }
 {
-    let mut i = 0;
-    while i < n {
-        let dot = dots[i];
-        out[2 * i] = dot;
-        out[2 * i + 1] = dot;
-        i += 1;
+    for (i, dot) in dots[..n].iter().enumerate() {
+        out[2 * i] = *dot;
+        out[2 * i + 1] = *dot;
     }
 }
 

@@ -9,6 +9,7 @@ ghost use Rattle.fetch.specs.RowCells.{cells_check, GivesCells};
 ghost use Rattle.fetch.specs.RowLaws.{column_by};
 
 use refusal::Refusal;
+use units::Unit;
 
 // A row's first run: from a cell on, so many.
 #[derive(Clone, Copy)]
@@ -68,8 +69,8 @@ pub fn fetched_of(p: board::Page, chars: &[u8], row: u32) -> u32
 {
     let t = timing::timing_of(p);
     let hact = t.counts.hact;
-    let code = raster::code_of(code_at(p, chars, row));
-    if raster::is_wide(code) {
+    let code = raster::Code::from(code_at(p, chars, row));
+    if code.is_wide() {
         return hact.pairs_begun();
     }
     hact.cells()
@@ -81,9 +82,9 @@ fn moved_of(p: board::Page, chars: &[u8], row: u32, column: units::Clocks) -> u3
     ensures { result ≡ moved_of p chars.now row column.0 }
 {
     let t = timing::timing_of(p);
-    if column.below(t.counts.hact) {
-        let code = raster::code_of(code_at(p, chars, row));
-        if raster::is_wide(code) {
+    if column < t.counts.hact {
+        let code = raster::Code::from(code_at(p, chars, row));
+        if code.is_wide() {
             return column.pairs();
         }
         return column.cells();
@@ -97,9 +98,9 @@ pub fn fetched_before(p: board::Page, chars: &[u8], row: u32, column: units::Clo
     ensures { result ≡ fetched_before p chars.now row column.0 }
 {
     let t = timing::timing_of(p);
-    let n = column.least(t.counts.hact);
-    let code = raster::code_of(code_at(p, chars, row));
-    if raster::is_wide(code) {
+    let n = column.min(t.counts.hact);
+    let code = raster::Code::from(code_at(p, chars, row));
+    if code.is_wide() {
         return n.pairs_begun();
     }
     n.cells()

@@ -12,6 +12,7 @@ ghost use Rattle.line.specs.Line.{row_for, scan_for, line_length, draw_check, Dr
 ghost use Rattle.line.specs.Walk.{last_of, walk_of, held_for, dots_for, column_for, shaped_over, Ready};
 
 use refusal::Refusal;
+use units::Unit;
 
 // What is the same for all cells of a line: what its scan line takes from the font, and the width of a cell.
 #[derive(Clone, Copy)]
@@ -44,15 +45,13 @@ fn cells(out: &mut [u8], w: Walk, row: &[u16], looks: &[u8], words: &[u16], flag
         ++ drop (n * w.width.0) out.old }
 {
     let d = w.width.places();
-    let mut c = 0;
-    while c < n {
-        let a = c * d;
-        put(&mut out[a..], w, looks, words, flags, row[c], d);
-        c += 1;
+    for (c, number) in row[..n].iter().enumerate() {
+        put(&mut out[c * d..], w, looks, words, flags, *number, d);
     }
 }
 
-// Writes the dots of n columns: of a row of double width its cells first, and then each dot twice.
+// Writes the dots of n columns: of a row of double width its cells first, and then each dot twice. A picture does it with cells from tables:
+// one function for both would take the cells' drawing as a closure, with clauses over all that it lends, and be longer.
 fn columns(
     out: &mut [u8],
     w: Walk,
@@ -101,12 +100,13 @@ fn held_for(p: board::Page, chars: &[u8], attrs: &[u8], row: u32, start: raster:
 }
 
 // 7 for a line that is not visible, 8 for a buffer that is too short; of an accepted page the line's dots are few enough to count.
+#[tactic(auto, unfolding(timing::specs::Fields::timing_of, timing::specs::Fields::counts_of))]
 fn line_check(p: board::Page, line: units::Lines, room: usize) -> Result<(), Refusal>
     requires { Accepted p }
     ensures { result ≡ last_of (leb (visible_of p).0 line.0) (ltb room (hact_of p * p.video.dots.0)) }
 {
     let t = timing::timing_of(p);
-    if timing::visible_of(p).at_most(line) {
+    if timing::visible_of(p) <= line {
         return Err(Refusal::Range);
     }
     if room < units::dots_of(t.counts.hact, p.video.dots).places() {
@@ -135,7 +135,7 @@ pub fn scan_for(b: board::Board, chars: &[u8], line: units::Lines) -> units::Lin
 {
     let page = b.page;
     let row = timing::row_of(page, line);
-    let code = raster::code_of(fetch::code_at(page, chars, row));
+    let code = raster::Code::from(fetch::code_at(page, chars, row));
     video::scan_at(page, code, line)
 }
 
@@ -161,7 +161,7 @@ pub fn whole_line(
     let page = b.page;
     let t = timing::timing_of(page);
     let row = timing::row_of(page, line);
-    let code = raster::code_of(fetch::code_at(page, chars, row));
+    let code = raster::Code::from(fetch::code_at(page, chars, row));
     let w = walk_of(page, font);
     let start = fetch::row_start(page, chars, row);
     let held = held_for(page, chars, attrs, row, start);
@@ -179,7 +179,7 @@ pub fn whole_line(
         n as usize,
     );
     tables::looks(&mut looks, video::scene_of(b, scan, field));
-    let wide = raster::is_wide(code);
+    let wide = code.is_wide();
     columns(
         out,
         w,

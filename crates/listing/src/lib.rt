@@ -6,6 +6,7 @@ ghost use Rattle.listing.specs.Decimal.{Spelled};
 ghost use Rattle.listing.specs.Listing.{line_feed, letter_of, ListsHead, ListsLine};
 
 use refusal::Refusal;
+use units::Unit;
 
 // A number's decimal digits, at the front of the bytes.
 #[derive(Clone, Copy)]

@@ -7,6 +7,7 @@ ghost use Rattle.io.specs.Counts.{IsPrefixLen};
 
 use listing::{listing_head, listing_line};
 use refusal::Refusal;
+use units::Unit;
 
 const STDIN: i32 = 0;
 
@@ -72,7 +73,7 @@ fn print_listing(
     }
     let shown = timing::visible_of(page);
     let mut line = units::Lines(0);
-    while line.below(shown) {
+    while line < shown {
         let listed = listing_line(
             b, chars, attrs, words, flags, unshifted, shifted, groups, line, 0, &mut out,
         );

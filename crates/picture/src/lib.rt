@@ -15,6 +15,7 @@ ghost use Rattle.picture.specs.Plan.{plan_of, cell_dots_of, cell_from, line_from
 ghost use Rattle.picture.specs.Agree.{shaped_over};
 
 use refusal::Refusal;
+use units::Unit;
 
 // What is the same for all rows: columns, dots a cell, lines a row, its scan lines, rows, the bytes of a line and of a row, the buffer, how cells are read.
 #[derive(Clone, Copy)]
@@ -72,23 +73,12 @@ fn draw_cells(
 {
     let last = n - 1;
     let d = p.dots.places();
-    let mut i = 0;
-    while i < last {
-        let a = i * d;
-        put(&mut out[a..], p, shown, looks, inks, scan, cells[i], false);
-        i += 1;
+    for (i, number) in cells[..last].iter().enumerate() {
+        let stretch = &mut out[i * d..];
+        put(stretch, p, shown, looks, inks, scan, *number, false);
     }
-    let e = last * d;
-    put(
-        &mut out[e..],
-        p,
-        shown,
-        looks,
-        inks,
-        scan,
-        cells[last],
-        true,
-    );
+    let stretch = &mut out[last * d..];
+    put(stretch, p, shown, looks, inks, scan, cells[last], true);
 }
 
 // One line from its row's cells: of a row of double width its cells first, and then each dot twice.
@@ -136,15 +126,11 @@ fn draw_lines(
         ≡ joined 0 p.lines.0 (line_from p k cells.now shown.now looks.now)
         ++ drop (p.lines.0 * p.width) out.old }
 {
-    let n = p.lines.places();
-    let width = p.width;
-    let wide = raster::is_wide(k);
-    let mut s: usize = 0;
-    while s < n {
-        let a = s * width;
+    let wide = k.is_wide();
+    for s in 0..p.lines.places() {
         let scan = video::scan_of(k, p.lines, units::Lines(s as u32));
-        draw_columns(&mut out[a..], p, wide, cells, shown, looks, inks, scan);
-        s += 1;
+        let stretch = &mut out[s * p.width..];
+        draw_columns(stretch, p, wide, cells, shown, looks, inks, scan);
     }
 }
 
@@ -196,28 +182,15 @@ fn draw_rows(
         ≡ joined 0 p.rows (row_drawn p page chars.now attrs.now shown.now looks.now)
         ++ drop (p.rows * p.size) out.old }
 {
-    let n = p.rows;
-    let size = p.size;
     let mut held = 0;
-    let mut r: u32 = 0;
-    while r < n {
+    for r in 0..p.rows {
         let start = fetch::row_start(page, chars, r);
-        let code = raster::code_of(fetch::code_at(page, chars, r));
-        let a = r as usize * size;
+        let code = raster::Code::from(fetch::code_at(page, chars, r));
+        let n = fetch::fetched_of(page, chars, r);
+        let stretch = &mut out[r as usize * p.size..];
         held = draw_row(
-            &mut out[a..],
-            p,
-            code,
-            fetch::fetched_of(page, chars, r),
-            chars,
-            attrs,
-            shown,
-            looks,
-            inks,
-            start,
-            held,
+            stretch, p, code, n, chars, attrs, shown, looks, inks, start, held,
         );
-        r += 1;
     }
 }
 
@@ -310,27 +283,14 @@ fn by_lines(
     ensures { out.new ≡ shaped_over b chars.now attrs.now words.now flags.now lines
         field out.old }
 {
-    let n = p.lines.times(p.rows).places();
-    let width = p.width;
-    let mut l: usize = 0;
-    while l < n {
-        let a = l * width;
+    for l in 0..p.lines.times(p.rows).places() {
         let at = units::Lines(l as u32);
         let scan = line::scan_for(b, chars, at);
         let font = shape::font_line_at(lines, scan);
+        let stretch = &mut out[l * p.width..];
         line::whole_line(
-            &mut out[a..],
-            b,
-            chars,
-            attrs,
-            words,
-            flags,
-            font,
-            scan,
-            at,
-            field,
+            stretch, b, chars, attrs, words, flags, font, scan, at, field,
         );
-        l += 1;
     }
 }
 

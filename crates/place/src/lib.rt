@@ -13,6 +13,7 @@ ghost use Rattle.board.specs.Parts.{with_place};
 ghost use Rattle.place.specs.State.{state_of};
 
 use refusal::Refusal;
+use units::Unit;
 
 // What the beam carries along, with its row's code, and what its row began with.
 #[derive(Clone, Copy)]
@@ -29,6 +30,7 @@ fn set_by(p: board::Page, byte: u8) -> u8
 }
 
 // A row's code as it counts.
+#[tactic(auto, unfolding(crate::specs::Place::counted_code))]
 fn counted_code(p: board::Page, code: u8) -> u8
     ensures { result ≡ counted_code p code }
 {
@@ -36,6 +38,7 @@ fn counted_code(p: board::Page, code: u8) -> u8
 }
 
 // What is carried, with latch byte and code as they count.
+#[tactic(auto, unfolding(crate::specs::Place::counted_latch))]
 fn settled(p: board::Page, x: raster::Row) -> raster::Row
     ensures { result ≡ settled p x }
 {
@@ -87,7 +90,7 @@ fn begun(p: board::Page, chars: &[u8], row: u32, x: raster::Row) -> raster::Row
 fn loads_at(p: board::Page, q: board::Place) -> bool
     ensures { result ≡ loads_at p q }
 {
-    q.line.below(timing::visible_of(p)) & q.clock.same(units::Clocks(0))
+    (q.line < timing::visible_of(p)) & (q.clock == units::Clocks(0))
 }
 
 // What a clock works on: on column 0 of a visible line it is loaded, elsewhere it is held.
@@ -105,22 +108,16 @@ pub fn loaded_at(p: board::Page, chars: &[u8], q: board::Place) -> Carried
     let row = settled(p, kept);
     let line = q.line;
     if loads_at(p, q) {
-        if timing::line_of_row(p, line).same(units::Lines(0)) {
+        if timing::line_of_row(p, line) == units::Lines(0) {
             let first = begun(p, chars, timing::row_of(p, line), held);
             return Carried {
                 beam: first,
                 row: first,
             };
         }
-        return Carried {
-            beam: row,
-            row: row,
-        };
+        return Carried { beam: row, row };
     }
-    Carried {
-        beam: held,
-        row: row,
-    }
+    Carried { beam: held, row }
 }
 
 // An active clock of a visible line.
@@ -128,7 +125,7 @@ pub fn active_at(p: board::Page, q: board::Place) -> bool
     ensures { result ≡ active_at p q }
 {
     let t = timing::timing_of(p);
-    q.line.below(timing::visible_of(p)) & q.clock.below(t.counts.hact)
+    (q.line < timing::visible_of(p)) & (q.clock < t.counts.hact)
 }
 
 // The cell after this one, where the beam moves on.
@@ -153,13 +150,14 @@ fn next_latch(p: board::Page, again: bool, byte: u8, held: u8) -> u8
 }
 
 // A cell's last column.
+#[tactic(auto, unfolding(timing::specs::Fields::timing_of))]
 fn ends_at(p: board::Page, k: raster::Code, clock: units::Clocks) -> bool
     requires { clock.0 < 384 }
     ensures { result ≡ ends_at (counts_of p) k clock.0 }
 {
     let t = timing::timing_of(p);
     let next = clock.plus(units::Clocks(1));
-    !raster::is_wide(k) | (clock.is_odd() | next.same(t.counts.hact))
+    !k.is_wide() | (clock.is_odd() | (next == t.counts.hact))
 }
 
 // Past a clock: the cell that it fetches is latched where it has AFLG, and after a cell's last column the beam moves on.
@@ -170,14 +168,14 @@ fn past_cell(p: board::Page, attrs: &[u8], clock: units::Clocks, x: raster::Row)
     let code = x.code;
     let at = x.address;
     raster::Row {
-        address: next_cell(p, ends_at(p, raster::code_of(code), clock), at),
+        address: next_cell(p, ends_at(p, raster::Code::from(code), clock), at),
         latch: next_latch(
             p,
-            raster::again_at(raster::code_of(code), clock),
+            raster::again_at(raster::Code::from(code), clock),
             attrs[at as usize],
             x.latch,
         ),
-        code: code,
+        code,
     }
 }
 
@@ -192,7 +190,7 @@ fn moved_on(p: board::Page, attrs: &[u8], q: board::Place, c: Carried) -> Carrie
     if active_at(p, q) {
         return Carried {
             beam: past_cell(p, attrs, clock, held),
-            row: row,
+            row,
         };
     }
     c
@@ -212,30 +210,30 @@ fn turned(p: board::Page, q: board::Place, c: Carried) -> board::Place
     let line = q.line;
     let clock = q.clock.plus(units::Clocks(1));
     let below = line.plus(units::Lines(1));
-    if clock.below(t.counts.ht) {
+    if clock < t.counts.ht {
         return board::Place {
             field: q.field,
-            line: line,
-            clock: clock,
-            beam: beam,
-            row: row,
+            line,
+            clock,
+            beam,
+            row,
         };
     }
-    if below.below(t.counts.vt) {
+    if below < t.counts.vt {
         return board::Place {
             field: q.field,
             line: below,
             clock: units::Clocks(0),
-            beam: beam,
-            row: row,
+            beam,
+            row,
         };
     }
     board::Place {
         field: std::num::wrapping_add_u8(q.field, 1),
         line: units::Lines(0),
         clock: units::Clocks(0),
-        beam: beam,
-        row: row,
+        beam,
+        row,
     }
 }
 
@@ -260,12 +258,12 @@ fn row_at(p: board::Page, chars: &[u8], attrs: &[u8], row: u32, c: units::Clocks
         beam: raster::Row {
             address: at.address,
             latch: latch::held_at(p, chars, attrs, row, c, before),
-            code: code,
+            code,
         },
         row: raster::Row {
             address: start.address,
             latch: before,
-            code: code,
+            code,
         },
     }
 }
@@ -278,6 +276,7 @@ pub struct Spot {
 }
 
 // The end of the last row.
+#[tactic(auto, unfolding(timing::specs::Fields::counts_of, timing::specs::Fields::timing_of))]
 fn last_spot(p: board::Page) -> Spot
     ensures { result ≡ last_spot p }
 {
@@ -290,10 +289,11 @@ fn last_spot(p: board::Page) -> Spot
 }
 
 // Where the beam last moved, c clocks into a line: in that line, or else at the end of the last row.
+#[tactic(auto, unfolding(crate::specs::Spot::spot_in))]
 fn spot_in(p: board::Page, c: units::Clocks, line: units::Lines) -> Spot
     ensures { result ≡ spot_in p c.0 line.0 }
 {
-    if line.below(timing::visible_of(p)) {
+    if line < timing::visible_of(p) {
         return Spot {
             row: timing::row_of(p, line),
             clocks: c,
@@ -303,14 +303,15 @@ fn spot_in(p: board::Page, c: units::Clocks, line: units::Lines) -> Spot
 }
 
 // The same before clock c of a line: before clock 0, what the line before it left.
+#[tactic(auto, unfolding(crate::specs::Spot::spot_before, timing::specs::Fields::timing_of, timing::specs::Fields::counts_of))]
 fn spot_before(p: board::Page, c: units::Clocks, line: units::Lines) -> Spot
     ensures { result ≡ spot_before p c.0 line.0 }
 {
-    if units::Clocks(0).below(c) {
+    if units::Clocks(0) < c {
         return spot_in(p, c, line);
     }
     let t = timing::timing_of(p);
-    if units::Lines(0).below(line) {
+    if units::Lines(0) < line {
         return spot_in(p, t.counts.ht, line.minus(units::Lines(1)));
     }
     last_spot(p)
@@ -320,7 +321,7 @@ fn spot_before(p: board::Page, c: units::Clocks, line: units::Lines) -> Spot
 fn at_origin(c: units::Clocks, line: units::Lines, frame: u32) -> bool
     ensures { result ≡ origin_at c.0 line.0 frame }
 {
-    c.same(units::Clocks(0)) & line.same(units::Lines(0)) & (frame == 0)
+    (c == units::Clocks(0)) & (line == units::Lines(0)) & (frame == 0)
 }
 
 // What is carried before clock c of a line of a frame. The work is the same for every clock; at clock 0 it is not needed.
@@ -369,10 +370,10 @@ fn place_at(p: board::Page, chars: &[u8], attrs: &[u8], n: units::Clocks) -> boa
     let row = c.row;
     board::Place {
         field: (frame % 256) as u8,
-        line: line,
-        clock: clock,
-        beam: beam,
-        row: row,
+        line,
+        clock,
+        beam,
+        row,
     }
 }
 

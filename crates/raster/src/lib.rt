@@ -29,7 +29,7 @@ pub struct Row {
 }
 
 // 02, R-4: a row of double width, or the top or bottom half of one.
-#[derive(Clone, Copy)]
+#[derive(Clone, Copy, PartialEq, Eq)]
 pub enum Code {
     Plain,
     Wide,
@@ -55,47 +55,36 @@ pub struct Buffer {
 }
 
 // The code of a row, by its byte.
-pub fn code_of(byte: u8) -> Code
-    ensures { result ≡ code_of byte }
-{
-    match byte % 4 {
-        0 => Code::Plain,
-        1 => Code::Wide,
-        2 => Code::Top,
-        _ => Code::Bottom,
+impl From<u8> for Code {
+    ghost from_gives = { λ byte k. k ≡ code_of byte };
+
+    fn from(byte: u8) -> Code {
+        match byte % 4 {
+            0 => Code::Plain,
+            1 => Code::Wide,
+            2 => Code::Top,
+            _ => Code::Bottom,
+        }
     }
 }
 
-pub fn is_wide(k: Code) -> bool
-    ensures { result ≡ is_wide k }
-{
-    match k {
-        Code::Plain => false,
-        Code::Wide => true,
-        Code::Top => true,
-        Code::Bottom => true,
+impl Code {
+    pub fn is_wide(self) -> bool
+        ensures { result ≡ is_wide self }
+    {
+        self != Code::Plain
     }
-}
 
-pub fn is_top(k: Code) -> bool
-    ensures { result ≡ is_top k }
-{
-    match k {
-        Code::Plain => false,
-        Code::Wide => false,
-        Code::Top => true,
-        Code::Bottom => false,
+    pub fn is_top(self) -> bool
+        ensures { result ≡ is_top self }
+    {
+        self == Code::Top
     }
-}
 
-pub fn is_bottom(k: Code) -> bool
-    ensures { result ≡ is_bottom k }
-{
-    match k {
-        Code::Plain => false,
-        Code::Wide => false,
-        Code::Top => false,
-        Code::Bottom => true,
+    pub fn is_bottom(self) -> bool
+        ensures { result ≡ is_bottom self }
+    {
+        self == Code::Bottom
     }
 }
 
@@ -103,7 +92,7 @@ pub fn is_bottom(k: Code) -> bool
 pub fn again_at(k: Code, column: units::Clocks) -> bool
     ensures { result ≡ again_at k column.0 }
 {
-    is_wide(k) & column.is_odd()
+    k.is_wide() & column.is_odd()
 }
 
 // What is valid at a cell: its attribute byte where AFLG is set, else what was valid before it.

@@ -23,41 +23,32 @@ fn register_check(b: board::Board) -> Result<(), Refusal>
     Ok(())
 }
 
-fn choose(t: bool, a: u8, b: u8) -> u8
-    ensures { (result ≡ pick t a b) × (result ≤ max a b) }
-{
-    if t { a } else { b }
-}
-
 // A write that is no reset, on an inactive board.
 fn broken(b: board::Board) -> board::Board
     ensures { result ≡ broken_of b }
 {
-    let mut n = b;
-    n.resets = 0;
-    n
+    board::Board { resets: 0, ..b }
 }
 
 fn reset(b: board::Board) -> board::Board
     ensures { result ≡ reset_of b }
 {
-    let place = board::clock_zero();
-    let resets = choose(b.resets == 0, 1, 2);
-    let off = b.page.switches / 4 * 4;
-    let mut n = b;
-    n.page.switches = off;
-    n.place = place;
-    n.pointer = 0;
-    n.resets = resets;
-    n
+    let resets = if b.resets == 0 { 1 } else { 2 };
+    board::Board {
+        page: board::Page {
+            switches: b.page.switches / 4 * 4,
+            ..b.page
+        },
+        place: board::clock_zero(),
+        pointer: 0,
+        resets,
+    }
 }
 
 fn pointed(b: board::Board, at: u8) -> board::Board
     ensures { result ≡ pointed_of b at }
 {
-    let mut n = b;
-    n.pointer = at;
-    n
+    board::Board { pointer: at, ..b }
 }
 
 // The pointer moves on and stays at the last IR.
@@ -65,7 +56,7 @@ fn next_pointer(last: u8, at: u8) -> u8
     requires { at ≤ 254 }
     ensures { result ≡ next_pointer last at }
 {
-    choose(at < last, at + 1, last)
+    if at < last { at + 1 } else { last }
 }
 
 fn loaded(b: board::Board, v: u8) -> board::Board
@@ -77,10 +68,11 @@ fn loaded(b: board::Board, v: u8) -> board::Board
     let next = next_pointer(board::last_ir(b.page.version), at);
     let mut p = b.page;
     p.irs[i] = v;
-    let mut n = b;
-    n.page = p;
-    n.pointer = next;
-    n
+    board::Board {
+        page: p,
+        pointer: next,
+        ..b
+    }
 }
 
 fn lower(x: u16, v: u8) -> u16
@@ -96,66 +88,65 @@ fn upper(x: u16, v: u8) -> u16
 }
 
 // Addresses 2 to 7: lower, then upper.
+#[tactic(auto, unfolding(crate::specs::Write::starts_after))]
 fn starts_after(s: board::Starts, a: u8, v: u8) -> board::Starts
     ensures { result ≡ starts_after s a v }
 {
-    let mut n = s;
     match a {
-        2 => {
-            n.start1 = lower(s.start1, v);
-            n
-        }
-        3 => {
-            n.start1 = upper(s.start1, v);
-            n
-        }
-        4 => {
-            n.cursor = lower(s.cursor, v);
-            n
-        }
-        5 => {
-            n.cursor = upper(s.cursor, v);
-            n
-        }
-        6 => {
-            n.start2 = lower(s.start2, v);
-            n
-        }
-        _ => {
-            n.start2 = upper(s.start2, v);
-            n
-        }
+        2 => board::Starts {
+            start1: lower(s.start1, v),
+            ..s
+        },
+        3 => board::Starts {
+            start1: upper(s.start1, v),
+            ..s
+        },
+        4 => board::Starts {
+            cursor: lower(s.cursor, v),
+            ..s
+        },
+        5 => board::Starts {
+            cursor: upper(s.cursor, v),
+            ..s
+        },
+        6 => board::Starts {
+            start2: lower(s.start2, v),
+            ..s
+        },
+        _ => board::Starts {
+            start2: upper(s.start2, v),
+            ..s
+        },
     }
 }
 
 fn started(b: board::Board, a: u8, v: u8) -> board::Board
     ensures { result ≡ started_of b a v }
 {
-    let mut p = b.page;
-    let s = p.starts;
-    let t = starts_after(s, a, v);
-    p.starts = t;
-    let mut n = b;
-    n.page = p;
-    n
+    let starts = starts_after(b.page.starts, a, v);
+    board::Board {
+        page: board::Page { starts, ..b.page },
+        ..b
+    }
 }
 
 // Bit 3 names the display, bit 4 the cursor; bit 0 says on.
 fn switches_after(s: u8, v: u8) -> u8
     ensures { result ≡ switches_after s v }
 {
-    let cursor = choose(v / 16 % 2 == 1, v % 2, s / 2 % 2);
-    let display = choose(v / 8 % 2 == 1, v % 2, s % 2);
+    let cursor = if v / 16 % 2 == 1 { v % 2 } else { s / 2 % 2 };
+    let display = if v / 8 % 2 == 1 { v % 2 } else { s % 2 };
     s / 4 * 4 + 2 * cursor + display
 }
 
 fn switched(b: board::Board, v: u8) -> board::Board
     ensures { result ≡ switched_of b v }
 {
-    let s = switches_after(b.page.switches, v);
-    let mut n = b;
-    n.page.switches = s;
-    n
+    let switches = switches_after(b.page.switches, v);
+    board::Board {
+        page: board::Page { switches, ..b.page },
+        ..b
+    }
 }
 
 // A pointer above the last IR of the page is not carried.
@@ -170,6 +161,7 @@ fn point(b: board::Board, at: u8) -> Result<board::Board, Refusal>
 }
 
 // The command byte (003 Table 6).
+#[tactic(auto, unfolding(crate::specs::Write::command_of))]
 fn command(b: board::Board, v: u8) -> Result<board::Board, Refusal>
     ensures { result ≡ command_of b v }
 {
@@ -188,6 +180,7 @@ fn command(b: board::Board, v: u8) -> Result<board::Board, Refusal>
 }
 
 // The register address (003 Table 1), on an active board.
+#[tactic(auto, unfolding(crate::specs::Write::active_of))]
 fn active(b: board::Board, a: u8, v: u8) -> Result<board::Board, Refusal>
     requires { b.pointer ≤ last_ir b.page.version }
     ensures { result ≡ active_of b a v }
@@ -200,6 +193,7 @@ fn active(b: board::Board, a: u8, v: u8) -> Result<board::Board, Refusal>
     }
 }
 
+#[tactic(auto, unfolding(crate::specs::Write::inactive_of))]
 fn inactive(b: board::Board, a: u8, v: u8) -> Result<board::Board, Refusal>
     ensures { result ≡ inactive_of b a v }
 {
@@ -229,6 +223,7 @@ pub fn write(b: board::Board, a: u8, v: u8) -> Result<board::Board, Refusal>
 }
 
 // What addresses 2 to 7 show: lower, then upper.
+#[tactic(auto, unfolding(crate::specs::Read::shown_at))]
 fn shown_at(s: board::Starts, a: u8) -> u8
     ensures { result ≡ shown_at s a }
 {
@@ -280,14 +275,14 @@ fn video_check(p: board::Page) -> Result<(), Refusal>
 fn with_dots(p: board::Page, dots: units::Dots, strike: u8) -> board::Page
     ensures { result ≡ with_dots p dots strike }
 {
-    let video = board::Video {
-        dots: dots,
-        strike: strike,
-        chip: p.video.chip,
-    };
-    let mut n = p;
-    n.video = video;
-    n
+    board::Page {
+        video: board::Video {
+            dots,
+            strike,
+            ..p.video
+        },
+        ..p
+    }
 }
 
 fn with_video(
@@ -299,16 +294,15 @@ fn with_video(
 ) -> board::Board
     ensures { result ≡ video_set b dots strike bkgnd rblank }
 {
-    let background = choose(bkgnd, 4, 0);
-    let retrace = choose(rblank, 8, 0);
+    let background = if bkgnd { 4 } else { 0 };
+    let retrace = if rblank { 8 } else { 0 };
     let s = b.page.switches;
     let switches = s / 16 * 16 + s % 4 + background + retrace;
-    let mut p = b.page;
-    p.switches = switches;
-    let page = with_dots(p, dots, strike);
-    let mut n = b;
-    n.page = page;
-    n
+    let page = board::Page { switches, ..b.page };
+    board::Board {
+        page: with_dots(page, dots, strike),
+        ..b
+    }
 }
 
 // The board's own setting of dots, strike line, BKGND and RBLANK.

@@ -1,9 +1,9 @@
 -- 01, "From cell to dots", the character (002): which font word a code shows on a scan line.
-use Rattle.std.specs.Prelude.{ℕ, suc, ◌+◌, ◌*◌, ◌/◌, ◌%◌, ◌≡◌, Bool, true, false, ◌&&◌, ◌||◌, not, List, [], ◌∷◌, length, get_or, eqb, ltb, Err}
+use Rattle.std.specs.Prelude.{ℕ, suc, ◌+◌, ◌*◌, ◌/◌, ◌%◌, ◌≡◌, Bool, true, false, ◌&&◌, ◌||◌, not, List, [], ◌∷◌, length, get_or, map, eqb, ltb, Err}
+use Rattle.std.specs.List.{range_with_len}
 use Rattle.std.specs.Borrow.{Bor, MutBor}
 use denote.Triple.Both.{Both}
 use Rattle.lists.specs.Choice.{pick}
-use Rattle.lists.specs.Tab.{tab}
 use Rattle.refusal.specs.Number.{Checked, unrefused}
 use Rattle.refusal.specs.declared.Refusal.TheVariants.{Address}
 use Rattle.shape.specs.declared.FontLine.{FontLine}
@@ -81,18 +81,10 @@ font_line_in f scan = font_line_of f.unshifted f.shifted f.groups scan
 
 -- the same for each of the sixteen scan lines, and one of them
 unfoldable pub font_lines_of : (unshifted shifted groups : List ℕ) → FontLines
-font_lines_of unshifted shifted groups = record {
-  unshifted = tab 16 (position_of unshifted);
-  shifted = tab 16 (position_of shifted);
-  groups = tab 16 (group_in groups);
-}
+font_lines_of unshifted shifted groups = record { each = map (font_line_of unshifted shifted groups) (range_with_len 0 16) }
 
 unfoldable pub font_line_at : FontLines → (scan : ℕ) → FontLine
-font_line_at lines scan = record {
-  unshifted = get_or lines.unshifted scan 0;
-  shifted = get_or lines.shifted scan 0;
-  group = get_or lines.groups scan 0;
-}
+font_line_at lines scan = get_or lines.each scan (record { unshifted = 0; shifted = 0; group = 0 })
 
 -- a shift flag that is not 0 is shifted, and chooses the shifted list
 abbrev pub chosen_by : (flag : ℕ) → FontLine → ℕ

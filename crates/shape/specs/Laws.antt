@@ -2,10 +2,10 @@
 use Rattle.std.specs.Prelude.{ℕ, ◌+◌, ◌*◌, ◌/◌, ◌%◌, ◌<◌, ◌≡◌, refl, Bool, true, false, ◌&&◌, ◌||◌, not, List, length, get_or, eqb, ltb}
 use Rattle.std.proofs.Common.{true≢false, arith, eqb-true}
 use Rattle.std.proofs.lemmas.Bool.{not-false}
+use Rattle.std.proofs.lemmas.List.FromFn.{get_or-map-range_with_len}
 use Rattle.lists.specs.Choice.{pick, neither, pick-lt}
-use Rattle.lists.specs.Tab.{get_or-tab}
 use Rattle.shape.specs.declared.FontLine.{FontLine}
-use Rattle.shape.specs.Font.{Font, Whole, font_refused, position_of, group_in, pair_of, graphics_word, font_line_of, font_line_in, font_lines_of, font_line_at, chosen_by, font_word, word_by, word_of}
+use Rattle.shape.specs.Font.{Font, Whole, font_refused, pair_of, graphics_word, font_line_of, font_line_in, font_lines_of, font_line_at, chosen_by, font_word, word_by, word_of}
 
 pub font-whole : (f : Font) → font_refused f ≡ false → Whole f
 font-whole f e =
@@ -83,6 +83,5 @@ word-of-small f scan graphics code = by-small f.words f.flags (font_line_in f sc
 -- one line of the sixteen is that line
 pub line_at : (unshifted shifted groups : List ℕ) (scan : ℕ) → scan < 16
     → font_line_at (font_lines_of unshifted shifted groups) scan ≡ font_line_of unshifted shifted groups scan
-unfolding font_line_at font_lines_of font_line_of
-line_at unshifted shifted groups scan h =
-    rw (get_or-tab 16 (position_of unshifted) scan h, get_or-tab 16 (position_of shifted) scan h, get_or-tab 16 (group_in groups) scan h)
+unfolding font_line_at font_lines_of
+line_at unshifted shifted groups scan h = get_or-map-range_with_len (font_line_of unshifted shifted groups) 0 16 scan scan _ h (omega arith)

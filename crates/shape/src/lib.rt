@@ -1,11 +1,11 @@
 #![tactic(auto)]
 // The character generator (002): from a code, a scan line and the font to ten dots.
-ghost use Rattle.std.specs.Prelude.{◌≡◌, ◌<◌, length, get_or};
-ghost use Rattle.lists.specs.Tab.{tab};
+ghost use Rattle.std.specs.Prelude.{◌≡◌, ◌<◌, length};
 ghost use Rattle.shape.specs.Font.{font_refused, groups_refused, groups_check, position_of, group_in, font_line_of, font_lines_of, font_line_at, chosen_by, font_word, pair_of, graphics_word, word_by, lent_font};
 ghost use Rattle.shape.specs.Laws.{weight_of};
 
 use refusal::Refusal;
+use units::Unit;
 
 // What a scan line takes from a font: the first position in each of its two lists that equals the scan line, or the list's length; and its group.
 #[derive(Clone, Copy)]
@@ -18,34 +18,23 @@ pub struct FontLine {
 // The same for each of the sixteen scan lines.
 #[derive(Clone, Copy)]
 pub struct FontLines {
-    pub unshifted: [usize; 16],
-    pub shifted: [usize; 16],
-    pub groups: [u8; 16],
+    pub each: [FontLine; 16],
 }
 
 // The first position in a list of line numbers that equals the scan line, or the list's length. Four bits of a line number count.
 fn position(list: &[u8], scan: units::Lines) -> usize
     ensures { result ≡ position_of list.now scan.0 }
 {
-    let mut i = 0;
-    while i < list.len() {
-        let line = units::Lines(list[i] as u32 % 16);
-        if line.same(scan) {
-            return i;
-        }
-        i += 1;
-    }
-    i
+    list.iter()
+        .position(|line| units::Lines(*line as u32 % 16) == scan)
+        .unwrap_or(list.len())
 }
 
 // The group of a scan line; a font without groups has none.
 fn group_at(groups: &[u8], s: usize) -> u8
-    ensures { result ≡ get_or groups.now s 0 }
+    ensures { result ≡ group_in groups.now s }
 {
-    if s < groups.len() {
-        return groups[s];
-    }
-    0
+    groups.get(s).copied().unwrap_or(0)
 }
 
 pub fn font_line(unshifted: &[u8], shifted: &[u8], groups: &[u8], scan: units::Lines) -> FontLine
@@ -58,39 +47,13 @@ pub fn font_line(unshifted: &[u8], shifted: &[u8], groups: &[u8], scan: units::L
     }
 }
 
-// The positions of all scan lines in a list.
-fn positions(list: &[u8]) -> [usize; 16]
-    ensures { result ≡ tab 16 (position_of list.now) }
-{
-    let mut places = [0usize; 16];
-    let mut s: usize = 0;
-    while s < 16 {
-        places[s] = position(list, units::Lines(s as u32));
-        s += 1;
-    }
-    places
-}
-
-// The groups of all scan lines.
-fn groups_of(groups: &[u8]) -> [u8; 16]
-    ensures { result ≡ tab 16 (group_in groups.now) }
-{
-    let mut all = [0u8; 16];
-    let mut s: usize = 0;
-    while s < 16 {
-        all[s] = group_at(groups, s);
-        s += 1;
-    }
-    all
-}
-
 pub fn font_lines(unshifted: &[u8], shifted: &[u8], groups: &[u8]) -> FontLines
     ensures { result ≡ font_lines_of unshifted.now shifted.now groups.now }
 {
     FontLines {
-        unshifted: positions(unshifted),
-        shifted: positions(shifted),
-        groups: groups_of(groups),
+        each: std::array::from_fn(|s| {
+            font_line(unshifted, shifted, groups, units::Lines(s as u32))
+        }),
     }
 }
 
@@ -99,12 +62,7 @@ pub fn font_line_at(lines: FontLines, scan: units::Lines) -> FontLine
     requires { scan.0 < 16 }
     ensures { result ≡ font_line_at lines scan.0 }
 {
-    let s = scan.places();
-    FontLine {
-        unshifted: lines.unshifted[s],
-        shifted: lines.shifted[s],
-        group: lines.groups[s],
-    }
+    lines.each[scan.places()]
 }
 
 // 3, for the five parts of a font.
@@ -129,10 +87,8 @@ fn groups_refused(groups: &[u8]) -> bool
     ensures { result ≡ groups_refused groups.now }
 {
     let mut above = false;
-    let mut i = 0;
-    while i < groups.len() {
-        above = above | (4 < groups[i]);
-        i += 1;
+    for group in groups {
+        above |= 4 < *group;
     }
     above
 }
@@ -174,19 +130,13 @@ fn chosen(flag: u8, line: FontLine) -> usize
 fn weight(group: u8) -> u16
     ensures { result ≡ weight_of group }
 {
-    if group == 1 {
-        return 64;
+    match group {
+        1 => 64,
+        2 => 16,
+        3 => 4,
+        4 => 1,
+        _ => 0,
     }
-    if group == 2 {
-        return 16;
-    }
-    if group == 3 {
-        return 4;
-    }
-    if group == 4 {
-        return 1;
-    }
-    0
 }
 
 // The pair of the code's bits that a group puts out: CA0 and CA1 for group 1, up to CA6 and CA7 for group 4.

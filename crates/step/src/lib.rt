@@ -15,6 +15,7 @@ ghost use Rattle.step.specs.Step.{step_of, clock_in};
 ghost use Rattle.step.specs.Shown.{signals_with, cell_shown, blank_shown, line_in, shown_in, clock_with};
 
 use refusal::Refusal;
+use units::Unit;
 
 #[derive(Clone, Copy)]
 pub struct Signals {
@@ -58,9 +59,10 @@ fn scan_in(b: board::Board, code: u8) -> units::Lines
     ensures { result ≡ lines (scan_in b code) }
 {
     let page = b.page;
-    video::scan_at(page, raster::code_of(code), b.place.line)
+    video::scan_at(page, raster::Code::from(code), b.place.line)
 }
 
+#[tactic(auto, unfolding(timing::specs::Fields::counts_of, timing::specs::Fields::timing_of))]
 fn hsync_in(b: board::Board) -> bool
     ensures { result ≡ hsync_in b }
 {
@@ -69,6 +71,7 @@ fn hsync_in(b: board::Board) -> bool
     b.place.clock.during(t.counts.hact.plus(t.hfp), t.hsync)
 }
 
+#[tactic(auto, unfolding(timing::specs::Fields::counts_of, timing::specs::Fields::timing_of))]
 fn vsync_in(b: board::Board) -> bool
     ensures { result ≡ vsync_in b }
 {
@@ -79,6 +82,7 @@ fn vsync_in(b: board::Board) -> bool
 }
 
 // BLINK and whether the picture is shown are the same on every scan line. So line 0 will do, and nothing is divided.
+#[tactic(auto, unfolding(video::specs::Scene::scene_of, crate::specs::Shown::signals_with))]
 fn signals_of(b: board::Board, active: bool, cursor: bool) -> Signals
     requires { active ≡ active_at b.page b.place }
     ensures { result ≡ signals_with b cursor }
@@ -119,7 +123,7 @@ fn cell_shown(
     let scene = scene_in(b, code);
     let cursor = video::cursor_at(scene, address);
     let byte = attrs[address];
-    let again = raster::again_at(raster::code_of(code), b.place.clock);
+    let again = raster::again_at(raster::Code::from(code), b.place.clock);
     let reading = video::reading_of(page);
     let counted = video::counted_byte(reading, again, byte);
     let valid = raster::latched(counted, held);
@@ -133,6 +137,7 @@ fn cell_shown(
 }
 
 // What is shown off the active clocks: a cell of the blank level, which is the same on every scan line.
+#[tactic(auto, unfolding(crate::specs::Shown::blank_shown))]
 fn blank_shown(b: board::Board) -> Shown
     ensures { result ≡ blank_shown b }
 {
@@ -170,6 +175,7 @@ fn line_in(
 }
 
 // What a clock shows that fetches or holds an address, where held is valid before its cell.
+#[tactic(auto, unfolding(crate::specs::Shown::shown_in))]
 fn shown_in(
     b: board::Board,
     active: bool,
@@ -191,13 +197,6 @@ fn shown_in(
     blank_shown(b)
 }
 
-// Where a column's dots begin among the cell's, each twice.
-fn half_from(odd: bool, d: usize) -> usize
-    ensures { result ≡ pick odd d 0 }
-{
-    if odd { d } else { 0 }
-}
-
 // The twelve dot places of a column of what is shown, of double width or not.
 fn column_dots(b: board::Board, wide: bool, s: Shown) -> [u8; 12]
     requires { (6 ≤ b.page.video.dots.0) × (b.page.video.dots.0 ≤ 12) × (s.word < 1024) }
@@ -209,7 +208,8 @@ fn column_dots(b: board::Board, wide: bool, s: Shown) -> [u8; 12]
     if wide {
         let mut out = [0u8; 12];
         let d = b.page.video.dots.places();
-        let from = half_from(b.place.clock.is_odd(), d);
+        // Where the column's dots begin among the cell's, each twice.
+        let from = if b.place.clock.is_odd() { d } else { 0 };
         dots::halve(&mut out, &cell, from, d);
         return out;
     }
@@ -252,7 +252,7 @@ fn one_clock(
         refusal: Ok(()),
         signals: signals_of(b, active, shown.cursor),
         address: c.beam.address,
-        dots: column_dots(b, active & raster::is_wide(raster::code_of(code)), shown),
+        dots: column_dots(b, active & raster::Code::from(code).is_wide(), shown),
         place: next,
     }
 }
@@ -313,7 +313,7 @@ fn clock_of(
         },
         address: 0,
         dots: [0u8; 12],
-        place: place,
+        place,
     }
 }
 
@@ -338,9 +338,9 @@ pub fn step(
     let place = c.place;
     Stepped {
         refusal: refused,
-        signals: signals,
+        signals,
         address: c.address,
-        dots: dots,
+        dots,
         board: place::with_place(b, place),
     }
 }

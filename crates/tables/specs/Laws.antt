@@ -1,14 +1,13 @@
 -- What a drawer makes of a cell's number and the tables is what the scan line makes of the cell. Assumes nothing.
-use Rattle.std.specs.Prelude.{ℕ, zero, suc, ◌+◌, ◌*◌, ◌/◌, ◌%◌, ◌≤◌, ◌<◌, ◌≡◌, refl, Bool, true, false, ◌&&◌, List, ◌++◌, ltb, leb, eqb, length, get_or, drop}
-use Rattle.std.proofs.Common.{sym, ap, ap₂, ◌∙◌, length-append, length-drop, drop_at, drop-drop}
+use Rattle.std.specs.Prelude.{ℕ, zero, suc, ◌+◌, ◌*◌, ◌/◌, ◌%◌, ◌≤◌, ◌<◌, ◌≡◌, refl, Bool, true, false, ◌&&◌, List, ◌++◌, leb, eqb, length, get_or, take, drop}
+use Rattle.std.proofs.Common.{sym, ◌∙◌, length-take-le}
 use Rattle.std.proofs.Math.Numerals.{add-one}
 use native.Mathlib.Omega.{arith}
-use borrow.Author.Tests.{eqb-true, eqb-false, lt-ltb, lt-leb, le-leb}
+use borrow.Author.Tests.{eqb-true, eqb-false, lt-leb, le-leb}
 use Rattle.std.proofs.Math.ListN.{get_or-append}
-use Rattle.std.proofs.Math.Seq.{drop-append-add}
 use Rattle.lists.specs.Choice.{pick, pick-lt}
 use Rattle.lists.specs.Join.{joined, join-element}
-use Rattle.lists.specs.Tab.{tab, length-tab, get_or-tab, same-tab}
+use Rattle.lists.specs.Tab.{tab, length-tab, get_or-tab, tab-ends}
 use Rattle.raster.specs.declared.Buffer.{Buffer}
 use Rattle.raster.specs.declared.Cell.{Cell}
 use Rattle.raster.specs.Moves.{cell, advance_by}
@@ -27,7 +26,7 @@ use Rattle.video.specs.Look.{look_of}
 use Rattle.video.specs.At.{Content, reading_of, graphics_by, scan_dots, fetched_content}
 use Rattle.dots.specs.Stores.{wide_of}
 use Rattle.dots.specs.Width.{shades, cell-shades}
-use Rattle.tables.specs.Tables.{mark_of, sign_of, number_for, held_by, cell_by, levels_by, levels_of, levels_at, no_word, shown_word, words_at}
+use Rattle.tables.specs.Tables.{mark_of, sign_of, number_for, held_by, cell_by, levels_by, levels_of, levels_at, shown_word, words_at}
 use Rattle.tables.specs.Marks.{mark-look, mark-lt, levels-lt, symbol-of, under_of_lem}
 
 pub length-words : (words flags : List ℕ) (lines : FontLines) (d s : ℕ) → length (words_at words flags lines d s) ≡ 512
@@ -38,39 +37,10 @@ pub length-levels : (b : Board) (field s : ℕ) → length (levels_at b field s)
 unfolding levels_at
 length-levels b field s = length-tab 128 _
 
--- a code below 128 shows nothing
-no_bits : (t : Bool) → 0 ≡ pick t (2 * 0) 0
-no_bits true = refl
-no_bits false = refl
-
-module _ (words flags : List ℕ) (line : FontLine) (d : ℕ) where
-  unshown : (code : ℕ) → code < 128 → no_word code ≡ shown_word words flags line d code
-  unfolding no_word shown_word word_by wide_of
-  unshown code h =
-      let same : code % 256 ≡ code = omega arith in
-      rw (lt-leb 256 code (omega arith), same, lt-ltb code 128 h) (no_bits (ltb 10 d))
-
-  low-codes : tab 128 no_word ≡ tab 128 (shown_word words flags line d)
-  low-codes = same-tab 128 _ _ unshown
-
-  -- a table that was begun with these
-  module _ (t t1 : List ℕ) (room : 256 ≤ length t) (p : t1 ≡ tab 128 no_word ++ drop 128 t) where
-    pub begun-room : 256 ≤ length t1
-    begun-room =
-        let e : length t1 ≡ length t = ap length p ∙ simp (length-append, length-drop, length-tab) (omega arith) in
-        omega (arith, e)
-
-    pub begun : t1 ≡ tab 128 (shown_word words flags line d) ++ drop 128 t1
-    begun =
-        let back : drop 128 t1 ≡ drop 128 t = rw p (drop_at (tab 128 no_word) (drop 128 t) 128 (length-tab 128 no_word)) in
-        p ∙ ap₂ (λ (a b : List ℕ). a ++ b) low-codes (sym back)
-
-    pub ended : (out : List ℕ) → out ≡ tab 256 (shown_word words flags line d) ++ drop 256 t1 → out ≡ tab 256 (shown_word words flags line d) ++ drop 256 t
-    ended out q =
-        let a : List ℕ = tab 128 no_word in
-        let k : length a ≡ 128 = length-tab 128 no_word in
-        let back : drop 256 t1 ≡ drop 256 t = (rw p (ap (λ (i : ℕ). drop (i + 128) (a ++ drop 128 t)) (sym k)) ∙ drop-append-add a (drop 128 t) 128 ∙ drop-drop 128 128 t) in
-        q ∙ rw back
+-- a table's front, when the loop over it has come to its end
+pub tab-front : (f : ℕ → ℕ) (n : ℕ) (table front : List ℕ) (i : ℕ) → front ≡ tab i f ++ drop i (take n table) → n ≤ length table
+    → length (take n table) ≤ i → i ≤ length (take n table) → front ≡ tab n f
+tab-front f n table front i e room l h = rw (length-take-le n table room) at (tab-ends f (take n table) front i e (omega arith))
 
 -- a sign has its mode and its code
 module _ (code : ℕ) (h : code < 256) where

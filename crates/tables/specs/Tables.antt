@@ -9,7 +9,7 @@ use Rattle.raster.specs.Latch.{sets_of, last_set}
 use Rattle.board.specs.declared.Board.{Board}
 use Rattle.shape.specs.declared.FontLine.{FontLine}
 use Rattle.shape.specs.declared.FontLines.{FontLines}
-use Rattle.shape.specs.Font.{font_line_at, graphics_word, word_by}
+use Rattle.shape.specs.Font.{font_line_at, word_by}
 use Rattle.video.specs.declared.Scene.{Scene}
 use Rattle.video.specs.declared.Look.{Look}
 use Rattle.video.specs.declared.Reading.{Reading}
@@ -55,17 +55,13 @@ levels_of s mark = levels_by (look_of s mark (s.gate && eqb (mark / 64 % 2) 1))
 unfoldable pub levels_at : Board → (field scan : ℕ) → List ℕ
 levels_at b field scan = tab 128 (levels_of (scene_of b scan field))
 
--- a sign's dots on a scan line, as the low bits of a number
+-- a code's dots on a scan line, in graphics mode or not, as the low bits of a number
+abbrev pub code_word : (words flags : List ℕ) → FontLine → (graphics : Bool) → (d code : ℕ) → ℕ
+code_word words flags line graphics d code = wide_of (word_by words flags line graphics code) d
+
+-- those of a sign
 unfoldable pub shown_word : (words flags : List ℕ) → FontLine → (d sign : ℕ) → ℕ
-shown_word words flags line d sign = wide_of (word_by words flags line (leb 256 sign) (sign % 256)) d
-
--- those of a code in graphics mode
-unfoldable pub pair_word : (group d code : ℕ) → ℕ
-pair_word group d code = wide_of (graphics_word group code) d
-
--- of a code below 128
-unfoldable pub no_word : ℕ → ℕ
-no_word code = 0
+shown_word words flags line d sign = code_word words flags line (leb 256 sign) d (sign % 256)
 
 unfoldable pub words_at : (words flags : List ℕ) → FontLines → (d scan : ℕ) → List ℕ
 words_at words flags lines d scan = tab 512 (shown_word words flags (font_line_at lines scan) d)

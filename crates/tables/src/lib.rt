@@ -1,11 +1,15 @@
 #![tactic(auto)]
 // What lines and pictures are drawn from: cells as numbers, tables by mark and by sign.
-ghost use Rattle.std.specs.Prelude.{◌≡◌, ◌++◌, ◌+◌, ◌-◌, ◌*◌, ◌/◌, ◌%◌, ◌≤◌, ◌<◌, length, drop};
+ghost use Rattle.std.specs.Prelude.{◌≡◌, ◌++◌, ◌+◌, ◌*◌, ◌/◌, ◌%◌, ◌≤◌, ◌<◌, length, get_or, eqb, drop};
 ghost use Rattle.lists.specs.Choice.{pick};
 ghost use Rattle.lists.specs.Tab.{tab};
 ghost use Rattle.raster.specs.Moves.{Bounded};
+ghost use Rattle.raster.specs.Latch.{latched};
+ghost use Rattle.video.specs.At.{fetched_content};
 ghost use Rattle.tables.specs.Run.{whole};
-ghost use Rattle.tables.specs.Tables.{cell_number, levels_for, no_word, shown_word, pair_word, Gathers, looks_put, looks_filled, words_filled};
+ghost use Rattle.tables.specs.Tables.{cell_number, number_for, levels_for, code_word, shown_word, Gathers, looks_put, looks_filled, words_filled};
+
+use units::Unit;
 
 // What attribute bit 5 adds to a code: 256 if it means graphics. A number, since a test in the loop would keep the compiler from making vectors.
 fn graphics_step(graphics: bool) -> u16
@@ -41,6 +45,27 @@ fn run_on(runs: bool, valid: u8, held: u8) -> u8
     if runs { valid } else { held }
 }
 
+// The number of the cell at an address, where held is valid before it; and what is valid after it.
+fn cell_at(
+    chars: &[u8],
+    attrs: &[u8],
+    k: video::Reading,
+    at: usize,
+    here: bool,
+    held: u8,
+) -> (u16, u8)
+    requires { (length chars.now ≡ 16384) × (length attrs.now ≡ 16384) × (at < 16384) × (here ≡ eqb at k.cursor) }
+    ensures { (result.0 ≡ number_for k (fetched_content k chars.now attrs.now held at))
+        × (result.1 ≡ pick k.runs (latched (get_or attrs.now at 0) held) held) }
+{
+    let byte = attrs[at];
+    let code = video::shown_code(k.hidden, chars[at], byte);
+    let attributes = raster::latched(byte, held);
+    let sign = sign_of(graphics_step(k.graphics), attributes, code);
+    let number = cell_number(sign, attributes, here);
+    (number, run_on(k.runs, attributes, held))
+}
+
 // The cells of a row that are one run. The compiler makes vectors of it unless attributes run on. All in them has sixteen bits, the cell's address too.
 fn gather_run(
     cells: &mut [u16],
@@ -56,18 +81,10 @@ fn gather_run(
         cells.old result cells.new }
 {
     let first = from as u16;
-    let step = graphics_step(k.graphics);
     let mut valid = held;
-    let mut c = 0;
-    while c < n {
-        let at = from + c;
-        let byte = attrs[at];
-        let code = video::shown_code(k.hidden, chars[at], byte);
-        let attributes = raster::latched(byte, valid);
-        let sign = sign_of(step, attributes, code);
-        cells[c] = cell_number(sign, attributes, first + c as u16 == k.cursor);
-        valid = run_on(k.runs, attributes, valid);
-        c += 1;
+    for (c, number) in cells[..n].iter_mut().enumerate() {
+        let here = first + c as u16 == k.cursor;
+        (*number, valid) = cell_at(chars, attrs, k, from + c, here, valid);
     }
     valid
 }
@@ -87,21 +104,13 @@ fn gather_round(
     ensures { Gathers k chars.now attrs.now buffer held start.address n
         cells.old result cells.new }
 {
-    let step = graphics_step(k.graphics);
     let mut cell = start;
     let mut valid = held;
-    let mut c = 0;
-    while c < n {
-        let address = cell.address;
-        let at = address as usize;
-        let byte = attrs[at];
-        let code = video::shown_code(k.hidden, chars[at], byte);
-        let attributes = raster::latched(byte, valid);
-        let sign = sign_of(step, attributes, code);
-        cells[c] = cell_number(sign, attributes, address == k.cursor);
-        valid = run_on(k.runs, attributes, valid);
+    for number in cells[..n].iter_mut() {
+        let at = cell.address as usize;
+        let here = cell.address == k.cursor;
+        (*number, valid) = cell_at(chars, attrs, k, at, here, valid);
         cell = raster::advance_one(buffer, cell);
-        c += 1;
     }
     valid
 }
@@ -142,10 +151,8 @@ fn half(table: &mut [u8], s: video::Scene, here: bool)
     requires { (64 ≤ length table.old) × (s.blank < 4) }
     ensures { table.new ≡ tab 64 (levels_for s here) ++ drop 64 table.old }
 {
-    let mut i: usize = 0;
-    while i < 64 {
-        table[i] = levels(s, i as u8, here);
-        i += 1;
+    for (attributes, number) in table[..64].iter_mut().enumerate() {
+        *number = levels(s, attributes as u8, here);
     }
 }
 
@@ -158,68 +165,48 @@ pub fn looks(table: &mut [u8], s: video::Scene)
     half(&mut table[64..], s, true);
 }
 
-// Those of n scan lines, end to end.
+// Those of n scan lines, end to end. One function for this loop and that of `fill_words` would take the filling as a closure with clauses, and be longer.
 pub fn fill_looks(table: &mut [u8], b: board::Board, field: u8, n: units::Lines)
     requires { (n.0 ≤ 16) × (n.0 * 128 ≤ length table.old) }
     ensures { table.new ≡ looks_filled b field n.0 table.old }
 {
-    let count = n.places();
-    let mut s: usize = 0;
-    while s < count {
+    for s in 0..n.places() {
         let scene = video::scene_of(b, units::Lines(s as u32), field);
-        let a = s * 128;
-        looks(&mut table[a..], scene);
-        s += 1;
+        looks(&mut table[s * 128..], scene);
     }
 }
 
-// The codes below 128, which show nothing.
-fn no_words(table: &mut [u16])
-    requires { 128 ≤ length table.old }
-    ensures { table.new ≡ tab 128 no_word ++ drop 128 table.old }
-{
-    let mut i: usize = 0;
-    while i < 128 {
-        table[i] = 0;
-        i += 1;
-    }
-}
-
-// A scan line's table by code, in character mode: a number whose low bits are the dots.
-fn letter_words(table: &mut [u16], words: &[u16], flags: &[u8], line: shape::FontLine, d: usize)
-    requires { (length words.now ≡ 1152) × (length flags.now ≡ 128) × (256 ≤ length table.old) }
+// A scan line's table by code, in graphics mode or not: numbers whose low bits are the dots. Those of the codes below the first stand there already.
+fn code_words(
+    table: &mut [u16],
+    first: usize,
+    words: &[u16],
+    flags: &[u8],
+    line: shape::FontLine,
+    graphics: bool,
+    d: usize,
+)
+    requires fit { (length words.now ≡ 1152) × (length flags.now ≡ 128) × (256 ≤ length table.old) × (first ≤ 256) }
+    requires begun { table.old
+        ≡ tab first (code_word words.now flags.now line graphics d) ++ drop first table.old }
     ensures { table.new
-        ≡ tab 256 (shown_word words.now flags.now line d) ++ drop 256 table.old }
+        ≡ tab 256 (code_word words.now flags.now line graphics d) ++ drop 256 table.old }
 {
-    no_words(table);
-    let mut i: usize = 128;
-    while i < 256 {
-        let word = shape::word_by(words, flags, line, false, i as u8);
-        table[i] = dots::wide(word, d);
-        i += 1;
+    for code in first..256 {
+        let word = shape::word_by(words, flags, line, graphics, code as u8);
+        table[code] = dots::wide(word, d);
     }
 }
 
-// The same in graphics mode.
-fn pair_words(table: &mut [u16], group: u8, d: usize)
-    requires { 256 ≤ length table.old }
-    ensures { table.new ≡ tab 256 (pair_word group d) ++ drop 256 table.old }
-{
-    let mut i: usize = 0;
-    while i < 256 {
-        table[i] = dots::wide(shape::graphics_word(group, i as u8), d);
-        i += 1;
-    }
-}
-
-// A scan line's table by sign.
+// A scan line's table by sign: the codes in character mode, of which those below 128 show nothing, and then in graphics mode.
 fn shown_words(table: &mut [u16], words: &[u16], flags: &[u8], line: shape::FontLine, d: usize)
     requires { (length words.now ≡ 1152) × (length flags.now ≡ 128) × (512 ≤ length table.old) }
     ensures { table.new
         ≡ tab 512 (shown_word words.now flags.now line d) ++ drop 512 table.old }
 {
-    letter_words(table, words, flags, line, d);
-    pair_words(&mut table[256..], line.group, d);
+    table[..128].fill(0);
+    code_words(table, 128, words, flags, line, false, d);
+    code_words(&mut table[256..], 0, words, flags, line, true, d);
 }
 
 // Those of n scan lines, end to end.
@@ -234,12 +221,8 @@ pub fn fill_words(
     requires { (length words.now ≡ 1152) × (length flags.now ≡ 128) × (n.0 ≤ 16) × (n.0 * 512 ≤ length table.old) }
     ensures { table.new ≡ words_filled words.now flags.now lines n.0 d table.old }
 {
-    let count = n.places();
-    let mut s: usize = 0;
-    while s < count {
+    for s in 0..n.places() {
         let line = shape::font_line_at(lines, units::Lines(s as u32));
-        let a = s * 512;
-        shown_words(&mut table[a..], words, flags, line, d);
-        s += 1;
+        shown_words(&mut table[s * 512..], words, flags, line, d);
     }
 }

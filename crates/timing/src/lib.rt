@@ -6,6 +6,7 @@ ghost use Rattle.timing.specs.Fields.{coded_of, scans_of, lines_of, ec_of, table
 ghost use Rattle.timing.specs.Check.{reserved_refused, back_porch_refused, line_short, front_porch_refused, missing, width_refused, page_check, size_of, state_refused, call_check};
 
 use refusal::Refusal;
+use units::Unit;
 
 // A line's and a frame's front porch and sync, and the counts that the beam goes by.
 #[derive(Clone, Copy)]
@@ -236,14 +237,14 @@ fn back_porch_refused(p: board::Page) -> bool
 fn line_short(p: board::Page) -> bool
     ensures { result ≡ line_short p }
 {
-    ht_of(p).below(rest_of(p))
+    ht_of(p) < rest_of(p)
 }
 
 // 15: a front porch of 0 or 1.
 fn front_porch_refused(p: board::Page) -> bool
     ensures { result ≡ front_porch_refused p }
 {
-    hfp_of(p).below(units::Clocks(2))
+    hfp_of(p) < units::Clocks(2)
 }
 
 // By how many clocks the front porch misses 2.
@@ -257,7 +258,7 @@ fn missing(p: board::Page) -> units::Clocks
 pub fn width_refused(d: units::Dots) -> bool
     ensures { result ≡ width_refused d }
 {
-    d.below(units::Dots(6)) | units::Dots(12).below(d)
+    (d < units::Dots(6)) | (units::Dots(12) < d)
 }
 
 // 12, 4, 13, 14, 15, 6, in this order.
@@ -308,8 +309,8 @@ pub fn state_refused(b: board::Board) -> bool
 {
     let page = b.page;
     let place = b.place;
-    vt_of(page).at_most(place.line)
-        | ht_of(page).at_most(place.clock)
+    (vt_of(page) <= place.line)
+        | (ht_of(page) <= place.clock)
         | board::cells_refused(place)
         | board::pointer_refused(page, b.pointer)
 }

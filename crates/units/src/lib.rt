@@ -3,96 +3,137 @@
 // Only here is a count's plain number worked with: sums and comparisons within a unit, the conversions between them, and
 // those to cells of a row and places of a buffer, which are plain numbers. Elsewhere it is only handed on: to C, as the
 // number next to a refusal, to a file, to the listing. The functions of `callers*` read it as C does.
-ghost use Rattle.std.specs.Prelude.{◌≡◌, min, ◌+◌, ◌-◌, ◌*◌, ◌/◌, ◌%◌, ◌<◌, ◌^◌, eqb, ltb, leb};
-ghost use Rattle.units.specs.Units.{clocks, lines, during, clocks_of, dots_of, whole_lines};
+ghost use Rattle.std.specs.Prelude.{ℕ, ◌≡◌, ◌+◌, ◌-◌, ◌*◌, ◌/◌, ◌%◌, ◌<◌, ◌^◌, eqb};
+ghost use Rattle.units.specs.Units.{clocks, lines, dots, during, clocks_of, dots_of, whole_lines};
 
 #[repr(C)]
-#[derive(Clone, Copy)]
+#[derive(Clone, Copy, PartialEq, Eq, PartialOrd, Ord)]
 pub struct Clocks(pub u32);
 
 #[repr(C)]
-#[derive(Clone, Copy)]
+#[derive(Clone, Copy, PartialEq, Eq, PartialOrd, Ord)]
 pub struct Lines(pub u32);
 
 #[repr(C)]
-#[derive(Clone, Copy)]
+#[derive(Clone, Copy, PartialEq, Eq, PartialOrd, Ord)]
 pub struct Dots(pub u32);
 
-// a - b, and 0 where b is more.
-fn less(a: u32, b: u32) -> u32
-    ensures { result ≡ a - b }
-{
-    if b <= a { a - b } else { 0 }
-}
+// What can be done with a count of any unit: the unit is kept.
+pub trait Unit: Copy {
+    ghost of: { ℕ → Self };
 
-fn smaller(a: u32, b: u32) -> u32
-    ensures { result ≡ min a b }
-{
-    if a < b { a } else { b }
-}
+    ghost count: { Self → ℕ };
 
-impl Clocks {
-    pub fn below(self, n: Clocks) -> bool
-        ensures { result ≡ ltb self.0 n.0 }
+    fn of(n: u32) -> Self
+        ensures { result ≡ of n };
+
+    fn count(self) -> u32
+        ensures { result ≡ count self };
+
+    fn plus(self, n: Self) -> Self
+        requires { count self + count n < 2 ^ 32 }
+        ensures { result ≡ of (count self + count n) }
     {
-        self.0 < n.0
-    }
-
-    pub fn at_most(self, n: Clocks) -> bool
-        ensures { result ≡ leb self.0 n.0 }
-    {
-        self.0 <= n.0
-    }
-
-    pub fn same(self, n: Clocks) -> bool
-        ensures { result ≡ eqb self.0 n.0 }
-    {
-        self.0 == n.0
-    }
-
-    pub fn plus(self, n: Clocks) -> Clocks
-        requires { self.0 + n.0 < 2 ^ 32 }
-        ensures { result ≡ clocks (self.0 + n.0) }
-    {
-        Clocks(self.0 + n.0)
+        Self::of(self.count() + n.count())
     }
 
     // None where n is more.
-    pub fn minus(self, n: Clocks) -> Clocks
-        ensures { result ≡ clocks (self.0 - n.0) }
+    fn minus(self, n: Self) -> Self
+        ensures { result ≡ of (count self - count n) }
     {
-        Clocks(less(self.0, n.0))
+        Self::of(self.count().saturating_sub(n.count()))
     }
 
-    pub fn times(self, k: u32) -> Clocks
-        requires { k * self.0 < 2 ^ 32 }
-        ensures { result ≡ clocks (k * self.0) }
+    fn times(self, k: u32) -> Self
+        requires { k * count self < 2 ^ 32 }
+        ensures { result ≡ of (k * count self) }
     {
-        Clocks(k * self.0)
+        Self::of(k * self.count())
     }
 
-    pub fn least(self, n: Clocks) -> Clocks
-        ensures { result ≡ clocks (min self.0 n.0) }
+    // From a count on, n of them.
+    fn during(self, from: Self, n: Self) -> bool
+        requires { count from + count n < 2 ^ 32 }
+        ensures { result ≡ during (count from) (count n) (count self) }
     {
-        Clocks(smaller(self.0, n.0))
+        (from.count() <= self.count()) & (self.count() < from.count() + n.count())
     }
 
-    // From a clock on, n of them.
-    pub fn during(self, from: Clocks, n: Clocks) -> bool
-        requires { from.0 + n.0 < 2 ^ 32 }
-        ensures { result ≡ during from.0 n.0 self.0 }
+    // How many times n is in it.
+    fn quotient(self, n: Self) -> u32
+        requires { 0 < count n }
+        ensures { result ≡ count self / count n }
     {
-        (from.0 <= self.0) & (self.0 < from.0 + n.0)
+        self.count() / n.count()
     }
 
-    // What is left over of a line of so many clocks.
-    pub fn remainder(self, line: Clocks) -> Clocks
-        requires { 0 < line.0 }
-        ensures { result ≡ clocks (self.0 % line.0) }
+    // What is left over.
+    fn remainder(self, n: Self) -> Self
+        requires { 0 < count n }
+        ensures { result ≡ of (count self % count n) }
     {
-        Clocks(self.0 % line.0)
+        Self::of(self.count() % n.count())
     }
 
+    // Half of them, rounded down.
+    fn half(self) -> Self
+        ensures { result ≡ of (count self / 2) }
+    {
+        Self::of(self.count() / 2)
+    }
+
+    // The places that so many take in a buffer or a table, one each.
+    fn places(self) -> usize
+        ensures { result ≡ count self }
+    {
+        self.count() as usize
+    }
+}
+
+impl Unit for Clocks {
+    ghost of = { clocks };
+
+    ghost count = { λ n. n.0 };
+
+    fn of(n: u32) -> Clocks {
+        Clocks(n)
+    }
+
+    fn count(self) -> u32 {
+        self.0
+    }
+}
+
+impl Unit for Lines {
+    ghost of = { lines };
+
+    ghost count = { λ n. n.0 };
+
+    fn of(n: u32) -> Lines {
+        Lines(n)
+    }
+
+    fn count(self) -> u32 {
+        self.0
+    }
+}
+
+impl Unit for Dots {
+    ghost of = { dots };
+
+    ghost count = { λ n. n.0 };
+
+    fn of(n: u32) -> Dots {
+        Dots(n)
+    }
+
+    fn count(self) -> u32 {
+        self.0
+    }
+}
+
+// Clocks are also those of a row's cells.
+impl Clocks {
     // The second clock of a pair, where they are counted from 0.
     pub fn is_odd(self) -> bool
         ensures { result ≡ eqb (self.0 % 2) 1 }
@@ -118,102 +159,7 @@ impl Clocks {
     pub fn pairs_begun(self) -> u32
         ensures { result ≡ (self.0 + 1) / 2 }
     {
-        self.0 / 2 + self.0 % 2
-    }
-}
-
-impl Lines {
-    pub fn below(self, n: Lines) -> bool
-        ensures { result ≡ ltb self.0 n.0 }
-    {
-        self.0 < n.0
-    }
-
-    pub fn at_most(self, n: Lines) -> bool
-        ensures { result ≡ leb self.0 n.0 }
-    {
-        self.0 <= n.0
-    }
-
-    pub fn same(self, n: Lines) -> bool
-        ensures { result ≡ eqb self.0 n.0 }
-    {
-        self.0 == n.0
-    }
-
-    pub fn plus(self, n: Lines) -> Lines
-        requires { self.0 + n.0 < 2 ^ 32 }
-        ensures { result ≡ lines (self.0 + n.0) }
-    {
-        Lines(self.0 + n.0)
-    }
-
-    // None where n is more.
-    pub fn minus(self, n: Lines) -> Lines
-        ensures { result ≡ lines (self.0 - n.0) }
-    {
-        Lines(less(self.0, n.0))
-    }
-
-    // The lines of k rows, where a row has so many.
-    pub fn times(self, k: u32) -> Lines
-        requires { k * self.0 < 2 ^ 32 }
-        ensures { result ≡ lines (k * self.0) }
-    {
-        Lines(k * self.0)
-    }
-
-    // From a line on, n of them.
-    pub fn during(self, from: Lines, n: Lines) -> bool
-        requires { from.0 + n.0 < 2 ^ 32 }
-        ensures { result ≡ during from.0 n.0 self.0 }
-    {
-        (from.0 <= self.0) & (self.0 < from.0 + n.0)
-    }
-
-    // How many rows or frames of n lines each.
-    pub fn quotient(self, n: Lines) -> u32
-        requires { 0 < n.0 }
-        ensures { result ≡ self.0 / n.0 }
-    {
-        self.0 / n.0
-    }
-
-    // What is left over of them.
-    pub fn remainder(self, n: Lines) -> Lines
-        requires { 0 < n.0 }
-        ensures { result ≡ lines (self.0 % n.0) }
-    {
-        Lines(self.0 % n.0)
-    }
-
-    // Half of them, rounded down.
-    pub fn half(self) -> Lines
-        ensures { result ≡ lines (self.0 / 2) }
-    {
-        Lines(self.0 / 2)
-    }
-
-    // The places that so many lines take in a buffer or a table, one each.
-    pub fn places(self) -> usize
-        ensures { result ≡ self.0 }
-    {
-        self.0 as usize
-    }
-}
-
-impl Dots {
-    pub fn below(self, n: Dots) -> bool
-        ensures { result ≡ ltb self.0 n.0 }
-    {
-        self.0 < n.0
-    }
-
-    // The places that so many dots take in a buffer, one each.
-    pub fn places(self) -> usize
-        ensures { result ≡ self.0 }
-    {
-        self.0 as usize
+        self.0.div_ceil(2)
     }
 }
 

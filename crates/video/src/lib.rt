@@ -12,6 +12,7 @@ ghost use Rattle.shape.specs.Font.{lent_font};
 ghost use Rattle.video.specs.At.{lent_refused, lent_by, lent_check, reading_of, graphics_by, scan_of, scan_at, counted_byte, shown_code};
 
 use refusal::Refusal;
+use units::Unit;
 
 // What is the same for all cells of a scan line: whether the picture is shown, the blank level, BKGND, BLINK, whether this is the
 // underline line and the strike line, whether the cursor gate opens on this line, and at which address.
@@ -57,6 +58,7 @@ struct Case {
 }
 
 // A line of it: what it asks of each input, and what it gives, the level of the symbol, underline and strike-through too, and that of its surround.
+// Marks and levels are numbers, since `table1` of specs/Table.antt is the paper's table with its 0s and 1s; levels are bytes of the picture too.
 #[derive(Clone, Copy)]
 struct TableLine {
     blank: u8,
@@ -91,7 +93,7 @@ fn cursor_gate(k: timing::CursorLook, on: bool, scan: units::Lines, field: u8) -
     ensures { result ≡ cursor_gate k on scan.0 field }
 {
     let half = (field as u32 % k.period) < k.period / 2;
-    on & k.first.at_most(scan) & scan.at_most(k.last) & (!k.blinks | half)
+    on & (k.first <= scan) & (scan <= k.last) & (!k.blinks | half)
 }
 
 // Black, gray, white.
@@ -117,31 +119,30 @@ fn line(
     ensures { result ≡ line blank rblank bkgnd reverse ahilt nondisplay symbol surround }
 {
     TableLine {
-        blank: blank,
-        rblank: rblank,
-        bkgnd: bkgnd,
-        reverse: reverse,
-        ahilt: ahilt,
-        nondisplay: nondisplay,
-        symbol: symbol,
-        surround: surround,
+        blank,
+        rblank,
+        bkgnd,
+        reverse,
+        ahilt,
+        nondisplay,
+        symbol,
+        surround,
     }
-}
-
-fn bit(t: bool) -> u8
-    ensures { result ≡ pick t 1 0 }
-{
-    if t { 1 } else { 0 }
 }
 
 // Of two sides whose lines differ in a column, the one whose mark there, the first side's, is met by the input.
 fn of_two(mark: u8, t: bool, a: TableLine, b: TableLine) -> TableLine
     ensures { result ≡ of_two mark t a b }
 {
-    if (mark == D) | (mark == bit(t)) { a } else { b }
+    if (mark == D) | (mark == u8::from(t)) {
+        a
+    } else {
+        b
+    }
 }
 
 // Of eight lines that count upward in REVERSE, AHILT and NON-DISPLAY.
+#[tactic(auto, unfolding(crate::specs::Table::of_eight))]
 fn of_eight(
     k: Case,
     l1: TableLine,
@@ -202,8 +203,8 @@ fn blank_level(rblank: bool, bkgnd: bool) -> u8
 {
     let found = table_1(Case {
         blank: true,
-        rblank: rblank,
-        bkgnd: bkgnd,
+        rblank,
+        bkgnd,
         reverse: false,
         ahilt: false,
         nondisplay: false,
@@ -221,10 +222,10 @@ pub fn scene_of(b: board::Board, scan: units::Lines, field: u8) -> Scene
     Scene {
         shown: has(s, 1) & (2 <= b.resets),
         blank: blank_level(has(s, 8), bkgnd),
-        bkgnd: bkgnd,
+        bkgnd,
         blink: blink_at(timing::blink_of(page), field),
-        underline: scan.same(timing::underline_of(page)),
-        strike: !board::chip_b(page) & scan.same(strike),
+        underline: scan == timing::underline_of(page),
+        strike: !board::chip_b(page) & (scan == strike),
         gate: cursor_gate(timing::cursor_of(page), has(s, 2), scan, field),
         cursor: b.page.starts.cursor,
     }
@@ -260,10 +261,10 @@ pub fn scan_of(k: raster::Code, of: units::Lines, line: units::Lines) -> units::
     requires { (of.0 ≤ 32) × (line.0 ≤ 32) }
     ensures { result ≡ lines (scan_of k of.0 line.0) }
 {
-    if raster::is_top(k) {
+    if k.is_top() {
         return line.half();
     }
-    if raster::is_bottom(k) {
+    if k.is_bottom() {
         return of.plus(line).half();
     }
     line
@@ -291,12 +292,6 @@ pub fn shown_code(hidden: bool, code: u8, byte: u8) -> u8
     if hidden & (128 <= byte) { 0 } else { code }
 }
 
-fn exclusive(a: bool, b: bool) -> bool
-    ensures { result ≡ xor a b }
-{
-    a ^ b
-}
-
 // The look of a cell from the attributes that are valid at it, and CURSOR.
 pub fn look_of(s: Scene, attributes: u8, cursor: bool) -> Look
     ensures { result ≡ look_of s attributes cursor }
@@ -310,12 +305,12 @@ pub fn look_of(s: Scene, attributes: u8, cursor: bool) -> Look
     }
     let highlight = has(attributes, 16);
     let hidden = has(attributes, 2) | (has(attributes, 4) & s.blink);
-    let reverse = exclusive(has(attributes, 1), cursor);
+    let reverse = has(attributes, 1) ^ cursor;
     let found = table_1(Case {
         blank: false,
         rblank: false,
         bkgnd: s.bkgnd,
-        reverse: reverse,
+        reverse,
         ahilt: highlight,
         nondisplay: hidden,
     });

@@ -10,4 +10,4 @@ pub returns : goal.returns
 returns c =
     last-put c.args.symbol c.args.surround c.args.d _ _ c.args.out.now _ c.requires.0 c.requires.2
     (four-shades _ _ (search rules) (search rules) _ _ (rw c.nibble.ensures at c.mix-last.ensures))
-    c.four.ensures
+    c.store.ensures

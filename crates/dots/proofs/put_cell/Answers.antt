@@ -6,7 +6,7 @@ use Rattle.dots.proofs.put_cell.Goals as goal
 pub returns-then-d-gt8 : goal.returns-then-d-gt8
 returns-then-d-gt8 c =
     put-broad c.args.levels c.args.word c.requires.1 c.blend-first.ensures c.args.out.now (reach-broad c.args.tight c.args.d c.if-d-gt8.true) c.if-d-gt8.true c.requires.3
-    c.blend-last.ensures c.broad.ensures
+    c.blend-last.ensures c.ends.ensures
 
 pub returns-then-tight : goal.returns-then-tight
 returns-then-tight c =
@@ -14,4 +14,4 @@ returns-then-tight c =
 
 pub returns-else-tight : goal.returns-else-tight
 returns-else-tight c =
-    put-narrow c.args.levels c.args.word c.requires.1 c.blend-first.ensures c.args.out.now (reach-eight c.if-tight.false c.args.d (omega (arith, c.if-d-gt8.false))) (omega arith) c.eight.ensures
+    put-narrow c.args.levels c.args.word c.requires.1 c.blend-first.ensures c.args.out.now (reach-eight c.if-tight.false c.args.d (omega (arith, c.if-d-gt8.false))) (omega arith) c.store.ensures

@@ -19,7 +19,7 @@ pub returns-then-d-eq8 : goal.returns-then-d-eq8
 returns-then-d-eq8 c =
     let stored : (n : ℕ) → n ≤ 8
     → bytes_of n c.mix-first.result ≡ shades c.args.symbol c.args.surround n c.wide-w.result = λ n h. stored-shades _ _ (search rules) (search rules) _ n _ (rw c.spread.ensures at c.mix-first.ensures) h in
-    c.eight.ensures
+    c.store.ensures
     ∙ rw (← c.wide-w.ensures, c.if-d-eq8.true) (ap (λ (l : List ℕ). l ++ drop 8 c.args.out.now) (stored 8 (omega arith)))
 
 pub returns-then-d-lt8 : goal.returns-then-d-lt8
@@ -36,5 +36,5 @@ returns-else-d-lt8 c =
     → bytes_of n c.mix-first.result ≡ shades c.args.symbol c.args.surround n c.wide-w.result = λ n h. stored-shades _ _ (search rules) (search rules) _ n _ (rw c.spread.ensures at c.mix-first.ensures) h in
     rw (← c.wide-w.ensures)
     (eight-last c.args.symbol c.args.surround c.args.d c.wide-w.result c.args.out.now _ _ over c.requires.2 c.requires.3
-    (c.eight-else-d-lt8.ensures ∙ ap (λ (l : List ℕ). l ++ drop 8 c.args.out.now) (stored 8 (omega arith)))
+    (c.store-else-d-lt8.ensures ∙ ap (λ (l : List ℕ). l ++ drop 8 c.args.out.now) (stored 8 (omega arith)))
     c.last_four.ensures)

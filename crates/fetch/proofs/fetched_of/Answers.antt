@@ -8,10 +8,10 @@ pub returns-then-is_wide : goal.returns-then-is_wide
 unfolding timing_of counts_of
 returns-then-is_wide c =
     rw (c.pairs_begun.ensures, c.timing_of-t.ensures)
-    (fetched-by _ _ _ (sym c.if-is_wide.true ∙ wide_is _ _ _ c.is_wide.ensures c.code_of-code.ensures c.code_at.ensures))
+    (fetched-by _ _ _ (sym c.if-is_wide.true ∙ wide_is _ _ _ c.is_wide.ensures c.from-code.ensures c.code_at.ensures))
 
 pub returns : goal.returns
 unfolding timing_of counts_of
 returns c =
     rw (c.cells.ensures, c.timing_of-t.ensures)
-    (fetched-by _ _ _ (sym c.if-is_wide.false ∙ wide_is _ _ _ c.is_wide.ensures c.code_of-code.ensures c.code_at.ensures))
+    (fetched-by _ _ _ (sym c.if-is_wide.false ∙ wide_is _ _ _ c.is_wide.ensures c.from-code.ensures c.code_at.ensures))

@@ -1,5 +1,5 @@
 -- Rests on the loop that lends each turn its own stretch (lists Join), one cell a turn.
-use Prim.Native.Nat.{◌≤◌, ◌-◌, ◌*◌}
+use Prim.Native.Nat.{◌-◌, ◌*◌}
 use mathlib.Core.List.{◌++◌}
 use lib.ListN.{drop}
 use Rattle.lists.specs.Fill.{Filling}
@@ -9,9 +9,5 @@ use Rattle.line.proofs.cells.Given as goal
 
 abbrev pub invariant-loop-c : goal.invariant-loop-c
 invariant-loop-c l =
-    (l.c ≤ l.n)
-    × Filling (joined 0 l.n (column_for l.w l.row l.looks l.words l.flags) ++ drop (l.n * l.d) l.initial.out) l.initial.out (l.n * l.d) l.out (l.c * l.d)
+    Filling (joined 0 l.n (column_for l.w l.row l.looks l.words l.flags) ++ drop (l.n * l.d) l.initial.out) l.initial.out (l.n * l.d) l.out (l.c * l.d)
     (joined l.c (l.n - l.c) (column_for l.w l.row l.looks l.words l.flags))
-
-abbrev pub decreases-loop-c : goal.decreases-loop-c
-decreases-loop-c l = l.n - l.c

@@ -34,7 +34,7 @@ columns-requires c =
     let prepared : Prepared c.args.b c.args.chars.now c.args.attrs.now c.args.font c.args.line.0
     c.args.field c.timing_of-t.result.counts.hact.0 c.walk_of-w.result c.is_wide-wide.result
     c.gather.new.cells c.looks.new.table =
-    prepared-of c.args.b _ _ c.args.font _ _ _ _ c.timing_of-t.ensures c.row_of-row.ensures c.code_at.ensures c.code_of-code.ensures
+    prepared-of c.args.b _ _ c.args.font _ _ _ _ c.timing_of-t.ensures c.row_of-row.ensures c.code_at.ensures c.from-code.ensures
     c.requires.scan_value.0 c.walk_of-w.ensures c.requires.lent.page c.row_start-start.ensures c.held_for-held.ensures
     c.fetched_of-n.ensures c.reading_of.ensures c.buffer_of.ensures c.gather.ensures.1
     c.scene_of.ensures c.looks.ensures c.is_wide-wide.ensures in
@@ -48,7 +48,7 @@ returns c =
     let prepared : Prepared c.args.b c.args.chars.now c.args.attrs.now c.args.font c.args.line.0
     c.args.field c.timing_of-t.result.counts.hact.0 c.walk_of-w.result c.is_wide-wide.result
     c.gather.new.cells c.looks.new.table =
-    prepared-of c.args.b _ _ c.args.font _ _ _ _ c.timing_of-t.ensures c.row_of-row.ensures c.code_at.ensures c.code_of-code.ensures
+    prepared-of c.args.b _ _ c.args.font _ _ _ _ c.timing_of-t.ensures c.row_of-row.ensures c.code_at.ensures c.from-code.ensures
     c.requires.scan_value.0 c.walk_of-w.ensures c.requires.lent.page c.row_start-start.ensures c.held_for-held.ensures
     c.fetched_of-n.ensures c.reading_of.ensures c.buffer_of.ensures c.gather.ensures.1
     c.scene_of.ensures c.looks.ensures c.is_wide-wide.ensures in

@@ -13,7 +13,7 @@ use Rattle.picture.proofs.draw_rows.Goals as goal
 pub loop-r-init : goal.loop-r-init
 loop-r-init c =
     let sheet = c.requires.tables_fit.0 in
-    (omega arith, join-begins _ _ (length-row _ _ _ _ _ _ sheet.least sheet.width_is sheet.size_is) _ _, sym (held_first _ _ _))
+    (join-begins _ _ (length-row _ _ _ _ _ _ sheet.least sheet.width_is sheet.size_is) _ _, sym (held_first _ _ _))
 
 pub row_start-start-requires : goal.row_start-start-requires
 row_start-start-requires c =
@@ -25,19 +25,19 @@ code_at-requires c =
     let in-page : (length c.args.chars.now ≡ 16384) × (c.loop-r.r < 8192) = (c.requires.tables_fit.1, omega (arith, plan-rows _ _ c.requires.accepted.1, c.loop-r-test.true)) in
     in-page
 
-pub fetched_of-requires : goal.fetched_of-requires
-fetched_of-requires c =
+pub fetched_of-n-requires : goal.fetched_of-n-requires
+fetched_of-n-requires c =
     let in-page : (length c.args.chars.now ≡ 16384) × (c.loop-r.r < 8192) = (c.requires.tables_fit.1, omega (arith, plan-rows _ _ c.requires.accepted.1, c.loop-r-test.true)) in
     in-page
 
 pub draw_row-held-requires : goal.draw_row-held-requires
 draw_row-held-requires c =
-    let room : c.loop-r.r * c.args.p.size + c.args.p.size ≤ length c.loop-r.out = omega (arith, c.loop-r.invariant.1.same, stretch-inside c.loop-r.r c.args.p.rows c.args.p.size _ c.loop-r-test.true c.requires.accepted.2) in
+    let room : c.loop-r.r * c.args.p.size + c.args.p.size ≤ length c.loop-r.out = omega (arith, c.loop-r.invariant.0.same, stretch-inside c.loop-r.r c.args.p.rows c.args.p.size _ c.loop-r-test.true c.requires.accepted.2) in
     let pre = c.requires in
     let a = c.args in record {
       tables_fit = pre.tables_fit;
       n_value = (
-        counted a.p a.page a.chars.now a.attrs.now _ c.code_at.ensures c.code_of-code.ensures c.loop-r.invariant.2 c.row_start-start.ensures pre.accepted.1 _ c.fetched_of.ensures,
+        counted a.p a.page a.chars.now a.attrs.now _ c.code_at.ensures c.from-code.ensures c.loop-r.invariant.1 c.row_start-start.ensures pre.accepted.1 _ c.fetched_of-n.ensures,
         rw c.row_start-start.ensures (row-start-lt _ _ pre.accepted.0 _),
         simp (length-take, length-drop) (omega (arith, room, pre.tables_fit.0.size_is)),
       );
@@ -47,13 +47,12 @@ pub loop-r-preserved : goal.loop-r-preserved
 loop-r-preserved c =
     let begun = c.row_start-start.ensures in
     let byte = c.code_at.ensures in
-    let code = c.code_of-code.ensures in
-    let held = c.loop-r.invariant.2 in
+    let code = c.from-code.ensures in
+    let held = c.loop-r.invariant.1 in
     let pre = c.requires in
     let sheet = pre.tables_fit.0 in
     let a = c.args in (
-      omega (arith, c.loop-r-test.true),
-      join-turn _ _ (length-row _ _ _ _ _ _ sheet.least sheet.width_is sheet.size_is) _ _ _ c.loop-r.invariant.1 c.loop-r-test.true pre.accepted.2
+      join-turn _ _ (length-row _ _ _ _ _ _ sheet.least sheet.width_is sheet.size_is) _ _ _ c.loop-r.invariant.0 c.loop-r-test.true pre.accepted.2
           (as-row-at a.p a.page a.chars.now a.attrs.now _ byte code held begun a.shown.now a.looks.now _ _ sheet.size_is c.draw_row-held.ensures.1),
       carried_on a.p a.page a.chars.now a.attrs.now _ byte code held begun pre.accepted.1 _ c.draw_row-held.ensures.0,
     )
@@ -61,4 +60,4 @@ loop-r-preserved c =
 pub returns : goal.returns
 returns c =
     let sheet = c.requires.tables_fit.0 in
-    join-ends _ _ (length-row _ _ _ _ _ _ sheet.least sheet.width_is sheet.size_is) _ _ c.loop-r.invariant.1 (omega arith) (omega arith)
+    join-ends _ _ (length-row _ _ _ _ _ _ sheet.least sheet.width_is sheet.size_is) _ _ c.loop-r.invariant.0 (omega arith) (omega arith)

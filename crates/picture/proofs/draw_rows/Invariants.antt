@@ -1,5 +1,5 @@
 -- Rests on the loop that lends each turn its own stretch (lists Join), and on what is valid before each row.
-use Prim.Native.Nat.{◌*◌, ◌-◌, ◌≤◌}
+use Prim.Native.Nat.{◌*◌, ◌-◌}
 use mathlib.Core.Path.{◌≡◌}
 use mathlib.Core.List.{◌++◌}
 use lib.ListN.{drop}
@@ -11,10 +11,6 @@ use Rattle.picture.proofs.draw_rows.Given as goal
 
 abbrev pub invariant-loop-r : goal.invariant-loop-r
 invariant-loop-r l =
-    (l.r ≤ l.n)
-    × Filling (joined 0 l.n (row_drawn l.p l.page l.chars l.attrs l.shown l.looks) ++ drop (l.n * l.size) l.initial.out) l.initial.out (l.n * l.size) l.out (l.r * l.size)
-    (joined l.r (l.n - l.r) (row_drawn l.p l.page l.chars l.attrs l.shown l.looks))
+    Filling (joined 0 l.r-end (row_drawn l.p l.page l.chars l.attrs l.shown l.looks) ++ drop (l.r-end * l.p.size) l.initial.out) l.initial.out (l.r-end * l.p.size) l.out (l.r * l.p.size)
+    (joined l.r (l.r-end - l.r) (row_drawn l.p l.page l.chars l.attrs l.shown l.looks))
     × (l.held ≡ held_at l.page l.chars l.attrs l.r 0)
-
-abbrev pub decreases-loop-r : goal.decreases-loop-r
-decreases-loop-r l = l.n - l.r

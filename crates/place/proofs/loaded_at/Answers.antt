@@ -9,16 +9,16 @@ begun-first-requires c = (
   rw c.row_of.ensures (loads-row c.args.p c.args.chars.now c.args.q (sym c.loads_at.ensures ∙ c.if-loads_at.true)),
 )
 
-pub returns-then-same : goal.returns-then-same
-returns-then-same c =
+pub returns-then-eq : goal.returns-then-eq
+returns-then-eq c =
     loaded-first _ _ _ (sym c.loads_at.ensures ∙ c.if-loads_at.true)
-    (sym (c.same.ensures ∙ rw c.line_of_row.ensures) ∙ c.if-same.true) _
+    (sym (c.eq.ensures ∙ rw c.line_of_row.ensures) ∙ c.if-eq.true) _
     (c.begun-first.ensures ∙ rw (c.row_of.ensures, c.settled-held.ensures))
 
 pub returns-then-loads_at : goal.returns-then-loads_at
 returns-then-loads_at c =
     loaded-again _ c.args.chars.now _ (sym c.loads_at.ensures ∙ c.if-loads_at.true)
-    (sym (c.same.ensures ∙ rw c.line_of_row.ensures) ∙ c.if-same.false) _ c.settled-row.ensures
+    (sym (c.eq.ensures ∙ rw c.line_of_row.ensures) ∙ c.if-eq.false) _ c.settled-row.ensures
 
 pub returns : goal.returns
 returns c =

@@ -3,4 +3,4 @@ use Rattle.shape.proofs.font_line_at.Goals as goal
 
 pub returns : goal.returns
 unfolding font_line_at
-returns c = rw c.places-s.ensures
+returns c = rw c.places.ensures

@@ -1,10 +1,9 @@
--- What was seen up to i, and what is left from i on, decide.
+-- What was seen so far, and what is left, decide.
 use Prim.Native.Nat.{ℕ, ◌≤◌, ◌<◌, ◌+◌}
 use mathlib.Core.Path.{◌≡◌, sym, ◌∙◌}
 use mathlib.Core.Bool.{Bool, ◌||◌, or-false, or_assoc}
 use mathlib.Core.List.{List}
 use native.Mathlib.Numerals.{add-one}
-use native.Mathlib.Omega.{arith}
 use lib.Dec.{ltb}
 use lib.ListN.{length, get_or, drop, drop_of_length-le}
 use lib.Seq.{drop-cons}
@@ -20,8 +19,8 @@ module _ (gs : List ℕ) (i : ℕ) (above : Bool) (inv : (above || groups_refuse
   unfolding groups_refused
   end h = sym (or-false above) ∙ (rw (drop_of_length-le gs h) at inv)
 
-pub loop-i-preserved : goal.loop-i-preserved
-loop-i-preserved c = (omega arith, on _ _ c.loop-i.above c.loop-i.invariant.1 c.loop-i-test.true)
+pub loop-group-preserved : goal.loop-group-preserved
+loop-group-preserved c = on _ _ c.loop-group.above c.loop-group.invariant c.loop-group-test.true
 
 pub returns : goal.returns
-returns c = end _ _ _ c.loop-i.invariant.1 c.loop-i-test.false
+returns c = end _ _ _ c.loop-group.invariant c.loop-group-test.false

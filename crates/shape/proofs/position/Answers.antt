@@ -1,37 +1,43 @@
--- What is left to search, from i on, gives the position with i added.
-use Prim.Native.Nat.{ℕ, ◌≤◌, ◌<◌, ◌+◌, ◌%◌}
-use mathlib.Core.Path.{◌≡◌, sym, ◌∙◌}
+-- The first place at which the test passes, or the list's length, is what the definition counts.
+use Prim.Native.Nat.{ℕ, suc, ◌+◌, ◌%◌, ◌<◌}
+use mathlib.Core.Path.{◌≡◌, refl}
+use mathlib.Core.Bool.{Bool, true, false, cond, not}
 use mathlib.Core.List.{List}
-use native.Mathlib.Nat.{add-zero}
-use native.Mathlib.Numerals.{add-one}
-use native.Mathlib.Omega.{arith}
-use mathlib.Core.Bool.{true, false}
 use lib.Dec.{eqb}
-use lib.ListN.{length, get_or, drop, drop_of_length-le}
-use lib.Seq.{drop-cons}
+use lib.ListN.{length}
+use Rattle.std.proofs.Common.{rules, tests, arith, lt-ltb, le-ltb}
+use Rattle.std.proofs.Math.Decide.{dec_lt}
+use Rattle.std.specs.Option.{unwrap_or}
+use Rattle.std.specs.List.{position_or_len, position}
+use Rattle.std.proofs.lemmas.List.Sums.{prefix_len-le-length}
+use Rattle.std.proofs.lemmas.List.Recursion.{is_position_or_len}
+use Rattle.std.proofs.lemmas.Iterator.{YieldsList-from_slice}
+use Rattle.std.proofs.lemmas.Iterator.Search.{position_from_yields_List}
+use Rattle.lists.specs.Choice.{pick}
 use Rattle.shape.specs.Font.{position_of}
 use Rattle.shape.proofs.position.Goals as goal
 
-module _ (xs : List ℕ) (k i : ℕ) (inv : position_of xs k ≡ i + position_of (drop i xs) k) where
-  hit : i < length xs → eqb (get_or xs i 0 % 16) k ≡ true → i ≡ position_of xs k
-  unfolding position_of
-  hit h e = sym (inv ∙ rw (drop-cons xs i 0, e, add-zero))
+or_all : (p : ℕ → Bool) (xs : List ℕ) → unwrap_or (position p xs) (length xs) ≡ position_or_len p xs
+or_all p xs = go (dec_lt (position_or_len p xs) (length xs))
+  where
+    go : Dec (position_or_len p xs < length xs) → unwrap_or (position p xs) (length xs) ≡ position_or_len p xs
+    go (yes l) = rw (lt-ltb _ _ l)
+    go (no f) =
+        let e : length xs ≡ position_or_len p xs = omega (arith, f, prefix_len-le-length (λ x. not (p x)) xs) in
+        rw (le-ltb (position_or_len p xs) (length xs) (omega arith)) e
 
-  miss : i < length xs → eqb (get_or xs i 0 % 16) k ≡ false → position_of xs k ≡ (i + 1) + position_of (drop (i + 1) xs) k
-  unfolding position_of
-  miss h e = inv ∙ rw (add-one, drop-cons xs i 0, e) (omega arith)
-
-  end : length xs ≤ i → i ≡ position_of xs k
-  unfolding position_of
-  end h = sym (inv ∙ rw (drop_of_length-le xs h, add-zero))
-
-pub returns-then-same : goal.returns-then-same
-returns-then-same c =
-    hit _ _ _ c.loop-i.invariant.1 c.loop-i-test.true (sym c.same.ensures ∙ c.if-same.true)
-
-pub loop-i-preserved : goal.loop-i-preserved
-loop-i-preserved c =
-    (omega arith, miss _ _ _ c.loop-i.invariant.1 c.loop-i-test.true (sym c.same.ensures ∙ c.if-same.false))
+same : (k : ℕ) (xs : List ℕ) → position_of xs k ≡ position_or_len (λ x. eqb (x % 16) k) xs
+unfolding position_of
+same k xs = is_position_or_len (λ ys. position_of ys k) (λ x. eqb (x % 16) k) refl (λ x ys. go (eqb (x % 16) k) (position_of ys k)) xs
+  where
+    go : (b : Bool) (n : ℕ) → pick b 0 (suc n) ≡ cond b 0 (1 + n)
+    go true n = refl
+    go false n = omega arith
 
 pub returns : goal.returns
-returns c = end _ _ _ c.loop-i.invariant.1 c.loop-i-test.false
+returns c =
+    let p : ℕ → Bool = λ x. eqb (x % 16) c.args.scan.0 in
+    let xs : List ℕ = c.args.list.now in
+    let first : c.position.result ≡ position p xs =
+    position_from_yields_List p _ _ _ c.position.ensures.ran (YieldsList-from_slice xs c.iter.ensures.rest) (λ x b q k. search (rules, tests)) in
+    rw (c.unwrap_or.ensures, first, same c.args.scan.0 xs) (or_all p xs)

@@ -14,7 +14,7 @@ returns c =
       c.counted_byte-counted.ensures,
       c.reading_of-reading.ensures,
       c.again_at-again.ensures,
-      c.code_of.ensures,
+      c.from.ensures,
       c.cursor_at-cursor.ensures,
       c.scene_in-scene.ensures,
     )

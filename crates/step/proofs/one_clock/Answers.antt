@@ -21,4 +21,4 @@ column_dots-requires c =
 pub returns : goal.returns
 returns c =
     clock-parts _ _ _ _ _ _ _ c.requires.c_value.0 _ c.place_after-next.ensures _ c.shown_in-shown.ensures _
-    c.signals_of.ensures _ (rw (c.is_wide.ensures, c.code_of.ensures, c.requires.c_value.1) at c.column_dots.ensures)
+    c.signals_of.ensures _ (rw (c.is_wide.ensures, c.from.ensures, c.requires.c_value.1) at c.column_dots.ensures)

@@ -3,4 +3,4 @@ use Rattle.std.proofs.Common.{◌∙◌}
 use Rattle.step.proofs.scan_in.Goals as goal
 
 pub returns : goal.returns
-returns c = c.scan_at.ensures ∙ rw c.code_of.ensures
+returns c = c.scan_at.ensures ∙ rw c.from.ensures

@@ -9,8 +9,8 @@ use Rattle.tables.proofs.fill_looks.Given as goal
 
 abbrev pub invariant-loop-s : goal.invariant-loop-s
 invariant-loop-s l =
-    (l.s ≤ l.count)
-    × Filling (joined 0 l.count (levels_at l.b l.field) ++ drop (l.count * 128) l.initial.table) l.initial.table (l.count * 128) l.table (l.s * 128) (joined l.s (l.count - l.s) (levels_at l.b l.field))
+    (l.s ≤ l.s-end)
+    × Filling (joined 0 l.s-end (levels_at l.b l.field) ++ drop (l.s-end * 128) l.initial.table) l.initial.table (l.s-end * 128) l.table (l.s * 128) (joined l.s (l.s-end - l.s) (levels_at l.b l.field))
 
 abbrev pub decreases-loop-s : goal.decreases-loop-s
-decreases-loop-s l = l.count - l.s
+decreases-loop-s l = l.s-end - l.s

@@ -9,9 +9,9 @@ use Rattle.tables.proofs.fill_words.Given as goal
 
 abbrev pub invariant-loop-s : goal.invariant-loop-s
 invariant-loop-s l =
-    (l.s ≤ l.count)
-    × Filling (joined 0 l.count (words_at l.words l.flags l.lines l.d) ++ drop (l.count * 512) l.initial.table) l.initial.table (l.count * 512) l.table (l.s * 512)
-    (joined l.s (l.count - l.s) (words_at l.words l.flags l.lines l.d))
+    (l.s ≤ l.s-end)
+    × Filling (joined 0 l.s-end (words_at l.words l.flags l.lines l.d) ++ drop (l.s-end * 512) l.initial.table) l.initial.table (l.s-end * 512) l.table (l.s * 512)
+    (joined l.s (l.s-end - l.s) (words_at l.words l.flags l.lines l.d))
 
 abbrev pub decreases-loop-s : goal.decreases-loop-s
-decreases-loop-s l = l.count - l.s
+decreases-loop-s l = l.s-end - l.s

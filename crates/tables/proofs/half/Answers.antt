@@ -1,16 +1,23 @@
 -- Rests on the loop that stores one element a turn (lists Tab).
-use Prim.Native.Nat.{zero-le}
-use mathlib.Core.Path.{refl}
+use Prim.Native.Nat.{ℕ}
+use mathlib.Core.Path.{refl, ap}
+use mathlib.Core.List.{List, ◌++◌}
 use native.Mathlib.Omega.{arith}
-use borrow.Author.Rules.{rules}
+use lib.ListN.{take, drop}
 use Rattle.lists.specs.Tab.{tab, tab-turn}
 use Rattle.tables.specs.Tables.{levels_for}
+use Rattle.tables.specs.Laws.{tab-front}
 use Rattle.tables.proofs.half.Goals as goal
 
-pub loop-i-init : goal.loop-i-init
+pub loop-attributes-init : goal.loop-attributes-init
 unfolding tab
-loop-i-init c = (zero-le, refl, refl)
+loop-attributes-init c = refl
 
-pub loop-i-preserved : goal.loop-i-preserved
-loop-i-preserved c =
-    (omega (arith, c.loop-i-test.true), search rules, tab-turn (levels_for c.args.s c.args.here) c.args.table.now _ c.loop-i.i c.loop-i.invariant.2 _ (omega (arith, c.requires, c.loop-i-test.true)) c.levels.ensures)
+pub loop-attributes-preserved : goal.loop-attributes-preserved
+loop-attributes-preserved c =
+    tab-turn (levels_for c.args.s c.args.here) (take 64 c.args.table.now) _ _ c.loop-attributes.invariant _ (omega arith) c.levels.ensures
+
+pub returns : goal.returns
+returns c =
+    ap (λ (l : List ℕ). l ++ drop 64 c.args.table.now)
+    (tab-front (levels_for c.args.s c.args.here) 64 c.args.table.now _ _ c.loop-attributes.invariant c.requires.0 c.loop-attributes-test.false c.loop-attributes.auto.attributes-end)

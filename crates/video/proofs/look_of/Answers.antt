@@ -26,9 +26,10 @@ pub returns-then-not-s : goal.returns-then-not-s
 returns-then-not-s c = blank _ _ _ (not-true _ c.if-not-s.true)
 
 pub returns : goal.returns
+unfolding xor
 returns c =
     shown c.args.s _ _ (not-false _ c.if-not-s.false)
     _ (rw (c.has-5.ensures, c.has-4.ensures))
     c.table_1-found.result
     (c.table_1-found.ensures
-    ∙ rw (c.exclusive-reverse.ensures, c.has-3.ensures, c.has-2.ensures, c.has.ensures, c.has-highlight.ensures))
+    ∙ rw (c.has-3.ensures, c.has-2.ensures, c.has.ensures, c.has-highlight.ensures))
