@@ -61,18 +61,6 @@ pub struct Mate {
     pub at: usize,
 }
 
-fn lower(a: u16, b: u16) -> u16
-    ensures { result ≡ min a b }
-{
-    if a < b { a } else { b }
-}
-
-fn higher(a: u16, b: u16) -> u16
-    ensures { result ≡ max a b }
-{
-    if a < b { b } else { a }
-}
-
 // The ends of n cells, from a cell on.
 fn row_ends(buffer: raster::Buffer, start: raster::Cell, n: u32) -> Ends
     requires { Bounded buffer × (start.address < 16384) }
@@ -81,12 +69,10 @@ fn row_ends(buffer: raster::Buffer, start: raster::Cell, n: u32) -> Ends
     let mut low = start.address;
     let mut high = start.address;
     let mut cell = start;
-    let mut i: u32 = 0;
-    while i < n {
-        low = lower(low, cell.address);
-        high = higher(high, cell.address);
+    for _ in 0..n {
+        low = low.min(cell.address);
+        high = high.max(cell.address);
         cell = raster::advance_one(buffer, cell);
-        i += 1;
     }
     Ends { low, high }
 }
