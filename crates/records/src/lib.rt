@@ -57,8 +57,7 @@ pub struct Asked {
 #[derive(Clone, Copy)]
 pub struct Mate {
     pub bad: bool,
-    pub found: bool,
-    pub at: usize,
+    pub at: Option<usize>,
 }
 
 // The ends of n cells, from a cell on.
@@ -170,8 +169,7 @@ pub fn start_mate(o: Phrase) -> Mate
 {
     Mate {
         bad: is_bad(o),
-        found: false,
-        at: 0,
+        at: None,
     }
 }
 
@@ -191,11 +189,10 @@ pub fn visit_mate(s: Mate, p: Phrase, i: usize, o: Phrase) -> Mate
     if label(o) != label(p) {
         return s;
     }
-    if !s.found & disagree(o, p) {
+    if s.at.is_none() & disagree(o, p) {
         return Mate {
             bad: s.bad,
-            found: true,
-            at: i,
+            at: Some(i),
         };
     }
     s
@@ -248,11 +245,10 @@ pub fn visit_four(s: Mate, a: Phrase, b: Phrase, c: Phrase, d: Phrase, i: usize,
     let first = w & apart(o, a);
     let second = x & apart(o, b);
     let third = y & apart(o, c);
-    if !s.found & (first | second | third | (z & apart(o, d))) {
+    if s.at.is_none() & (first | second | third | (z & apart(o, d))) {
         return Mate {
             bad: s.bad,
-            found: true,
-            at: first_four(first, second, third, i),
+            at: Some(first_four(first, second, third, i)),
         };
     }
     s
@@ -302,8 +298,10 @@ pub fn visit_pair(pair: PairAnswer, m: Mate, i: usize) -> PairAnswer
             later: 0,
         };
     }
-    if (pair.refusal == 0) & (pair.found == 0) & m.found {
-        return found_pair(i, m.at);
+    if let Some(at) = m.at {
+        if (pair.refusal == 0) & (pair.found == 0) {
+            return found_pair(i, at);
+        }
     }
     pair
 }
