@@ -1,12 +1,12 @@
 -- The mate among the first i records, with whole fours left.
-use Rattle.std.proofs.Common.{◌≡◌, ◌≤◌, ◌<◌, ◌-◌, ◌%◌, length}
+use Rattle.std.proofs.Common.{◌≡◌, ◌≤◌, ◌<◌, ◌-◌, ◌%◌}
 use Rattle.records.specs.Folds.{mate_to}
 use Rattle.phrases.proofs.mate_of.Given as goal
 
 abbrev pub invariant-loop-i : goal.invariant-loop-i
-invariant-loop-i l =
-    (l.after < l.i) × (l.i ≤ length l.phrases) × ((length l.phrases - l.i) % 4 ≡ 0)
-    × (l.s ≡ mate_to l.phrases l.after l.i)
+invariant-loop-i g l =
+    (l.after < l.i) × (l.i ≤ l.n) × ((l.n - l.i) % 4 ≡ 0)
+    × (l.s ≡ mate_to (g.I.Index.kept l.index) l.after l.i)
 
 abbrev pub decreases-loop-i : goal.decreases-loop-i
-decreases-loop-i l = length l.phrases - l.i
+decreases-loop-i g l = l.n - l.i
