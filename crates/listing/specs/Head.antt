@@ -1,7 +1,7 @@
 -- What the proofs use of the listing's first line. Assumes nothing.
 use Rattle.std.specs.Prelude.{ℕ, ◌+◌, ◌-◌, ◌≤◌, ◌<◌, ◌≡◌, refl, false, List, [], ◌∷◌, ◌++◌, length, take, drop, ltb}
 use Rattle.std.proofs.Math.Path.{sym}
-use Rattle.std.proofs.Common.{ap, ◌∙◌, arith, length-append, length-take}
+use Rattle.std.proofs.Common.{ap, ◌∙◌, arith, length-append}
 use borrow.Author.Tests.{lt-ltb, le-ltb, ltb-false}
 use Rattle.lists.specs.Choice.{pick}
 use Rattle.refusal.specs.declared.Refusal.{Refusal}
@@ -11,9 +11,8 @@ use Rattle.refusal.specs.Laws.{passed, not-refused}
 use Rattle.board.specs.declared.Page.{Page}
 use Rattle.timing.specs.declared.PageSize.{PageSize}
 use Rattle.timing.specs.Check.{page_check, size_of}
-use Rattle.listing.specs.declared.Digits.{Digits}
 use Rattle.listing.specs.declared.Listed.{Listed}
-use Rattle.listing.specs.Decimal.{Spelled}
+use Rattle.listing.specs.Decimal.{decimal}
 use Rattle.listing.specs.Listing.{line_feed, space, listing_head, head_check, listed_of, listed_in}
 use Rattle.listing.specs.Bytes.{two-parts}
 use Rattle.listing.specs.Answers.{listed, refused-so, done-so, listed-within}
@@ -30,11 +29,11 @@ head-within p room =
     (λ e. ltb-false room (length (listing_head p)) (passed t Room Done refl (not-refused (page_check p) (pick t Room Done) e).1).0)
 
 -- an accepted page's size, and its two numbers in digits
-pub record Measured (p : Page) (size : PageSize) (l d : Digits) : Type 0 where
+pub record Measured (p : Page) (size : PageSize) (l d : List ℕ) : Type 0 where
   pub page : page_check p ≡ Done
   pub whole : size ≡ size_of p
-  pub lines : Spelled l size.lines.0
-  pub dots : Spelled d size.dots.0
+  pub lines : l ≡ decimal size.lines.0
+  pub dots : d ≡ decimal size.dots.0
 
 module _ (p : Page) (out : List ℕ) where
   abbrev check : Refusal
@@ -47,28 +46,28 @@ module _ (p : Page) (out : List ℕ) where
       let same : check ≡ page_check p = rw t in
       refused-so r check (listing_head p) out (e ∙ sym same) (ap done_of same ∙ t) x q
 
-  module _ (size : PageSize) (l d : Digits) (m : Measured p size l d) where
+  module _ (size : PageSize) (l d : List ℕ) (m : Measured p size l d) where
     abbrev first : List ℕ
-    first = take l.count l.bytes ++ (space ∷ [])
+    first = l ++ (space ∷ [])
 
     abbrev second : List ℕ
-    second = take d.count d.bytes ++ (line_feed ∷ [])
+    second = d ++ (line_feed ∷ [])
 
     abbrev a : ℕ
-    a = l.count + 1
+    a = length l + 1
 
     abbrev n : ℕ
-    n = l.count + 1 + d.count + 1
+    n = length l + 1 + length d + 1
 
     is-head : first ++ second ≡ listing_head p
     unfolding listing_head
-    is-head = rw (m.lines.front, m.dots.front, m.whole)
+    is-head = rw (m.lines, m.dots, m.whole)
 
     length-first : length first ≡ a
-    length-first = simp (length-append, length-take) (omega (arith, m.lines.digits-within))
+    length-first = length-append l (space ∷ [])
 
-    length-second : length second ≡ d.count + 1
-    length-second = simp (length-append, length-take) (omega (arith, m.dots.digits-within))
+    length-second : length second ≡ length d + 1
+    length-second = length-append d (line_feed ∷ [])
 
     length-head : length (listing_head p) ≡ n
     length-head = rw (← is-head, length-append first second, length-first, length-second) (omega arith)
@@ -80,10 +79,10 @@ module _ (p : Page) (out : List ℕ) where
         refused-so Room check (listing_head p) out (sym short) (ap done_of short) x q
 
     pub head-put : (r : Refusal) (x y : List ℕ) → r ≡ page_check p → n ≤ length out
-        → x ≡ first ++ drop a out → y ≡ second ++ drop (d.count + 1) (take (length x - a) (drop a x))
+        → x ≡ first ++ drop a out → y ≡ second ++ drop (length d + 1) (take (length x - a) (drop a x))
         → (listed r n ≡ listed_of check (listing_head p)) × (take a x ++ (y ++ drop (length x - a) (drop a x)) ≡ listed_in check (listing_head p) out)
     head-put r x y e h ex ey =
         let fits : check ≡ Done = head-fits p (length out) m.page (omega (arith, length-head)) in
-        let same : a + (d.count + 1) ≡ n = omega arith in
+        let same : a + (length d + 1) ≡ n = omega arith in
         done-so r check (listing_head p) out (e ∙ (m.page ∙ sym fits)) (ap done_of fits) _ n length-head
-        (two-parts out x y first second a (d.count + 1) length-first (omega arith) ex ey ∙ rw (is-head, same))
+        (two-parts out x y first second a (length d + 1) length-first (omega arith) ex ey ∙ rw (is-head, same))

@@ -16,23 +16,23 @@ returns-then-not-is_done c =
 pub returns-then-out-count : goal.returns-then-out-count
 returns-then-out-count c =
     let check : c.page_size-size.result.refusal ≡ page_check c.args.p = ap (λ (s : PageSize). s.refusal) c.page_size-size.ensures ∙ size-refusal c.args.p in
-    let measured : Measured c.args.p c.page_size-size.result c.digits_of-lines.result c.digits_of-dots.result =
+    let measured : Measured c.args.p c.page_size-size.result c.digits_of-lines.result.now c.digits_of-dots.result.now =
     record {
       page = done-is _ (checked check c.is_done.ensures c.if-not-is_done.false);
       whole = c.page_size-size.ensures;
-      lines = c.digits_of-lines.ensures;
-      dots = c.digits_of-dots.ensures;
+      lines = c.digits_of-lines.ensures.digits;
+      dots = c.digits_of-dots.ensures.digits;
     } in
     head-short _ _ _ _ _ measured c.if-out-count.true _ c.nothing-then-out-count.ensures
 
 pub returns : goal.returns
 returns c =
     let check : c.page_size-size.result.refusal ≡ page_check c.args.p = ap (λ (s : PageSize). s.refusal) c.page_size-size.ensures ∙ size-refusal c.args.p in
-    let measured : Measured c.args.p c.page_size-size.result c.digits_of-lines.result c.digits_of-dots.result =
+    let measured : Measured c.args.p c.page_size-size.result c.digits_of-lines.result.now c.digits_of-dots.result.now =
     record {
       page = done-is _ (checked check c.is_done.ensures c.if-not-is_done.false);
       whole = c.page_size-size.ensures;
-      lines = c.digits_of-lines.ensures;
-      dots = c.digits_of-dots.ensures;
+      lines = c.digits_of-lines.ensures.digits;
+      dots = c.digits_of-dots.ensures.digits;
     } in
     head-put _ _ _ _ _ measured _ _ _ check c.if-out-count.false c.put_number.ensures c.put_number-2.ensures
