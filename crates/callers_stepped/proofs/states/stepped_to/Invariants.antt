@@ -1,5 +1,4 @@
 -- Rests on the contracts of the step and of `feldrime_state_at`: a loop over `goes`, ended by `stepped`.
-use Prim.Native.Nat.{◌≤◌, ◌-◌}
 use mathlib.Core.Path.{◌≡◌}
 use Rattle.shape.specs.Font.{font_of}
 use Rattle.callers_stepped.specs.States.{on}
