@@ -241,6 +241,7 @@ fn as_sheet_page(p: board::Page, chars: &[u8]) -> board::Page
 }
 
 // A page whose rows follow one another becomes a sheet.
+// One function with `to_table` would be no plainer: check, page and what is written all differ.
 pub fn to_sheet(b: board::Board, chars: &[u8]) -> Moved
     ensures { result ≡ as_sheet b chars.now }
 {

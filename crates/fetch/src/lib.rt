@@ -40,7 +40,7 @@ pub fn entry(p: board::Page, chars: &[u8], row: u32) -> raster::Cell
     let low = byte_at(chars, start);
     let high = byte_at(chars, start + 1);
     raster::Cell {
-        address: u16::from(low) + 256 * u16::from(high % 64),
+        address: u16::from_le_bytes([low, high % 64]),
     }
 }
 

@@ -131,7 +131,7 @@ fn length_refused(file: &[u8], n: u32) -> bool
     long_at(file, 1) != n
 }
 
-// 1, 2, 3, where n bytes follow the length.
+// 1, 2, 3, where n bytes follow the length: all that a page's check and a font's have in common.
 fn file_check(file: &[u8], newest: u8, n: u32, size: bool) -> refusal::Refusal
     requires { n ≤ 65536 }
     ensures { result ≡ file_check file.now newest n size Refusal.Done }

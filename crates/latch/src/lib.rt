@@ -33,6 +33,7 @@ fn last_set(bytes: &[u8]) -> u8
 }
 
 // The byte of the last with AFLG of n cells from a cell on, or 0. They are found round the buffer, one by one.
+// One function with `last_set` would be no plainer: the bytes there are a slice's, and here each has to be looked up.
 fn last_round(attrs: &[u8], buffer: raster::Buffer, start: raster::Cell, n: u32) -> u8
     requires { length attrs.now ≡ 16384 }
     ensures { result ≡ last_set (row_byte attrs.now buffer start.address) 0 n }

@@ -115,7 +115,8 @@ fn holds(p: Phrase, asked: Asked) -> bool
     (p.first <= asked.low) & ((asked.high as u64) < p.first as u64 + p.length as u64)
 }
 
-// The same language and number, and another first cell or length.
+// The same language and number, and another first cell or length. A derived `==` would be no plainer: of the four fields two
+// are to agree, and of the others one is not to.
 fn disagree(p: Phrase, o: Phrase) -> bool
     ensures { result ≡ disagrees p o }
 {
