@@ -87,7 +87,8 @@ fn mate_of<I: Index>(index: &I, after: usize) -> records::Mate
     let n = index.count();
     let from = records::fours_from(after, n);
     let mut s = mate_near(index, after, from);
-    for i in (from..n).step_by(4) {
+    for four in 0..(n - from) / 4 {
+        let i = from + 4 * four;
         s = records::visit_four(
             s,
             index.at(i),
