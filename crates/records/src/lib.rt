@@ -246,7 +246,11 @@ pub fn visit_four(s: Mate, a: Phrase, b: Phrase, c: Phrase, d: Phrase, i: usize,
     let first = w & apart(o, a);
     let second = x & apart(o, b);
     let third = y & apart(o, c);
-    if s.at.is_none() & (first | second | third | (z & apart(o, d))) {
+    let unlike = first | second | third | (z & apart(o, d));
+    if !unlike {
+        return s;
+    }
+    if s.at.is_none() {
         return Mate {
             bad: s.bad,
             at: Some(first_four(first, second, third, i)),
