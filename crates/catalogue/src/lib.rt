@@ -51,7 +51,8 @@ fn lowest(marks: &[u8], n: usize) -> usize
         }
         a = begins_after(a, x, *mark);
     }
-    if a + n <= 16384 {
+    let end = a + n;
+    if end <= 16384 {
         return a;
     }
     16385 - n

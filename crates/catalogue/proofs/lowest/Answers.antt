@@ -14,8 +14,8 @@ loop-x-preserved c =
     let inside : (c.loop-x.x < 16384) × (c.loop-x.x < c.loop-x.a + c.args.n) = (omega arith, omega (arith, c.loop-x.invariant.near)) in
     rw c.begins_after-a.ensures (search-turn _ _ _ _ c.loop-x.invariant inside.0 inside.1)
 
-pub returns-then-a-n-le16384 : goal.returns-then-a-n-le16384
-returns-then-a-n-le16384 c = search-found _ _ _ _ c.loop-x.invariant (omega arith)
+pub returns-then-end-le16384 : goal.returns-then-end-le16384
+returns-then-end-le16384 c = search-found _ _ _ _ c.loop-x.invariant (omega arith)
 
 pub returns : goal.returns
 returns c = search-none _ _ _ _ c.loop-x.invariant (omega arith) (omega arith)
