@@ -1,4 +1,4 @@
-// The calls that take a page's numbers alone.
+// The calls that take a page's numbers alone. C has a struct for each of their answers, so `==` does not compare them.
 ghost use Rattle.std.specs.Prelude.{◌≡◌, true};
 
 // The check, the size and the board of any numbers answer the same, with the same number beside it, and on a refusal the

@@ -8,11 +8,8 @@ fn put_codes(chars: &[u8], cells: &[u16], n: usize, text: &mut [u8])
     requires { Readable chars.now cells.now n (length text.old) }
     ensures { text.new ≡ tab n (code_by chars.now cells.now) ++ drop n text.old }
 {
-    let mut c = 0;
-    while c < n {
-        let at = cells[c] as usize;
-        text[c] = chars[at];
-        c += 1;
+    for c in 0..n {
+        text[c] = chars[cells[c] as usize];
     }
 }
 

@@ -48,15 +48,13 @@ fn step_line(
     let first = clock_of(b, units::Lines(line), field);
     let asked = feldrime::feldrime_state_at(b, chars, attrs, first.0);
     let mut at = asked.board;
-    let mut c = 0;
-    while c < n {
+    for c in 0..n {
         let d = b.page.video.dots.0 as usize;
         let a = c * d;
         let s = feldrime::step_numbers(at, chars, attrs, words, flags, unshifted, shifted, groups);
         let dots = s.answer.dots;
         out[a..a + d].copy_from_slice(&dots[..d]);
         at = s.board;
-        c += 1;
     }
 }
 
@@ -171,5 +169,5 @@ pub fn drawn_both_ways(
     let stepped = line_by_steps(
         numbers, chars, attrs, words, flags, unshifted, shifted, groups, line, field, other,
     );
-    (whole.refusal == stepped.refusal) & (whole.beside == stepped.beside)
+    whole == stepped
 }

@@ -32,11 +32,9 @@ pub fn stepped_to(
     }
     let asked = feldrime::feldrime_state_at(b, chars, attrs, from);
     let mut at = asked.board;
-    let mut i = 0;
-    while i < steps {
+    for _ in 0..steps {
         let s = feldrime::step_numbers(at, chars, attrs, words, flags, unshifted, shifted, groups);
         at = s.board;
-        i += 1;
     }
     BoardAnswer {
         refusal: 0,

@@ -2,7 +2,7 @@
 --     marked-none, marked_more      the loop that marks
 --     Searching                     where the loop that searches stands, and how it begins, goes on and ends
 --     sheet-place                   of a sheet it finds the place of `ToTable.antt`
-use Rattle.std.specs.Prelude.{ℕ, ◌+◌, ◌-◌, ◌*◌, ◌/◌, ◌%◌, ◌≤◌, ◌<◌, ◌≡◌, Bool, ◌&&◌, ◌||◌, ltb, length, get_or, set, replicate, Result, IfOk, Ok, Err}
+use Rattle.std.specs.Prelude.{ℕ, ◌+◌, ◌-◌, ◌*◌, ◌/◌, ◌%◌, ◌≤◌, ◌<◌, ◌≡◌, Bool, ◌||◌, length, get_or, set, replicate, Result, IfOk, Ok, Err}
 use Rattle.std.proofs.Math.Path.{refl, sym, ap, ap₂}
 use Rattle.std.proofs.Common.{◌∙◌, true≢false, add_comm, add-mul, one-mul, length-set, ext_get_or, get_or-set_same, get_or-set_other}
 use Rattle.std.proofs.Math.Bool.{true, false, not}
@@ -10,7 +10,7 @@ use mathlib.Core.List.{List, ◌++◌}
 use Rattle.std.proofs.Math.Numerals.{add-one}
 use Rattle.std.proofs.Math.Decide.{dec_lt, ℕ_discrete}
 use native.Mathlib.Omega.{arith}
-use borrow.Author.Tests.{lt-ltb, ltb-false, eq-eqb, ne_eqb, not-false}
+use borrow.Author.Tests.{eq-eqb, ne_eqb, not-false}
 use Rattle.std.proofs.Math.Dec.{eqb}
 use Rattle.std.proofs.Math.ListN.{take, drop, get_or-replicate}
 use Rattle.lists.specs.Choice.{pick}
@@ -33,7 +33,7 @@ use Rattle.timing.specs.Fields.{coded_of, rows_of, hact_of, table_of, buffer_of,
 use Rattle.timing.specs.Laws.{Accepted, call-passed, buffer-bounded}
 use Rattle.fetch.specs.Rows.{entry_of, fetched_of, fetch_at}
 use Rattle.fetch.specs.Laws.{no-codes, start-sheet}
-use Rattle.catalogue.specs.ToSheet.{follows_row, rows_apart, as_sheet_page, as_sheet_order, as_sheet_check, as_sheet}
+use Rattle.catalogue.specs.ToSheet.{follows_row, rows_apart, as_sheet_page, as_sheet_check, as_sheet}
 use Rattle.board.specs.Parts.{with_page}
 use Rattle.catalogue.specs.ToTable.{fetches_cell, table_size, table_places, unfetched_at, table_place, table_byte, as_table_page, as_table_chars, own_check, as_table_order, as_table_check, as_table, as_table_left}
 
@@ -146,14 +146,6 @@ module _ (marks : List ℕ) (n : ℕ) where
         (first-at (free_in marks n) (16385 - n) a (omega (arith, h, s.within))
         (ap not (any_none (λ i. not (eqb (get_or marks (a + i) 0) 0)) n (λ i l. rw (s.clear (a + i) (omega arith) (omega (arith, h, l))))))
         s.none_below)
-
-    -- the loop is over with no stretch found
-    pub all-looked-at : (ltb x 16384 && ltb x (a + n)) ≡ false → x < a + n → 16384 ≤ x
-    all-looked-at e l = ltb-false x 16384 (go (ltb x 16384) (rw (lt-ltb x (a + n) l) at e))
-      where
-        go : (t : Bool) → (t && true) ≡ false → t ≡ false
-        go true e = e
-        go false e = e
 
     pub search-none : 16384 ≤ x → x < a + n → 16385 - n ≡ first_below (free_in marks n) (16385 - n)
     search-none h l = sym (first-none (free_in marks n) (16385 - n) (λ k m. s.none_below k (omega (arith, h, l, m))))

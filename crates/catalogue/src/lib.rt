@@ -21,11 +21,9 @@ fn mark(marks: &mut [u8], buffer: raster::Buffer, start: raster::Cell, n: u32)
     ensures { marks.new ≡ marked_by buffer start.address marks.old n }
 {
     let mut cell = start;
-    let mut i: u32 = 0;
-    while i < n {
+    for _ in 0..n {
         marks[cell.address as usize] = 1;
         cell = raster::advance_one(buffer, cell);
-        i += 1;
     }
 }
 
@@ -42,16 +40,18 @@ fn lowest(marks: &[u8], n: usize) -> usize
     requires { (length marks.now ≡ 16384) × (1 ≤ n) × (n ≤ 16384) }
     ensures { result ≡ first_below (free_in marks.now n) (16385 - n) }
 {
-    let mut a: usize = 0;
-    let mut x: usize = 0;
-    while (x < 16384) & (x < a + n) {
-        a = begins_after(a, x, marks[x]);
-        x += 1;
+    let mut a = 0;
+    for (x, mark) in marks.iter().enumerate() {
+        if x == a + n {
+            return a;
+        }
+        a = begins_after(a, x, *mark);
     }
-    if x < a + n {
-        return 16385 - n;
+    let end = a + n;
+    if end <= 16384 {
+        return a;
     }
-    a
+    16385 - n
 }
 
 // The place of a sheet's table, or where there is none the count of places.
@@ -77,12 +77,11 @@ fn put_table(out: &mut [u8], buffer: raster::Buffer, start: raster::Cell, column
         ≡ tab (2 * rows) (entry_byte buffer start.address columns) ++ drop (2 * rows) out.old }
 {
     let mut cell = start;
-    let mut r: usize = 0;
-    while r < rows {
-        out[2 * r] = (cell.address % 256) as u8;
-        out[2 * r + 1] = (cell.address / 256) as u8;
+    for r in 0..rows {
+        let [low, high] = cell.address.to_le_bytes();
+        out[2 * r] = low;
+        out[2 * r + 1] = high;
         cell = raster::advance_by(buffer, columns, cell);
-        r += 1;
     }
 }
 
@@ -180,12 +179,10 @@ fn rows_apart(p: board::Page, chars: &[u8]) -> bool
     let columns = t.counts.hact.cells();
     let n = t.counts.rows - 1;
     let mut apart = false;
-    let mut r: u32 = 0;
-    while r < n {
+    for r in 0..n {
         let end = raster::advance_by(buffer, columns, fetch::entry(p, chars, r));
         let next = fetch::entry(p, chars, r + 1);
-        apart = apart | (next.address != end.address);
-        r += 1;
+        apart |= next.address != end.address;
     }
     apart
 }
@@ -228,6 +225,7 @@ fn as_sheet_page(p: board::Page, chars: &[u8]) -> board::Page
 }
 
 // A page whose rows follow one another becomes a sheet: the board with that page.
+// One function with `to_table` would be no plainer: check, page and what is written all differ.
 #[tactic(auto, unfolding(crate::specs::ToSheet::as_sheet))]
 pub fn to_sheet(b: board::Board, chars: &[u8]) -> Result<board::Board, Refusal>
     ensures { result ≡ as_sheet b chars.now }

@@ -2,18 +2,13 @@
 --     records-length, each-column, record_is      how many there are, that each column goes as far, and each record
 --     records-back                   records taken apart into columns are these records again
 --     row-alike, differ-alike        so that the columns are answered what the records are
---     search-more, mate-more, pair-more, ended      a turn of the loops over the columns, and their end
-use Rattle.std.specs.Prelude.{ℕ, zero, suc, min, ◌+◌, ◌≤◌, ◌<◌, ◌≡◌, refl, List, [], ◌∷◌, map, length, get_or}
-use Rattle.std.proofs.Common.{sym, ap, ◌∙◌, add-one, arith}
+use Rattle.std.specs.Prelude.{ℕ, zero, suc, min, ◌<◌, ◌≡◌, refl, List, [], ◌∷◌, map, length, get_or}
+use Rattle.std.proofs.Common.{sym, ap, ◌∙◌, arith}
 use Rattle.board.specs.declared.Board.{Board}
 use Rattle.records.specs.declared.Phrase.{Phrase}
 use Rattle.records.specs.declared.PhraseAnswer.{PhraseAnswer}
 use Rattle.records.specs.declared.PairAnswer.{PairAnswer}
-use Rattle.records.specs.declared.Asked.{Asked}
-use Rattle.records.specs.declared.Mate.{Mate}
 use Rattle.records.specs.Records.{none, phrase_of_row, phrases_differ}
-use Rattle.records.specs.Folds.{visit_of, search_to, mate_visit, mate_to, mate_of, pair_visit, pairs_to}
-use Rattle.phrases.specs.Laws.{mate-turn}
 use Rattle.columns.specs.Columns.{phrase_by, records_of}
 
 pub records-length : (ls ns fs cs : List ℕ) → length (records_of ls ns fs cs) ≡ min (min (length ls) (length ns)) (min (length fs) (length cs))
@@ -67,18 +62,3 @@ row-alike b chars rs row p q = p ∙ ap (λ (x : List Phrase). phrase_of_row b c
 pub differ-alike : (rs : List Phrase) {r s : PairAnswer}
     → r ≡ phrases_differ (records_of (languages_of rs) (numbers_of rs) (firsts_of rs) (lengths_of rs)) → s ≡ phrases_differ rs → r ≡ s
 differ-alike rs p q = p ∙ ap phrases_differ (records-back rs) ∙ sym q
-
--- ---- the loops: p is the record at i
-
-module _ (rs : List Phrase) (i : ℕ) {p : Phrase} (pe : p ≡ get_or rs i none) where
-  pub search-more : (a : Asked) {s r : PhraseAnswer} → s ≡ search_to rs a i → r ≡ visit_of s p i a → r ≡ search_to rs a (i + 1)
-  search-more a se e = e ∙ rw (se, pe, add-one i)
-
-  pub mate-more : (after : ℕ) → after < i → {o : Phrase} → o ≡ get_or rs after none → {s r : Mate} → s ≡ mate_to rs after i → r ≡ mate_visit s p i o → r ≡ mate_to rs after (i + 1)
-  mate-more after l oe se e = e ∙ rw (se, pe, oe, add-one i) (mate-turn rs after i l)
-
-pub pair-more : (rs : List Phrase) (i : ℕ) {m : Mate} → m ≡ mate_of rs i → {s r : PairAnswer} → s ≡ pairs_to rs i → r ≡ pair_visit s m i → r ≡ pairs_to rs (i + 1)
-pair-more rs i me se e = e ∙ rw (se, me, add-one i)
-
-pub ended : {A : Type 0} (f : ℕ → A) {s : A} {i n m : ℕ} → s ≡ f i → i ≤ n → n ≤ i → n ≡ m → s ≡ f m
-ended f {i} {m} e l h k = let q : i ≡ m = omega (arith, l, h, k) in e ∙ ap f q

@@ -1,66 +1,38 @@
 #![tactic(auto)]
 // An index of phrases as four columns of numbers (02, R-6), one for each field of a record.
 // A record stands at each position that all four columns have, so the shortest column ends the list. What is decided of
-// a record is the crate `records`'.
-ghost use Rattle.std.specs.Prelude.{◌≡◌, min, ◌<◌, length, get_or};
-ghost use Rattle.records.specs.Records.{none, phrase_of_row, phrases_differ};
-ghost use Rattle.records.specs.Folds.{search_of, mate_of};
+// a record is the crate `records`', and how an index is searched the crate `phrases`'.
+ghost use Rattle.std.specs.Prelude.{◌≡◌};
+ghost use Rattle.records.specs.Records.{phrase_of_row, phrases_differ};
 ghost use Rattle.columns.specs.Columns.{records_now, lent_records};
 
-fn shorter(a: usize, b: usize) -> usize
-    ensures { result ≡ min a b }
-{
-    if a < b { a } else { b }
+use phrases::Index;
+
+#[derive(Clone, Copy)]
+struct Columns<'a> {
+    languages: &'a [u32],
+    numbers: &'a [u32],
+    firsts: &'a [u32],
+    lengths: &'a [u32],
 }
 
-// How many records there are.
-fn count(languages: &[u32], numbers: &[u32], firsts: &[u32], lengths: &[u32]) -> usize
-    ensures { result ≡ length (lent_records languages numbers firsts lengths) }
-{
-    shorter(
-        shorter(languages.len(), numbers.len()),
-        shorter(firsts.len(), lengths.len()),
-    )
-}
+impl<'a> Index for Columns<'a> {
+    ghost kept = { λ s. records_now s.languages s.numbers s.firsts s.lengths };
 
-// The record at a position.
-fn record_at(
-    languages: &[u32],
-    numbers: &[u32],
-    firsts: &[u32],
-    lengths: &[u32],
-    i: usize,
-) -> records::Phrase
-    requires { (i < length languages.now) × (i < length numbers.now) × (i < length firsts.now) × (i < length lengths.now) }
-    ensures { result ≡ get_or (lent_records languages numbers firsts lengths) i none }
-{
-    records::Phrase {
-        language: languages[i],
-        number: numbers[i],
-        first: firsts[i],
-        length: lengths[i],
+    fn count(&self) -> usize {
+        let labels = self.languages.len().min(self.numbers.len());
+        let cells = self.firsts.len().min(self.lengths.len());
+        labels.min(cells)
     }
-}
 
-// The lowest record that holds what is asked.
-fn search(
-    languages: &[u32],
-    numbers: &[u32],
-    firsts: &[u32],
-    lengths: &[u32],
-    asked: records::Asked,
-) -> records::PhraseAnswer
-    ensures { result ≡ search_of (lent_records languages numbers firsts lengths) asked }
-{
-    let n = count(languages, numbers, firsts, lengths);
-    let mut s = records::start(asked);
-    let mut i = 0;
-    while i < n {
-        let p = record_at(languages, numbers, firsts, lengths, i);
-        s = records::visit(s, p, i, asked);
-        i += 1;
+    fn at(&self, i: usize) -> records::Phrase {
+        records::Phrase {
+            language: self.languages[i],
+            number: self.numbers[i],
+            first: self.firsts[i],
+            length: self.lengths[i],
+        }
     }
-    s
 }
 
 // The lowest record that holds the whole of what a row fetches.
@@ -75,31 +47,13 @@ pub fn record_of_row(
 ) -> records::PhraseAnswer
     ensures { result ≡ phrase_of_row b chars.now (lent_records languages numbers firsts lengths) row }
 {
-    let asked = records::row_asked(b, chars, row);
-    search(languages, numbers, firsts, lengths, asked)
-}
-
-// The first record after a position that disagrees with the one there.
-fn mate_of(
-    languages: &[u32],
-    numbers: &[u32],
-    firsts: &[u32],
-    lengths: &[u32],
-    after: usize,
-) -> records::Mate
-    requires { after < length (records_now languages numbers firsts lengths) }
-    ensures { result ≡ mate_of (lent_records languages numbers firsts lengths) after }
-{
-    let n = count(languages, numbers, firsts, lengths);
-    let o = record_at(languages, numbers, firsts, lengths, after);
-    let mut s = records::start_mate(o);
-    let mut i = after + 1;
-    while i < n {
-        let p = record_at(languages, numbers, firsts, lengths, i);
-        s = records::visit_mate(s, p, i, o);
-        i += 1;
-    }
-    s
+    let columns = Columns {
+        languages,
+        numbers,
+        firsts,
+        lengths,
+    };
+    phrases::search_in(&columns, records::row_asked(b, chars, row))
 }
 
 // The first two records with the same language and number that differ, by the earlier one's position, then the later's.
@@ -111,13 +65,10 @@ pub fn records_differ(
 ) -> records::PairAnswer
     ensures { result ≡ phrases_differ (lent_records languages numbers firsts lengths) }
 {
-    let n = count(languages, numbers, firsts, lengths);
-    let mut s = records::start_pair();
-    let mut i = 0;
-    while i < n {
-        let m = mate_of(languages, numbers, firsts, lengths, i);
-        s = records::visit_pair(s, m, i);
-        i += 1;
-    }
-    s
+    phrases::differ_in(&Columns {
+        languages,
+        numbers,
+        firsts,
+        lengths,
+    })
 }

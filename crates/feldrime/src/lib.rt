@@ -28,7 +28,7 @@ pub fn feldrime_version() -> u32
 
 // The refusal's number, and the number beside it.
 #[repr(C)]
-#[derive(Clone, Copy)]
+#[derive(Clone, Copy, PartialEq, Eq)]
 pub struct Answer {
     pub refusal: u32,
     pub beside: u32,

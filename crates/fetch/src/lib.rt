@@ -18,18 +18,6 @@ pub struct Span {
     pub count: usize,
 }
 
-fn wide(x: u8) -> u16
-    ensures { result ≡ x }
-{
-    x as u16
-}
-
-fn least(a: u32, b: u32) -> u32
-    ensures { result ≡ min a b }
-{
-    if a < b { a } else { b }
-}
-
 // The character byte at an address.
 fn byte_at(chars: &[u8], address: u32) -> u8
     requires { length chars.now ≡ 16384 }
@@ -47,7 +35,7 @@ pub fn entry(p: board::Page, chars: &[u8], row: u32) -> raster::Cell
     let low = byte_at(chars, start);
     let high = byte_at(chars, start + 1);
     raster::Cell {
-        address: wide(low) % 256 + 256 * (wide(high) % 64),
+        address: u16::from_le_bytes([low, high % 64]),
     }
 }
 
@@ -140,7 +128,7 @@ fn run_count(p: board::Page, cells: u32, start: u16) -> u32
     let b = timing::buffer_of(p);
     let at = start as u32;
     let to_last = (b.last as u32 + 16384 - at % 16384) % 16384;
-    least(cells, least(to_last + 1, 16384 - at))
+    cells.min(to_last + 1).min(16384 - at)
 }
 
 // Whether n cells from a cell on are one run: neither the last buffer address nor 16383 comes before the last of them.
@@ -211,11 +199,9 @@ fn put_cells(cells: &mut [u16], buffer: raster::Buffer, start: raster::Cell, n: 
     ensures { cells.new ≡ tab n (column_by buffer start.address) ++ drop n cells.old }
 {
     let mut cell = start;
-    let mut c = 0;
-    while c < n {
-        cells[c] = cell.address;
+    for place in cells[..n].iter_mut() {
+        *place = cell.address;
         cell = raster::advance_one(buffer, cell);
-        c += 1;
     }
 }
 

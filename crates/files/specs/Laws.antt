@@ -172,8 +172,13 @@ long-small n l =
     rw (upper, lower)
 
 -- a version and a length in four bytes
-pub head-is : (version n : ℕ) {v m h l : ℕ} → v ≡ version → m ≡ n → m < 65536 → h ≡ m / 256 → l ≡ m % 256 → v ∷ 0 ∷ 0 ∷ h ∷ l ∷ [] ≡ version ∷ long_bytes n
-head-is version n {v} {m} ev em small eh el = rw (ev, eh, el) (ap (λ (t : List ℕ). version ∷ t) (sym (long-small m small)) ∙ ap (λ (k : ℕ). version ∷ long_bytes k) em)
+pub head-is : (version n : ℕ) {v m : ℕ} → v ≡ version → m ≡ n → m < 65536
+    → v ∷ (m / 16777216 % 256) ∷ (m / 65536 % 256) ∷ (m / 256 % 256) ∷ (m % 256) ∷ [] ≡ version ∷ long_bytes n
+head-is version n {v} {m} ev em small =
+    let first : m / 16777216 % 256 ≡ 0 = omega (arith, small) in
+    let second : m / 65536 % 256 ≡ 0 = omega (arith, small) in
+    let third : m / 256 % 256 ≡ m / 256 = omega (arith, small) in
+    rw (first, second, third, ev) (ap (λ (t : List ℕ). version ∷ t) (sym (long-small m small)) ∙ ap (λ (k : ℕ). version ∷ long_bytes k) em)
 
 -- a page file put into a buffer part by part
 pub page-put : (p : Page) → length p.irs ≡ 15 → (chars attrs out : List ℕ) → length chars ≡ 16384 → length attrs ≡ 16384

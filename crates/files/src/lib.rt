@@ -13,18 +13,12 @@ ghost use Rattle.shape.specs.Font.{font_now, lent_font, font_to_fill, left_font,
 
 use refusal::Refusal;
 
-fn word(high: u8, low: u8) -> u16
-    ensures { result ≡ high * 256 + low }
-{
-    high as u16 * 256 + low as u16
-}
-
 // Two bytes big-endian.
 fn word_at(bytes: &[u8], i: usize) -> u16
     requires { i + 2 ≤ length bytes.now }
     ensures { result ≡ word_at bytes.now i }
 {
-    word(bytes[i], bytes[i + 1])
+    u16::from_be_bytes([bytes[i], bytes[i + 1]])
 }
 
 // The first n of a record's fifteen IRs; the others are zeros.
@@ -109,7 +103,7 @@ fn long_at(bytes: &[u8], i: usize) -> u32
     requires { i + 4 ≤ length bytes.now }
     ensures { result ≡ long_at bytes.now i }
 {
-    word_at(bytes, i) as u32 * 65536 + word_at(bytes, i + 2) as u32
+    u32::from_be_bytes([bytes[i], bytes[i + 1], bytes[i + 2], bytes[i + 3]])
 }
 
 // 1, where versions from 1 to the newest are known.
@@ -133,7 +127,7 @@ fn length_refused(file: &[u8], n: u32) -> bool
     long_at(file, 1) != n
 }
 
-// 1, 2, 3, where n bytes follow the length.
+// 1, 2, 3, where n bytes follow the length: all that a page's check and a font's have in common.
 #[tactic(auto, unfolding(crate::specs::File::file_check))]
 fn file_check(file: &[u8], newest: u8, n: u32, size: bool) -> Result<(), Refusal>
     requires { n ≤ 65536 }
@@ -196,31 +190,21 @@ pub fn read_page(file: &[u8], chars: &mut [u8], attrs: &mut [u8]) -> Result<boar
     Ok(board_at(file, 5))
 }
 
-fn high(x: u16) -> u8
-    ensures { result ≡ x / 256 }
-{
-    (x / 256) as u8
-}
-
-fn low(x: u16) -> u8
-    ensures { result ≡ x % 256 }
-{
-    (x % 256) as u8
-}
-
 // The bytes that stand behind the IRs, the chip last.
 fn tail_of(p: board::Page) -> [u8; 10]
     requires { p.video.dots.0 ≤ 12 }
     ensures { result ≡ tail_of p }
 {
-    let s = p.starts;
+    let start1 = p.starts.start1.to_be_bytes();
+    let cursor = p.starts.cursor.to_be_bytes();
+    let start2 = p.starts.start2.to_be_bytes();
     [
-        high(s.start1),
-        low(s.start1),
-        high(s.cursor),
-        low(s.cursor),
-        high(s.start2),
-        low(s.start2),
+        start1[0],
+        start1[1],
+        cursor[0],
+        cursor[1],
+        start2[0],
+        start2[1],
         p.switches,
         p.video.dots.0 as u8,
         p.video.strike,
@@ -246,8 +230,8 @@ pub fn put_bytes(p: board::Page, at: usize, out: &mut [u8])
 fn head_of(p: board::Page) -> [u8; 5]
     ensures { result ≡ page_head p }
 {
-    let n = length_field(p.version) as u16;
-    [board::version_of(p), 0, 0, high(n), low(n)]
+    let n = length_field(p.version).to_be_bytes();
+    [board::version_of(p), n[0], n[1], n[2], n[3]]
 }
 
 // A page's file into the front of out; bytes beyond it stay.
@@ -302,10 +286,8 @@ fn read_words(src: &[u8], dst: &mut [u16])
     requires { 2 * length dst.old ≤ length src.now }
     ensures { dst.new ≡ words_of (length dst.old) src.now }
 {
-    let mut i = 0;
-    while i < dst.len() {
-        dst[i] = word_at(src, 2 * i);
-        i += 1;
+    for (i, word) in dst.iter_mut().enumerate() {
+        *word = word_at(src, 2 * i);
     }
 }
 
@@ -313,8 +295,7 @@ fn byte_of(words: &[u16], k: usize) -> u8
     requires { k + 1 ≤ 2 * length words.now }
     ensures { result ≡ byte_of words.now k }
 {
-    let w = words[k / 2];
-    if k % 2 == 0 { high(w) } else { low(w) }
+    words[k / 2].to_be_bytes()[k % 2]
 }
 
 // As many bytes of the words as dst has room for.
@@ -322,10 +303,8 @@ fn write_words(src: &[u16], dst: &mut [u8])
     requires { length dst.old ≤ 2 * length src.now }
     ensures { dst.new ≡ tab (length dst.old) (byte_of src.now) }
 {
-    let mut i = 0;
-    while i < dst.len() {
-        dst[i] = byte_of(src, i);
-        i += 1;
+    for (i, byte) in dst.iter_mut().enumerate() {
+        *byte = byte_of(src, i);
     }
 }
 
@@ -420,8 +399,8 @@ fn font_version(groups: usize) -> u8
 fn font_head(version: u8) -> [u8; 5]
     ensures { result ≡ font_head version }
 {
-    let n = (font_size(version) - 5) as u16;
-    [version, 0, 0, high(n), low(n)]
+    let n = (font_size(version) as u32 - 5).to_be_bytes();
+    [version, n[0], n[1], n[2], n[3]]
 }
 
 // A font's file into the front of out; bytes beyond it stay.

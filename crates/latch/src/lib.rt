@@ -6,21 +6,13 @@ ghost use Rattle.board.specs.Modes.{field_mode};
 ghost use Rattle.latch.specs.Held.{held_at};
 ghost use Rattle.latch.specs.Laws.{row_byte};
 
-fn higher(a: u8, b: u8) -> u8
-    ensures { result ≡ max a b }
-{
-    if a < b { b } else { a }
-}
-
 // A number that no byte is above. The compiler makes vectors of it.
 fn highest(bytes: &[u8]) -> u8
     ensures { (i : ℕ) → i < length bytes.now → get_or bytes.now i 0 ≤ result }
 {
     let mut most = 0;
-    let mut i = 0;
-    while i < bytes.len() {
-        most = higher(most, bytes[i]);
-        i += 1;
+    for byte in bytes {
+        most = most.max(*byte);
     }
     most
 }
@@ -32,26 +24,22 @@ fn last_set(bytes: &[u8]) -> u8
     if highest(bytes) < 128 {
         return 0;
     }
-    let mut left = bytes.len();
-    while 0 < left {
-        left -= 1;
-        let byte = bytes[left];
-        if 128 <= byte {
-            return byte;
-        }
-    }
-    0
+    bytes
+        .iter()
+        .rev()
+        .copied()
+        .find(|byte| 128 <= *byte)
+        .unwrap_or(0)
 }
 
 // The byte of the last with AFLG of n cells from a cell on, or 0. They are found round the buffer, one by one.
+// One function with `last_set` would be no plainer: the bytes there are a slice's, and here each has to be looked up.
 fn last_round(attrs: &[u8], buffer: raster::Buffer, start: raster::Cell, n: u32) -> u8
     requires { length attrs.now ≡ 16384 }
     ensures { result ≡ last_set (row_byte attrs.now buffer start.address) 0 n }
 {
-    let mut left = n;
-    while 0 < left {
-        left -= 1;
-        let cell = raster::advance_by(buffer, left, start);
+    for before in (0..n).rev() {
+        let cell = raster::advance_by(buffer, before, start);
         let byte = attrs[cell.address as usize];
         if 128 <= byte {
             return byte;
@@ -80,11 +68,9 @@ fn held_above(p: board::Page, chars: &[u8], attrs: &[u8], row: u32) -> u8
     ensures { result ≡ held_at p chars.now attrs.now row 0 }
 {
     let buffer = timing::buffer_of(p);
-    let mut left = row;
-    while 0 < left {
-        left -= 1;
-        let n = fetch::fetched_of(p, chars, left);
-        let start = fetch::row_start(p, chars, left);
+    for above in (0..row).rev() {
+        let n = fetch::fetched_of(p, chars, above);
+        let start = fetch::row_start(p, chars, above);
         let byte = last_in_row(attrs, buffer, start, n);
         if byte != 0 {
             return byte;

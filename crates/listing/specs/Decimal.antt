@@ -1,11 +1,9 @@
 -- A number in decimal, and that the digits of `io` are these. Assumes nothing.
-use Rattle.std.specs.Prelude.{ℕ, zero, suc, ◌+◌, ◌-◌, ◌/◌, ◌%◌, ◌^◌, ◌≤◌, ◌<◌, ◌≡◌, Bool, true, false, List, [], ◌∷◌, ◌++◌, length, take, ltb}
-use Rattle.std.proofs.Common.{zero-le, ap, ◌∙◌, pow-suc, arith, lt-ltb, le-ltb, length-append}
+use Rattle.std.specs.Prelude.{ℕ, zero, suc, ◌+◌, ◌-◌, ◌/◌, ◌%◌, ◌^◌, ◌≤◌, ◌<◌, ◌≡◌, Bool, true, false, List, [], ◌∷◌, ◌++◌, length, ltb}
+use Rattle.std.proofs.Common.{zero-le, ap, pow-suc, arith, lt-ltb, le-ltb, length-append}
 use Rattle.std.proofs.Math.Nat.{one-le-pow}
 use Rattle.lists.specs.Choice.{pick}
-use Rattle.io.specs.Counts.{IsPrefixLen}
 use Rattle.io.specs.Digits.{last_digits, IsDigitCount}
-use Rattle.listing.specs.declared.Digits.{Digits}
 
 -- the last digit, and before it those of the tenth where there are any; `most` bounds how many
 unfoldable pub digits_by : (most n : ℕ) → List ℕ
@@ -52,7 +50,7 @@ same_digits (suc k) (suc most) n l h g =
     (ap (λ (l : List ℕ). l ++ ((48 + n % 10) ∷ []))
     (same_digits k most (n / 10) (omega arith) (omega (arith, pow-suc 10 (suc k))) (λ p. omega (arith, pow-suc 10 k))))
 
-fewest : (n k : ℕ) → IsDigitCount 10 1 n k → last_digits 10 k n ≡ decimal n
+pub fewest : (n k : ℕ) → IsDigitCount 10 1 n k → last_digits 10 k n ≡ decimal n
 unfolding decimal
 fewest n zero f = absurd (omega arith)
 fewest n (suc zero) f = same_digits 0 n n (omega arith) f.1 (λ p. omega arith)
@@ -60,11 +58,3 @@ fewest n (suc (suc k)) f =
     let e : suc (suc k) - 1 ≡ suc k = omega arith in
     let some : 10 ^ suc k ≤ n = rw e at (f.2 (omega arith)) in
     same_digits (suc k) n n (omega (arith, below_power (suc k))) f.1 (λ p. some)
-
--- digits at the front of their bytes
-pub record Spelled (d : Digits) (n : ℕ) : Type 0 where
-  pub front : take d.count d.bytes ≡ decimal n
-  pub digits-within : d.count ≤ length d.bytes
-
-pub spelled : (d : Digits) (n : ℕ) → IsPrefixLen d.count d.bytes → IsDigitCount 10 1 n d.count → take d.count d.bytes ≡ last_digits 10 d.count n → Spelled d n
-spelled d n c f e = record { front = e ∙ fewest n d.count f; digits-within = c.0 }

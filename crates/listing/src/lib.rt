@@ -2,38 +2,28 @@
 // 01's listing as bytes, line by line.
 ghost use Rattle.std.specs.Prelude.{◌≡◌, [], ◌∷◌, ◌++◌, map, ◌+◌, ◌-◌, ◌≤◌, ◌<◌, length, take, drop};
 ghost use Rattle.shape.specs.Font.{lent_font};
-ghost use Rattle.listing.specs.Decimal.{Spelled};
+ghost use Rattle.listing.specs.Decimal.{decimal};
 ghost use Rattle.listing.specs.Listing.{line_feed, letter_of, ListsHead, ListsLine};
 
 use refusal::Refusal;
 use units::Unit;
 
-// A number's decimal digits, at the front of the bytes.
-#[derive(Clone, Copy)]
-struct Digits {
-    bytes: [u8; 20],
-    count: usize,
+// A number's decimal digits, which stand at the front of the lent bytes.
+fn digits_of(n: u32, bytes: &mut [u8; 20]) -> &[u8]
+    ensures digits { result.now ≡ decimal n }
+    ensures few { length result.now ≤ 20 }
+{
+    let count = io::decimal(n as u64, bytes);
+    &bytes[..count]
 }
 
-fn digits_of(n: u32) -> Digits
-    ensures { Spelled result n }
+// A number's digits and the byte after them, to the front of out.
+fn put_number(out: &mut [u8], digits: &[u8], after: u8)
+    requires { length digits.now < length out.old }
+    ensures { out.new ≡ (digits.now ++ (after ∷ [])) ++ drop (length digits.now + 1) out.old }
 {
-    let mut digits = [0u8; 20];
-    let count = io::decimal(n as u64, &mut digits);
-    Digits {
-        bytes: digits,
-        count,
-    }
-}
-
-// A number and the byte after it, to the front of out.
-fn put_number(out: &mut [u8], n: Digits, after: u8)
-    requires { (n.count ≤ length n.bytes) × (n.count < length out.old) }
-    ensures { out.new ≡ (take n.count n.bytes ++ (after ∷ [])) ++ drop (n.count + 1) out.old }
-{
-    let count = n.count;
-    let digits = n.bytes;
-    out[..count].copy_from_slice(&digits[..count]);
+    let count = digits.len();
+    out[..count].copy_from_slice(digits);
     out[count] = after;
 }
 
@@ -42,10 +32,12 @@ pub fn listing_head(p: board::Page, out: &mut [u8]) -> Result<usize, Refusal>
     ensures { ListsHead p out.old result out.new }
 {
     let size = timing::page_size(p)?;
-    let lines = digits_of(size.lines.0);
-    let dots = digits_of(size.dots.0);
-    let first = lines.count + 1;
-    let count = first + dots.count + 1;
+    let mut for_lines = [0u8; 20];
+    let mut for_dots = [0u8; 20];
+    let lines = digits_of(size.lines.0, &mut for_lines);
+    let dots = digits_of(size.dots.0, &mut for_dots);
+    let first = lines.len() + 1;
+    let count = first + dots.len() + 1;
     if out.len() < count {
         return Err(Refusal::Room);
     }
@@ -68,10 +60,8 @@ fn letter_of(level: u8) -> u8
 fn mark_all(levels: &mut [u8])
     ensures { levels.new ≡ map letter_of levels.old }
 {
-    let mut i = 0;
-    while i < levels.len() {
-        levels[i] = letter_of(levels[i]);
-        i += 1;
+    for level in levels.iter_mut() {
+        *level = letter_of(*level);
     }
 }
 

@@ -72,15 +72,14 @@ fn print_listing(
         return false;
     }
     let shown = timing::visible_of(page);
-    let mut line = units::Lines(0);
-    while line < shown {
+    for line in 0..shown.0 {
+        let line = units::Lines(line);
         let listed = listing_line(
             b, chars, attrs, words, flags, unshifted, shifted, groups, line, 0, &mut out,
         );
         if !print(listed, &out) {
             return false;
         }
-        line = line.plus(units::Lines(1));
     }
     true
 }

@@ -29,8 +29,7 @@ fn put_front(version: u8, page: &[u8], numbers: &mut [u8])
     requires { 1 + length page.now ≤ length numbers.old }
     ensures { numbers.new ≡ numbers_front version page.now (drop (1 + length page.now) numbers.old) }
 {
-    let front = [version];
-    copies::put(&front, 0, numbers);
+    numbers[0] = version;
     copies::put(page, 1, numbers);
 }
 
@@ -38,8 +37,7 @@ fn clear(numbers: &mut [u8])
     requires { length numbers.old ≡ 32 }
     ensures { numbers.new ≡ replicate 32 0 }
 {
-    let zeros = [0u8; 32];
-    copies::put(&zeros, 0, numbers);
+    numbers.fill(0);
 }
 
 // The version, a page's bytes, and zeros.
@@ -56,8 +54,7 @@ fn put_own(p: board::Page, numbers: &mut [u8])
     requires { (p.video.dots.0 ≤ 12) × (length numbers.old ≡ 32) }
     ensures { numbers.new ≡ page_in p numbers.old }
 {
-    let front = [board::version_of(p)];
-    copies::put(&front, 0, numbers);
+    numbers[0] = board::version_of(p);
     files::put_bytes(p, 1, numbers);
 }
 

@@ -5,7 +5,8 @@
 --     mate-begins, mate-turn, mate-fours, mate-all      the search for a later record that disagrees with one
 --     pairs-all      and for the first two
 use Prim.Native.Nat.{ℕ, zero, suc, ◌+◌, ◌<◌}
-use Rattle.std.specs.Prelude.{◌≡◌, Bool, not, ◌&&◌, ◌||◌, List, length, get_or, is_ok}
+use Rattle.std.specs.Prelude.{◌≡◌, Bool, ◌&&◌, ◌||◌, List, Some, None, length, get_or, is_ok}
+use Rattle.std.specs.Option.{is_some, is_none, unwrap_or}
 use Rattle.std.proofs.Math.Path.{refl}
 use Rattle.std.proofs.Common.{ap, ◌∙◌, arith, eq-eqb, eqb-true, lt-ltb, le-ltb}
 use Rattle.std.proofs.Math.Bool.{true, false}
@@ -119,8 +120,9 @@ module _ (rs : List Phrase) (after : ℕ) where
   mate-turn n l = rw (← after-each n l) (go (any_below (later_differs rs after) n) refl (later_differs rs after n) refl)
     where
       go : (x : Bool) → any_below (later_differs rs after) n ≡ x → (d : Bool) → later_differs rs after n ≡ d
-          → pick (not x && d) (mate_on (at rs bad_record after) true n) (mate_on (at rs bad_record after) x (pick x (first_below (later_differs rs after) n) 0))
-          ≡ mate_on (at rs bad_record after) (x || d) (pick (x || d) (first_below (later_differs rs after) (suc n)) 0)
+          → pick (is_none (pick x (Some (first_below (later_differs rs after) n)) None) && d) (mate_on (at rs bad_record after) (Some n))
+          (mate_on (at rs bad_record after) (pick x (Some (first_below (later_differs rs after) n)) None))
+          ≡ mate_on (at rs bad_record after) (pick (x || d) (Some (first_below (later_differs rs after) (suc n))) None)
       go true xe d e = rw (first-kept (later_differs rs after) n xe)
       go false xe true e = rw (first-new (later_differs rs after) n xe e)
       go false xe false e = refl
@@ -141,7 +143,7 @@ module _ (rs : List Phrase) (after : ℕ) where
 
 -- where none is found, it does not matter what would be
 not_found : {A : Type 0} (find : ℕ → A) (k : ℕ) (unrefused bad unfound good : Bool) (was refusal : A)
-    → turn unrefused bad unfound good was refusal (find (pick good k 0)) ≡ turn unrefused bad unfound good was refusal (find k)
+    → turn unrefused bad unfound (is_some (pick good (Some k) None)) was refusal (find (unwrap_or (pick good (Some k) None) 0)) ≡ turn unrefused bad unfound good was refusal (find k)
 not_found find k unrefused bad unfound true was refusal = refl
 not_found find k true bad true false was refusal = refl
 not_found find k true bad false false was refusal = refl

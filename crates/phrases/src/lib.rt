@@ -1,28 +1,55 @@
 #![tactic(auto)]
-// An index of phrases (02, R-6): which record holds a row, and which two records disagree. The decisions are the crate `records`'; these go over the list.
-ghost use Rattle.std.specs.Prelude.{◌≡◌, ◌≤◌, ◌<◌, length, get_or};
+// An index of phrases (02, R-6): which record holds a row, and which two records disagree. The decisions are the crate `records`'; these go over the records, however they are kept.
+ghost use Rattle.std.specs.Prelude.{◌≡◌, ◌≤◌, ◌<◌, List, length, get_or};
+ghost use Rattle.records.specs.declared.Phrase.{Phrase};
 ghost use Rattle.records.specs.Records.{none, phrase_of_row, phrases_differ};
 ghost use Rattle.records.specs.Folds.{search_of, mate_to, mate_of};
 
-// The record at a position.
-fn phrase_at(phrases: &[records::Phrase], i: usize) -> records::Phrase
-    requires { i < length phrases.now }
-    ensures { result ≡ get_or phrases.now i none }
+// The records of an index, by their positions.
+pub trait Index {
+    ghost kept: { Self → List Phrase };
+
+    fn count(&self) -> usize
+        ensures { result ≡ length (kept self.now) };
+
+    fn at(&self, i: usize) -> records::Phrase
+        requires { i < length (kept self.now) }
+        ensures { result ≡ get_or (kept self.now) i none };
+}
+
+// Records that stand one after the other.
+#[derive(Clone, Copy)]
+struct Listed<'a>(&'a [records::Phrase]);
+
+impl<'a> Index for Listed<'a> {
+    ghost kept = { λ s. s.0.now };
+
+    fn count(&self) -> usize {
+        self.0.len()
+    }
+
+    fn at(&self, i: usize) -> records::Phrase {
+        self.0[i]
+    }
+}
+
+// The lowest record of an index that holds what is asked.
+// No law of one answer: each index has its own, and `search` below shows the law.
+pub fn search_in<I: Index>(index: &I, asked: records::Asked) -> records::PhraseAnswer
+    ensures { result ≡ search_of (I.kept index.now) asked }
 {
-    phrases[i]
+    let mut s = records::start(asked);
+    for i in 0..index.count() {
+        s = records::visit(s, index.at(i), i, asked);
+    }
+    s
 }
 
 // The lowest record that holds what is asked.
 pub fn search(phrases: &[records::Phrase], asked: records::Asked) -> records::PhraseAnswer
     ensures { result ≡ search_of phrases.now asked }
 {
-    let mut s = records::start(asked);
-    let mut i = 0;
-    while i < phrases.len() {
-        s = records::visit(s, phrase_at(phrases, i), i, asked);
-        i += 1;
-    }
-    s
+    search_in(&Listed(phrases), asked)
 }
 
 // The lowest record that holds the whole of what a row fetches.
@@ -39,52 +66,58 @@ pub fn phrase_of_row(
 }
 
 // The first record after a position and before an end that disagrees with the one there.
-fn mate_near(phrases: &[records::Phrase], after: usize, end: usize) -> records::Mate
-    requires { (after < end) × (end ≤ length phrases.now) }
-    ensures { result ≡ mate_to phrases.now after end }
+fn mate_near<I: Index>(index: &I, after: usize, end: usize) -> records::Mate
+    requires { (after < end) × (end ≤ length (I.kept index.now)) }
+    ensures { result ≡ mate_to (I.kept index.now) after end }
 {
-    let o = phrase_at(phrases, after);
+    let o = index.at(after);
     let mut s = records::start_mate(o);
-    let mut i = after + 1;
-    while i < end {
-        s = records::visit_mate(s, phrase_at(phrases, i), i, o);
-        i += 1;
+    for i in after + 1..end {
+        s = records::visit_mate(s, index.at(i), i, o);
     }
     s
 }
 
 // The first record after a position that disagrees with the one there.
-fn mate_of(phrases: &[records::Phrase], after: usize) -> records::Mate
-    requires { after < length phrases.now }
-    ensures { result ≡ mate_of phrases.now after }
+fn mate_of<I: Index>(index: &I, after: usize) -> records::Mate
+    requires { after < length (I.kept index.now) }
+    ensures { result ≡ mate_of (I.kept index.now) after }
 {
-    let o = phrase_at(phrases, after);
-    let mut i = records::fours_from(after, phrases.len());
-    let mut s = mate_near(phrases, after, i);
-    while i < phrases.len() {
+    let o = index.at(after);
+    let n = index.count();
+    let from = records::fours_from(after, n);
+    let mut s = mate_near(index, after, from);
+    for four in 0..(n - from) / 4 {
+        let i = from + 4 * four;
         s = records::visit_four(
             s,
-            phrase_at(phrases, i),
-            phrase_at(phrases, i + 1),
-            phrase_at(phrases, i + 2),
-            phrase_at(phrases, i + 3),
+            index.at(i),
+            index.at(i + 1),
+            index.at(i + 2),
+            index.at(i + 3),
             i,
             o,
         );
-        i += 4;
     }
     s
 }
 
-// The first two records with the same language and number that differ, by the earlier one's position, then the later's.
+// The first two records of an index with the same language and number that differ, by the earlier one's position, then
+// the later's.
+// No law of one answer: each index has its own, and `phrases_differ` below shows the law.
+pub fn differ_in<I: Index>(index: &I) -> records::PairAnswer
+    ensures { result ≡ phrases_differ (I.kept index.now) }
+{
+    let mut s = records::start_pair();
+    for i in 0..index.count() {
+        s = records::visit_pair(s, mate_of(index, i), i);
+    }
+    s
+}
+
+// The same of a list.
 pub fn phrases_differ(phrases: &[records::Phrase]) -> records::PairAnswer
     ensures { result ≡ phrases_differ phrases.now }
 {
-    let mut s = records::start_pair();
-    let mut i = 0;
-    while i < phrases.len() {
-        s = records::visit_pair(s, mate_of(phrases, i), i);
-        i += 1;
-    }
-    s
+    differ_in(&Listed(phrases))
 }

@@ -1,5 +1,6 @@
 -- The searches as they go from record to record. Assumes nothing.
-use Rattle.std.specs.Prelude.{ℕ, zero, suc, ◌+◌, ◌-◌, ◌*◌, ◌/◌, ◌%◌, ◌≤◌, ◌<◌, ◌≡◌, refl, Bool, true, false, not, ◌&&◌, ◌||◌, List, eqb, length, get_or}
+use Rattle.std.specs.Prelude.{ℕ, zero, suc, ◌+◌, ◌-◌, ◌*◌, ◌/◌, ◌%◌, ◌≤◌, ◌<◌, ◌≡◌, refl, Bool, true, false, not, ◌&&◌, ◌||◌, List, Option, Some, None, eqb, length, get_or}
+use Rattle.std.specs.Option.{is_some, is_none, unwrap_or}
 use Rattle.std.proofs.Common.{sym, ◌∙◌, arith, eqb-true, eq-eqb, ne_eqb}
 use Rattle.std.proofs.Math.Bool.{and-false}
 use Rattle.std.proofs.lemmas.Bool.{eqb-false}
@@ -45,15 +46,15 @@ search_of rs a = pick (eqb a.refusal 0) (phrase_among (start_of a) (at rs bad_re
 
 -- ---- two records that differ
 
--- whether a record is bad, whether one after it disagrees with it, and the first that does
-abbrev pub mate_on : (bad found : Bool) → (at : ℕ) → Mate
-mate_on b f i = record { bad = b; found = f; at = i }
+-- whether a record is bad, and the first after it that disagrees with it, where one does
+abbrev pub mate_on : (bad : Bool) → (at : Option ℕ) → Mate
+mate_on b o = record { bad = b; at = o }
 
 unfoldable pub mate_start : Phrase → Mate
-mate_start o = mate_on (bad_record o) false 0
+mate_start o = mate_on (bad_record o) None
 
 unfoldable pub mate_visit : Mate → Phrase → (i : ℕ) → Phrase → Mate
-mate_visit s r i o = pick (not s.found && disagrees o r) (mate_on s.bad true i) s
+mate_visit s r i o = pick (is_none s.at && disagrees o r) (mate_on s.bad (Some i)) s
 
 -- language and number in one
 abbrev pub label_of : Phrase → ℕ
@@ -99,21 +100,21 @@ first_four a b c i = pick a i (pick b (i + 1) (pick c (i + 2) (i + 3)))
 
 -- of four records the first that disagrees is found
 pub four_is : (s : Mate) (a b c d : Phrase) (i : ℕ) (o : Phrase) {x y z w : Bool} → x ≡ disagrees o a → y ≡ disagrees o b → z ≡ disagrees o c → w ≡ disagrees o d
-    → pick (not s.found && (((x || y) || z) || w)) (mate_on s.bad true (first_four x y z i)) s ≡ mate_four s a b c d i o
+    → pick (is_none s.at && (((x || y) || z) || w)) (mate_on s.bad (Some (first_four x y z i))) s ≡ mate_four s a b c d i o
 unfolding mate_four mate_visit first_four
-four_is s a b c d i o {x} {y} {z} {w} p q r t = rw (← p, ← q, ← r, ← t) (go s.found refl x y z w)
+four_is s a b c d i o {x} {y} {z} {w} p q r t = rw (← p, ← q, ← r, ← t) (go (is_none s.at) refl x y z w)
   where
     on : Mate → Bool → ℕ → Mate
-    on m x k = pick (not m.found && x) (mate_on m.bad true k) m
+    on m x k = pick (is_none m.at && x) (mate_on m.bad (Some k)) m
 
-    go : (f : Bool) → s.found ≡ f → (x y z w : Bool)
-        → pick (not s.found && (((x || y) || z) || w)) (mate_on s.bad true (pick x i (pick y (i + 1) (pick z (i + 2) (i + 3))))) s
+    go : (f : Bool) → is_none s.at ≡ f → (x y z w : Bool)
+        → pick (is_none s.at && (((x || y) || z) || w)) (mate_on s.bad (Some (pick x i (pick y (i + 1) (pick z (i + 2) (i + 3)))))) s
         ≡ on (on (on (on s x i) y (i + 1)) z (i + 2)) w (i + 3)
-    go true e x y z w = simp e
-    go false e true y z w = simp e
-    go false e false true z w = simp e
-    go false e false false true w = simp e
-    go false e false false false w = simp e
+    go false e x y z w = simp e
+    go true e true y z w = simp e
+    go true e false true z w = simp e
+    go true e false false true w = simp e
+    go true e false false false w = simp e
 
 -- four of which none has the same label alter nothing
 pub four-on : (s : Mate) (a b c d : Phrase) (i : ℕ) (o : Phrase) {w x y z : Bool} → w ≡ same_label o a → x ≡ same_label o b → y ≡ same_label o c → z ≡ same_label o d
@@ -122,7 +123,7 @@ four-on s a b c d i o p q r t e =
     let three = neither _ _ e in
     let two = neither _ _ three.0 in
     let one = neither _ _ two.0 in
-    pass _ (and-false (not s.found)) refl
+    pass _ (and-false (is_none s.at)) refl
     ∙ four_is s a b c d i o (unlike a p one.0) (unlike b q one.1) (unlike c r two.1) (unlike d t three.1)
   where
     unlike : (m : Phrase) {l : Bool} → l ≡ same_label o m → l ≡ false → false ≡ disagrees o m
@@ -138,7 +139,7 @@ fours-within after n l = (omega (arith, l), omega (arith, l), omega (arith, l))
 -- of the record at a position, among the first n records
 abbrev pub mate_to : List Phrase → (after n : ℕ) → Mate
 mate_to rs after n =
-    mate_on (at rs bad_record after) (any_below (later_differs rs after) n) (pick (any_below (later_differs rs after) n) (first_below (later_differs rs after) n) 0)
+    mate_on (at rs bad_record after) (pick (any_below (later_differs rs after) n) (Some (first_below (later_differs rs after) n)) None)
 
 unfoldable pub mate_of : List Phrase → (after : ℕ) → Mate
 mate_of rs after = mate_to rs after (length rs)
@@ -147,7 +148,7 @@ abbrev pub pair_start : PairAnswer
 pair_start = pair_answer 0 0 0 0 0
 
 unfoldable pub pair_visit : PairAnswer → Mate → (i : ℕ) → PairAnswer
-pair_visit s m i = turn (eqb s.refusal 0) m.bad (eqb s.found 0) m.found s (pair_answer 20 0 0 i 0) (pair_answer 0 0 1 i m.at)
+pair_visit s m i = turn (eqb s.refusal 0) m.bad (eqb s.found 0) (is_some m.at) s (pair_answer 20 0 0 i 0) (pair_answer 0 0 1 i (unwrap_or m.at 0))
 
 abbrev pub pairs_to : List Phrase → (n : ℕ) → PairAnswer
 pairs_to rs zero = pair_start

@@ -57,20 +57,7 @@ pub struct Asked {
 #[derive(Clone, Copy)]
 pub struct Mate {
     pub bad: bool,
-    pub found: bool,
-    pub at: usize,
-}
-
-fn lower(a: u16, b: u16) -> u16
-    ensures { result ≡ min a b }
-{
-    if a < b { a } else { b }
-}
-
-fn higher(a: u16, b: u16) -> u16
-    ensures { result ≡ max a b }
-{
-    if a < b { b } else { a }
+    pub at: Option<usize>,
 }
 
 // The ends of n cells, from a cell on.
@@ -81,12 +68,10 @@ fn row_ends(buffer: raster::Buffer, start: raster::Cell, n: u32) -> Ends
     let mut low = start.address;
     let mut high = start.address;
     let mut cell = start;
-    let mut i: u32 = 0;
-    while i < n {
-        low = lower(low, cell.address);
-        high = higher(high, cell.address);
+    for _ in 0..n {
+        low = low.min(cell.address);
+        high = high.max(cell.address);
         cell = raster::advance_one(buffer, cell);
-        i += 1;
     }
     Ends { low, high }
 }
@@ -127,7 +112,8 @@ fn holds(p: Phrase, asked: Asked) -> bool
     (p.first <= asked.low) & ((asked.high as u64) < p.first as u64 + p.length as u64)
 }
 
-// The same language and number, and another first cell or length.
+// The same language and number, and another first cell or length. A derived `==` would be no plainer: of the four fields two
+// are to agree, and of the others one is not to.
 fn disagree(p: Phrase, o: Phrase) -> bool
     ensures { result ≡ disagrees p o }
 {
@@ -181,8 +167,7 @@ pub fn start_mate(o: Phrase) -> Mate
 {
     Mate {
         bad: is_bad(o),
-        found: false,
-        at: 0,
+        at: None,
     }
 }
 
@@ -202,11 +187,10 @@ pub fn visit_mate(s: Mate, p: Phrase, i: usize, o: Phrase) -> Mate
     if label(o) != label(p) {
         return s;
     }
-    if !s.found & disagree(o, p) {
+    if s.at.is_none() & disagree(o, p) {
         return Mate {
             bad: s.bad,
-            found: true,
-            at: i,
+            at: Some(i),
         };
     }
     s
@@ -259,11 +243,14 @@ pub fn visit_four(s: Mate, a: Phrase, b: Phrase, c: Phrase, d: Phrase, i: usize,
     let first = w & apart(o, a);
     let second = x & apart(o, b);
     let third = y & apart(o, c);
-    if !s.found & (first | second | third | (z & apart(o, d))) {
+    let unlike = first | second | third | (z & apart(o, d));
+    if !unlike {
+        return s;
+    }
+    if s.at.is_none() {
         return Mate {
             bad: s.bad,
-            found: true,
-            at: first_four(first, second, third, i),
+            at: Some(first_four(first, second, third, i)),
         };
     }
     s
@@ -313,8 +300,10 @@ pub fn visit_pair(pair: PairAnswer, m: Mate, i: usize) -> PairAnswer
             later: 0,
         };
     }
-    if (pair.refusal == 0) & (pair.found == 0) & m.found {
-        return found_pair(i, m.at);
+    if let Some(at) = m.at {
+        if (pair.refusal == 0) & (pair.found == 0) {
+            return found_pair(i, at);
+        }
     }
     pair
 }

@@ -1,10 +1,6 @@
 -- Rests on the invariant: a is the lowest place that is left, and the cells from there to x have no mark.
-use Prim.Native.Nat.{◌-◌}
 use Rattle.catalogue.specs.Marks.{Searching}
 use Rattle.catalogue.proofs.lowest.Given as goal
 
 abbrev pub invariant-loop-x : goal.invariant-loop-x
 invariant-loop-x l = Searching l.marks l.n l.a l.x
-
-abbrev pub decreases-loop-x : goal.decreases-loop-x
-decreases-loop-x l = 16384 - l.x

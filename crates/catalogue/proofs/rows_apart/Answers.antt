@@ -15,7 +15,7 @@ overflow_sub-n c =
 
 pub loop-r-init : goal.loop-r-init
 unfolding any_below
-loop-r-init c = (omega arith, refl)
+loop-r-init c = refl
 
 pub entry-requires : goal.entry-requires
 unfolding timing_of counts_of
@@ -32,12 +32,10 @@ entry-next-requires c =
     (c.requires.1, omega (arith, low))
 
 pub loop-r-preserved : goal.loop-r-preserved
-loop-r-preserved c = (
-  omega (arith, c.loop-r-test.true),
-  apart_more _ _ _ c.timing_of-t.ensures c.buffer_of-buffer.ensures c.entry.ensures (rw c.cells-columns.ensures at c.advance_by-end.ensures) c.entry-next.ensures c.loop-r.invariant.1,
-)
+loop-r-preserved c =
+    apart_more _ _ _ c.timing_of-t.ensures c.buffer_of-buffer.ensures c.entry.ensures (rw c.cells-columns.ensures at c.advance_by-end.ensures) c.entry-next.ensures c.loop-r.invariant
 
 pub returns : goal.returns
 returns c =
-    let all : c.loop-r.r ≡ c.timing_of-t.result.counts.rows - 1 = omega (arith, c.loop-r.invariant.0, c.loop-r-test.false) in
-    apart-all _ _ c.timing_of-t.ensures all c.loop-r.invariant.1
+    let all : c.loop-r.r ≡ c.timing_of-t.result.counts.rows - 1 = omega arith in
+    apart-all _ _ c.timing_of-t.ensures all c.loop-r.invariant

@@ -1,12 +1,17 @@
-use borrow.Author.Tests.{eq-eqb, ne_eqb}
-use Rattle.lists.specs.Choice.{stop, pass}
+-- Rests on the place of a byte in its word, 0 or 1.
+use Rattle.std.proofs.Common.{◌≡◌, ℕ, ◌<◌, ◌/◌, ◌%◌, ◌∷◌, [], get_or, arith, rules, eqb}
+use Rattle.std.proofs.Math.Decide.{ℕ_discrete}
+use Rattle.lists.specs.Choice.{pick}
 use Rattle.files.specs.FontFile.{byte_of}
 use Rattle.files.proofs.byte_of.Goals as goal
 
-pub returns-then-k-eq0 : goal.returns-then-k-eq0
-unfolding byte_of
-returns-then-k-eq0 c = stop _ (eq-eqb _ _ c.if-k-eq0.true) c.high.ensures
+at-place : (w r : ℕ) → w < 65536 → r < 2 → get_or ((w / 256 % 256) ∷ (w % 256) ∷ []) r 0 ≡ pick (eqb r 0) (w / 256) (w % 256)
+at-place w r h l = go (ℕ_discrete r 0)
+  where
+    go : Dec (r ≡ 0) → get_or ((w / 256 % 256) ∷ (w % 256) ∷ []) r 0 ≡ pick (eqb r 0) (w / 256) (w % 256)
+    go (yes e) = rw e (omega (arith, h))
+    go (no f) = let e : r ≡ 1 = omega (arith, l, f) in rw e
 
-pub returns-else-k-eq0 : goal.returns-else-k-eq0
+pub returns : goal.returns
 unfolding byte_of
-returns-else-k-eq0 c = pass _ (ne_eqb _ _ c.if-k-eq0.false) c.low.ensures
+returns c = rw c.to_be_bytes.ensures (at-place _ _ (search rules) (omega arith))

@@ -3,4 +3,4 @@ use Rattle.files.specs.Laws.{head-is}
 use Rattle.files.proofs.head_of.Goals as goal
 
 pub returns : goal.returns
-returns c = head-is _ _ c.version_of.ensures c.length_field-n.ensures.0 c.length_field-n.ensures.1 c.high.ensures c.low.ensures
+returns c = rw c.to_be_bytes-n.ensures (head-is _ _ c.version_of.ensures c.length_field.ensures.0 c.length_field.ensures.1)

@@ -4,43 +4,40 @@ use Rattle.std.proofs.Common.{ℕ, take, drop, sym, ap, ◌∙◌, arith}
 use Rattle.refusal.specs.Laws.{sent-on}
 use Rattle.shape.specs.Font.{Font, font_of}
 use Rattle.copies.specs.Put.{length_part}
-use Rattle.files.specs.FontLaws.{font-least, font-passed, font-done, font-kept}
+use Rattle.files.specs.FontLaws.{FontTaken, font-least, font-passed, font-done, font-kept}
 use Rattle.files.proofs.read_font.Goals as goal
+use Rattle.files.proofs.read_font.Goals.{In_ok-font_check}
+
+-- what the check says where it passes the file and the five parts
+taken : (c : In_ok-font_check) → FontTaken c.args.file.now (font_of c.args.words.now c.args.flags.now c.args.unshifted.now c.args.shifted.now c.args.groups.now)
+taken c = font-passed _ _ (rw (c.font_refused.ensures, c.version_in.ensures) at (sym c.in_ok-font_check.ensures))
 
 pub slice_bounds-read_words-end : goal.slice_bounds-read_words-end
-slice_bounds-read_words-end c =
-    let lent : Font = font_of c.args.words.now c.args.flags.now c.args.unshifted.now c.args.shifted.now c.args.groups.now in
-    let fits = font-passed c.args.file.now lent (rw (c.font_refused.ensures, c.version_in.ensures) at (sym c.in_ok-font_check.ensures)) in
-    omega (arith, font-least c.args.file.now fits.file-all)
+slice_bounds-read_words-end c = omega (arith, font-least _ (taken (goal.at.slice_bounds-read_words-end c).In_ok-font_check).file-all)
 
 pub read_words-requires : goal.read_words-requires
 read_words-requires c =
-    let lent : Font = font_of c.args.words.now c.args.flags.now c.args.unshifted.now c.args.shifted.now c.args.groups.now in
-    let fits = font-passed c.args.file.now lent (rw (c.font_refused.ensures, c.version_in.ensures) at (sym c.in_ok-font_check.ensures)) in
-    omega (arith, length_part c.args.file.now 5 2304 (omega (arith, font-least c.args.file.now fits.file-all)), fits.whole.words-all)
+    let fits = taken (goal.at.read_words-requires c).In_ok-font_check in
+    omega (arith, length_part c.args.file.now 5 2304 (omega (arith, font-least _ fits.file-all)), fits.whole.words-all)
 
 pub take_from-requires : goal.take_from-requires
 take_from-requires c =
-    let lent : Font = font_of c.args.words.now c.args.flags.now c.args.unshifted.now c.args.shifted.now c.args.groups.now in
-    let fits = font-passed c.args.file.now lent (rw (c.font_refused.ensures, c.version_in.ensures) at (sym c.in_ok-font_check.ensures)) in
-    omega (arith, font-least c.args.file.now fits.file-all, fits.whole.flags-all)
+    let fits = taken (goal.at.take_from-requires c).In_ok-font_check in
+    omega (arith, font-least _ fits.file-all, fits.whole.flags-all)
 
 pub take_from-requires-2 : goal.take_from-requires-2
 take_from-requires-2 c =
-    let lent : Font = font_of c.args.words.now c.args.flags.now c.args.unshifted.now c.args.shifted.now c.args.groups.now in
-    let fits = font-passed c.args.file.now lent (rw (c.font_refused.ensures, c.version_in.ensures) at (sym c.in_ok-font_check.ensures)) in
-    omega (arith, font-least c.args.file.now fits.file-all, fits.whole.unshifted-all)
+    let fits = taken (goal.at.take_from-requires-2 c).In_ok-font_check in
+    omega (arith, font-least _ fits.file-all, fits.whole.unshifted-all)
 
 pub take_from-requires-3 : goal.take_from-requires-3
 take_from-requires-3 c =
-    let lent : Font = font_of c.args.words.now c.args.flags.now c.args.unshifted.now c.args.shifted.now c.args.groups.now in
-    let fits = font-passed c.args.file.now lent (rw (c.font_refused.ensures, c.version_in.ensures) at (sym c.in_ok-font_check.ensures)) in
-    omega (arith, font-least c.args.file.now fits.file-all, fits.whole.shifted-all)
+    let fits = taken (goal.at.take_from-requires-3 c).In_ok-font_check in
+    omega (arith, font-least _ fits.file-all, fits.whole.shifted-all)
 
 pub read_groups-requires : goal.read_groups-requires
 read_groups-requires c v =
-    let lent : Font = font_of c.args.words.now c.args.flags.now c.args.unshifted.now c.args.shifted.now c.args.groups.now in
-    let fits = font-passed c.args.file.now lent (rw (c.font_refused.ensures, c.version_in.ensures) at (sym c.in_ok-font_check.ensures)) in
+    let fits = taken (goal.at.read_groups-requires c).In_ok-font_check in
     (omega (arith, rw v at fits.file-all), fits.groups-room v)
 
 pub returns-in_err-font_check : goal.returns-in_err-font_check
@@ -53,7 +50,7 @@ pub returns : goal.returns
 returns c =
     let lent : Font = font_of c.args.words.now c.args.flags.now c.args.unshifted.now c.args.shifted.now c.args.groups.now in
     let ok = rw (c.font_refused.ensures, c.version_in.ensures) at (sym c.in_ok-font_check.ensures) in
-    let whole = (font-passed c.args.file.now lent ok).whole in
+    let whole = (taken (goal.at.returns c).In_ok-font_check).whole in
     let file = c.args.file.now in (
       sym ok,
       font-done file lent (ap is_ok ok) whole _ c.read_words.ensures _ _ _ _

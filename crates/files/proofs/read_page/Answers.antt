@@ -4,31 +4,32 @@ use Rattle.std.proofs.Common.{◌≡◌, ℕ, ◌+◌, length, take, drop, sym, 
 use Rattle.refusal.specs.Laws.{sent-on}
 use Rattle.board.specs.Laws.{layout-fits}
 use Rattle.files.specs.Page.{version_in}
-use Rattle.files.specs.Laws.{read-passed, read_done, read-refused, read-why}
+use Rattle.files.specs.Laws.{Taken, read-passed, read_done, read-refused, read-why}
 use Rattle.files.proofs.read_page.Goals as goal
+use Rattle.files.proofs.read_page.Goals.{In_ok-read_check}
+
+-- what the check says where it passes the file and the memories
+taken : (c : In_ok-read_check) → Taken c.args.file.now (length c.args.chars.now) (length c.args.attrs.now)
+taken c = read-passed _ _ _ (rw c.memories_refused-size.ensures at (sym c.in_ok-read_check.ensures))
 
 pub bounds-file-0 : goal.bounds-file-0
-bounds-file-0 c =
-    let taken = read-passed c.args.file.now (length c.args.chars.now) (length c.args.attrs.now) (rw c.memories_refused-size.ensures at (sym c.in_ok-read_check.ensures)) in
-    omega (arith, taken.file-all)
+bounds-file-0 c = omega (arith, (taken (goal.at.bounds-file-0 c).In_ok-read_check).file-all)
 
 pub take_from-requires : goal.take_from-requires
 take_from-requires c =
-    let taken = read-passed c.args.file.now (length c.args.chars.now) (length c.args.attrs.now) (rw c.memories_refused-size.ensures at (sym c.in_ok-read_check.ensures)) in
-    omega (arith, c.chars_place-start.ensures, taken.file-all, taken.chars-all)
+    let fits = taken (goal.at.take_from-requires c).In_ok-read_check in
+    omega (arith, c.chars_place-start.ensures, fits.file-all, fits.chars-all)
 
 pub overflow_add-start : goal.overflow_add-start
 overflow_add-start c = record { fits = omega (arith, c.chars_place-start.ensures, (layout-fits (version_in c.args.file.now)).page-most) }
 
 pub take_from-requires-2 : goal.take_from-requires-2
 take_from-requires-2 c =
-    let taken = read-passed c.args.file.now (length c.args.chars.now) (length c.args.attrs.now) (rw c.memories_refused-size.ensures at (sym c.in_ok-read_check.ensures)) in
-    omega (arith, c.chars_place-start.ensures, taken.file-all, taken.attrs-all)
+    let fits = taken (goal.at.take_from-requires-2 c).In_ok-read_check in
+    omega (arith, c.chars_place-start.ensures, fits.file-all, fits.attrs-all)
 
 pub board_at-requires : goal.board_at-requires
-board_at-requires c =
-    let taken = read-passed c.args.file.now (length c.args.chars.now) (length c.args.attrs.now) (rw c.memories_refused-size.ensures at (sym c.in_ok-read_check.ensures)) in
-    omega (arith, taken.file-all)
+board_at-requires c = omega (arith, (taken (goal.at.board_at-requires c).In_ok-read_check).file-all)
 
 pub returns-in_err-read_check : goal.returns-in_err-read_check
 returns-in_err-read_check c =
@@ -40,8 +41,8 @@ pub returns : goal.returns
 returns c =
     let ok = rw c.memories_refused-size.ensures at (sym c.in_ok-read_check.ensures) in
     let file = c.args.file.now in
-    let taken = read-passed file (length c.args.chars.now) (length c.args.attrs.now) ok in
+    let fits = taken (goal.at.returns c).In_ok-read_check in
     let place = c.chars_place-start.ensures in
     read_done file _ c.args.chars.now c.args.attrs.now ok _ c.board_at.ensures _ _
-    (c.take_from.ensures ∙ ap₂ (λ (n a : ℕ). take n (drop a file)) taken.chars-all place)
-    (c.take_from-2.ensures ∙ ap₂ (λ (n a : ℕ). take n (drop (a + 16384) file)) taken.attrs-all place)
+    (c.take_from.ensures ∙ ap₂ (λ (n a : ℕ). take n (drop a file)) fits.chars-all place)
+    (c.take_from-2.ensures ∙ ap₂ (λ (n a : ℕ). take n (drop (a + 16384) file)) fits.attrs-all place)

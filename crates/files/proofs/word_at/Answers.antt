@@ -3,4 +3,4 @@ use Rattle.files.proofs.word_at.Goals as goal
 
 pub returns : goal.returns
 unfolding word_at
-returns c = c.word.ensures
+returns c = c.from_be_bytes.ensures

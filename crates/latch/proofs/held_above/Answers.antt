@@ -24,7 +24,7 @@ module _ (c : After-last_in_row-byte) where
   attrs = c.args.attrs.now
 
   abbrev left : ℕ
-  left = c.loop-left.left
+  left = c.loop-above.above
 
   abbrev byte : ℕ
   byte = c.last_in_row-byte.result
@@ -35,18 +35,18 @@ module _ (c : After-last_in_row-byte) where
       c.fetched_of-n.ensures c.last_in_row-byte.ensures
 
   found : (byte ≡ 0 → ⊥) → byte ≡ held_at p chars attrs left 0
-  found = found-above p chars attrs c.requires.3 left byte c.loop-left-test.true looked
+  found = found-above p chars attrs c.requires.3 left byte c.loop-above-test.true looked
 
   none : byte ≡ 0 → held_at p chars attrs (left - 1) 0 ≡ held_at p chars attrs left 0
-  none = none_above p chars attrs c.requires.3 left byte c.loop-left-test.true looked
+  none = none_above p chars attrs c.requires.3 left byte c.loop-above-test.true looked
 
 pub returns-then-byte-ne0 : goal.returns-then-byte-ne0
-returns-then-byte-ne0 c = found (goal.at.returns-then-byte-ne0 c).After-last_in_row-byte c.if-byte-ne0.true ∙ c.loop-left.invariant.1
+returns-then-byte-ne0 c = found (goal.at.returns-then-byte-ne0 c).After-last_in_row-byte c.if-byte-ne0.true ∙ c.loop-above.invariant
 
-pub loop-left-preserved : goal.loop-left-preserved
-loop-left-preserved c = (omega (arith, c.loop-left.invariant.0), none (goal.at.loop-left-preserved c).After-last_in_row-byte c.if-byte-ne0.false ∙ c.loop-left.invariant.1)
+pub loop-above-preserved : goal.loop-above-preserved
+loop-above-preserved c = none (goal.at.loop-above-preserved c).After-last_in_row-byte c.if-byte-ne0.false ∙ c.loop-above.invariant
 
 pub returns : goal.returns
 returns c =
-    let z : c.loop-left.left ≡ 0 = omega (arith, c.loop-left-test.false) in
-    sym (held_first _ _ _) ∙ (rw z at c.loop-left.invariant.1)
+    let z : c.loop-above.above ≡ 0 = omega (arith, c.loop-above-test.false) in
+    sym (held_first _ _ _) ∙ (rw z at c.loop-above.invariant)

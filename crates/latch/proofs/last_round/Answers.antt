@@ -18,17 +18,14 @@ module _ (c : After-advance_by-cell) where
   abbrev byte : ℕ
   byte = get_or c.args.attrs.now c.advance_by-cell.result.address 0
 
-  abbrev left : ℕ
-  left = c.loop-left.left
-
-  looked : byte ≡ bytes (left - 1)
+  looked : byte ≡ bytes (c.loop-before.before - 1)
   looked = ap (λ (x : Cell). get_or c.args.attrs.now x.address 0) c.advance_by-cell.ensures
 
   over : 128 ≤ byte → byte ≡ last_set bytes 0 c.args.n
-  over = search-over bytes 0 c.args.n left byte c.loop-left.invariant c.loop-left-test.true looked
+  over = search-over bytes 0 c.args.n c.loop-before.before byte c.loop-before.invariant c.loop-before-test.true looked
 
-  on : byte < 128 → last_set bytes 0 (left - 1) ≡ last_set bytes 0 c.args.n
-  on = search-on bytes 0 c.args.n left byte c.loop-left.invariant c.loop-left-test.true looked
+  on : byte < 128 → last_set bytes 0 (c.loop-before.before - 1) ≡ last_set bytes 0 c.args.n
+  on = search-on bytes 0 c.args.n c.loop-before.before byte c.loop-before.invariant c.loop-before-test.true looked
 
 pub bounds-attrs-cell : goal.bounds-attrs-cell
 bounds-attrs-cell c =
@@ -37,8 +34,8 @@ bounds-attrs-cell c =
 pub returns-then-byte-ge128 : goal.returns-then-byte-ge128
 returns-then-byte-ge128 c = over (goal.at.returns-then-byte-ge128 c).After-advance_by-cell c.if-byte-ge128.true
 
-pub loop-left-preserved : goal.loop-left-preserved
-loop-left-preserved c = on (goal.at.loop-left-preserved c).After-advance_by-cell (omega (arith, c.if-byte-ge128.false))
+pub loop-before-preserved : goal.loop-before-preserved
+loop-before-preserved c = on (goal.at.loop-before-preserved c).After-advance_by-cell (omega (arith, c.if-byte-ge128.false))
 
 pub returns : goal.returns
-returns c = search-none _ 0 _ _ c.loop-left.invariant (omega (arith, c.loop-left-test.false))
+returns c = search-none _ 0 _ _ c.loop-before.invariant (omega (arith, c.loop-before-test.false))

@@ -1,5 +1,6 @@
-use Rattle.listing.specs.Decimal.{spelled}
+use Rattle.std.proofs.Common.{◌∙◌}
+use Rattle.listing.specs.Decimal.{fewest}
 use Rattle.listing.proofs.digits_of.Goals as goal
 
-pub returns : goal.returns
-returns c = spelled _ _ c.decimal-count.ensures.in_bounds c.decimal-count.ensures.len c.decimal-count.ensures.digits
+pub returns-clause-digits : goal.returns-clause-digits
+returns-clause-digits c = c.decimal-count.ensures.digits ∙ fewest _ _ c.decimal-count.ensures.len

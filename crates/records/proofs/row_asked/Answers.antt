@@ -1,11 +1,8 @@
 -- Rests on run-passed for what the callees ask, on asked-row and asked-refused for the answer.
-use Rattle.std.specs.Prelude.{is_ok, Result}
-use Rattle.std.proofs.Common.{◌≡◌, length, sym, ap, ◌∙◌, arith}
-use Rattle.refusal.specs.declared.Refusal.{Refusal}
-use Rattle.refusal.specs.Number.{unrefused, check_of, number_of, beside_of}
+use Rattle.std.specs.Prelude.{is_ok}
+use Rattle.std.proofs.Common.{sym, ap, ◌∙◌, arith}
+use Rattle.refusal.specs.Number.{check_of, number_of, beside_of}
 use Rattle.timing.specs.Laws.{buffer-bounded}
-use Rattle.fetch.specs.declared.Span.{Span}
-use Rattle.fetch.specs.Run.{run_check}
 use Rattle.fetch.specs.Laws.{run-passed, row-start-lt, span-number}
 use Rattle.records.specs.Ends.{asked-row, asked-refused}
 use Rattle.records.proofs.row_asked.Goals as goal

@@ -19,7 +19,6 @@ put new rest d n h = rw (take_all n rest h, drop_of_length-le rest {i = n} h, ap
 
 pub loop-c-init : goal.loop-c-init
 loop-c-init c = (
-  omega arith,
   line-begins c.requires _ c.ranges.field.fits c.clock_of-first.ensures c.feldrime_state_at-asked.ensures,
   join-begins _ _ (each c.requires _ c.ranges.field.fits) _ _,
 )
@@ -28,19 +27,19 @@ pub slice_bounds-copy_from_slice-end : goal.slice_bounds-copy_from_slice-end
 slice_bounds-copy_from_slice-end c =
     let hact : c.timing_of-t.result.counts.hact.0 ≡ hact_of c.args.b.page = hact-is _ _ c.timing_of-t.ensures in
     let roomy : c.timing_of-t.result.counts.hact.0 * c.args.b.page.video.dots.0 ≤ length c.args.out.now = turns_fit c.requires hact in
-    omega (arith, c.loop-c.invariant.2.same, stretch-inside c.loop-c.c c.timing_of-t.result.counts.hact.0 c.args.b.page.video.dots.0 _ c.loop-c-test.true roomy)
+    omega (arith, c.loop-c.invariant.1.same, stretch-inside c.loop-c.c c.timing_of-t.result.counts.hact.0 c.args.b.page.video.dots.0 _ c.loop-c-test.true roomy)
 
 pub slice_bounds-dots-end : goal.slice_bounds-dots-end
 slice_bounds-dots-end c =
     let hact : c.timing_of-t.result.counts.hact.0 ≡ hact_of c.args.b.page = hact-is _ _ c.timing_of-t.ensures in
     let shown : c.loop-c.c < hact_of c.args.b.page = omega (arith, hact, c.loop-c-test.true) in
-    enough c.requires _ c.ranges.field.fits _ c.loop-c.invariant.1 c.step_numbers-s.ensures shown
+    enough c.requires _ c.ranges.field.fits _ c.loop-c.invariant.0 c.step_numbers-s.ensures shown
 
 pub slice_bounds-copy_from_slice-end-in-loop-c : goal.slice_bounds-copy_from_slice-end-in-loop-c
 slice_bounds-copy_from_slice-end-in-loop-c c =
     let hact : c.timing_of-t.result.counts.hact.0 ≡ hact_of c.args.b.page = hact-is _ _ c.timing_of-t.ensures in
     let shown : c.loop-c.c < hact_of c.args.b.page = omega (arith, hact, c.loop-c-test.true) in
-    wide c.requires _ c.ranges.field.fits _ c.loop-c.invariant.1 c.step_numbers-s.ensures shown
+    wide c.requires _ c.ranges.field.fits _ c.loop-c.invariant.0 c.step_numbers-s.ensures shown
 
 pub copy_from_slice-requires : goal.copy_from_slice-requires
 copy_from_slice-requires c =
@@ -50,8 +49,8 @@ copy_from_slice-requires c =
     simp (length-take, length-drop)
     (omega (
       arith,
-      c.loop-c.invariant.2.same,
-      enough c.requires _ c.ranges.field.fits _ c.loop-c.invariant.1 c.step_numbers-s.ensures shown,
+      c.loop-c.invariant.1.same,
+      enough c.requires _ c.ranges.field.fits _ c.loop-c.invariant.0 c.step_numbers-s.ensures shown,
       stretch-inside c.loop-c.c c.timing_of-t.result.counts.hact.0 c.args.b.page.video.dots.0 _ c.loop-c-test.true roomy,
     ))
 
@@ -68,11 +67,10 @@ loop-c-preserved c =
     let rest = drop at c.loop-c.out in
     let all : length rest ≤ length c.loop-c.out - at = simp length-drop (omega arith) in
     let part = take (length c.loop-c.out - at) rest in
-    let wide' : d ≡ length (take d c.step_numbers-s.result.answer.dots) = wide c.requires _ c.ranges.field.fits _ inv.1 step shown in
-    let turn = join-turn _ _ (each c.requires _ c.ranges.field.fits) (c.copy_from_slice.new.self ++ drop d part) _ _ inv.2 c.loop-c-test.true roomy
-    (copied c.requires _ c.ranges.field.fits _ inv.1 step shown part (rw (c.copy_from_slice.ensures.after, take-length (take d c.step_numbers-s.result.answer.dots), ← wide'))) in (
-      omega (arith, c.loop-c-test.true),
-      goes_on c.requires _ c.ranges.field.fits _ inv.1 step,
+    let wide' : d ≡ length (take d c.step_numbers-s.result.answer.dots) = wide c.requires _ c.ranges.field.fits _ inv.0 step shown in
+    let turn = join-turn _ _ (each c.requires _ c.ranges.field.fits) (c.copy_from_slice.new.self ++ drop d part) _ _ inv.1 c.loop-c-test.true roomy
+    (copied c.requires _ c.ranges.field.fits _ inv.0 step shown part (rw (c.copy_from_slice.ensures.after, take-length (take d c.step_numbers-s.result.answer.dots), ← wide'))) in (
+      goes_on c.requires _ c.ranges.field.fits _ inv.0 step,
       rw k (rw (put c.copy_from_slice.new.self rest d (length c.loop-c.out - at) all) at turn),
     )
 
@@ -82,4 +80,4 @@ returns c =
     let turns : ℕ = c.timing_of-t.result.counts.hact.0 in
     let hact : turns ≡ hact_of c.args.b.page = hact-is _ _ c.timing_of-t.ensures in
     rw hact at
-    (join-ends _ _ (each c.requires _ c.ranges.field.fits) _ _ c.loop-c.invariant.2 (omega arith) (omega arith))
+    (join-ends _ _ (each c.requires _ c.ranges.field.fits) _ _ c.loop-c.invariant.1 (omega arith) (omega arith))

@@ -7,13 +7,13 @@ use Rattle.callers_stepped.proofs.states.stepped_to.Goals as goal
 pub returns-then-refused-ne0 : goal.returns-then-refused-ne0
 returns-then-refused-ne0 c = not-stepped _ _ _ _ _ _ _ _ _ c.step_numbers-tried.ensures c.if-refused-ne0.true
 
-pub loop-i-init : goal.loop-i-init
+pub loop-init : goal.loop-init
 unfolding on
-loop-i-init c = (omega arith, refl)
+loop-init c = refl
 
-pub loop-i-preserved : goal.loop-i-preserved
-loop-i-preserved c = (omega (arith, c.loop-i-test.true), goes _ _ _ _ _ _ _ _ _ c.loop-i.invariant.1 c.step_numbers-s.ensures)
+pub loop-preserved : goal.loop-preserved
+loop-preserved c = goes _ _ _ _ _ _ _ _ _ c.loop.invariant c.step_numbers-s.ensures
 
 pub returns : goal.returns
 returns c =
-    stepped _ _ _ _ _ _ _ _ _ c.step_numbers-tried.ensures c.if-refused-ne0.false _ _ c.feldrime_state_at-asked.ensures c.loop-i.invariant.1 (omega arith)
+    stepped _ _ _ _ _ _ _ _ _ c.step_numbers-tried.ensures c.if-refused-ne0.false _ _ c.feldrime_state_at-asked.ensures c.loop.invariant (omega arith)
