@@ -54,10 +54,6 @@ pub record TablesFit (p : Plan) (shown looks inks : List ℕ) : Type 0 where
   pub looks-few : (s i : ℕ) → s < p.scans.0 → i < 128 → get_or looks (s * 128 + i) 0 < 16
   pub inks-are : inks ≡ tab 288 ink_of
 
--- the numbers of the cells that a row fetches
-abbrev pub Numbered : (wide : Bool) → Plan → (cells : List ℕ) → Type 0
-Numbered wide p cells = (i : ℕ) → i < fetched_for wide p.columns.0 → get_or cells i 0 < 65536
-
 -- a scan line of the row's is shown, whatever its code
 pub scan_lt : (k : Code) (L s : ℕ) → s < L → scan_of k L s < L
 scan_lt k L s h = go (is_top k) (is_bottom k)

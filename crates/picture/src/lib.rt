@@ -1,6 +1,6 @@
 #![tactic(auto)]
 // A whole picture into a lent buffer: tables once a picture, cells once a row, then dots only.
-ghost use Rattle.std.specs.Prelude.{◌≡◌, ◌++◌, false, ℕ, ◌*◌, ◌≤◌, ◌<◌, ltb, length, get_or, drop};
+ghost use Rattle.std.specs.Prelude.{◌≡◌, ◌++◌, false, ◌*◌, ◌≤◌, ◌<◌, ltb, length, drop};
 ghost use Rattle.lists.specs.Join.{joined};
 ghost use Rattle.shape.specs.Font.{lent_font};
 ghost use Rattle.timing.specs.Laws.{Accepted};
@@ -11,7 +11,7 @@ ghost use Rattle.dots.specs.Half.{shown_of, fetched_for};
 ghost use Rattle.tables.specs.Tables.{held_by};
 ghost use Rattle.line.specs.Walk.{last_of};
 ghost use Rattle.picture.specs.Picture.{picture_check, picture_length, DrawsPicture};
-ghost use Rattle.picture.specs.Plan.{plan_of, cell_dots_of, cell_from, line_from, row_from, row_drawn, TablesFit, Numbered};
+ghost use Rattle.picture.specs.Plan.{plan_of, cell_dots_of, cell_from, line_from, row_from, row_drawn, TablesFit};
 ghost use Rattle.picture.specs.Agree.{shaped_over};
 
 use refusal::Refusal;
@@ -31,166 +31,127 @@ pub struct Plan {
     pub reading: video::Reading,
 }
 
+// What all cells of a picture are drawn from: the plan, and the tables by sign, by mark and by look, which fit it.
+#[derive(Clone, Copy)]
+struct Tables<'a> {
+    plan: Plan,
+    shown: &'a [u16],
+    looks: &'a [u8],
+    inks: &'a [u64],
+    ghost fit: { TablesFit plan shown.now looks.now inks.now },
+}
+
 // One cell from its number, on a scan line. No branch goes by what a cell is.
-fn put(
-    out: &mut [u8],
-    p: Plan,
-    shown: &[u16],
-    looks: &[u8],
-    inks: &[u64],
-    scan: units::Lines,
-    number: u16,
-    tight: bool,
-)
-    requires tables_fit { TablesFit p shown.now looks.now inks.now × (scan.0 < p.scans.0) × (number < 65536) }
-    requires dots_in_bounds { reach_of tight p.dots.0 ≤ length out.old }
+fn put(out: &mut [u8], t: &Tables, scan: units::Lines, number: u16, tight: bool)
+    requires scan_lt_scans { scan.0 < t.now.plan.scans.0 }
+    requires dots_in_bounds { reach_of tight t.now.plan.dots.0 ≤ length out.old }
     ensures { out.new
-        ≡ cell_dots_of shown.now looks.now (reach_of tight p.dots.0) scan.0 number
-        ++ drop (reach_of tight p.dots.0) out.old }
+        ≡ cell_dots_of t.now.shown.now t.now.looks.now (reach_of tight t.now.plan.dots.0) scan.0 number
+        ++ drop (reach_of tight t.now.plan.dots.0) out.old }
 {
     let s = scan.places();
     let sign = s * 512 + (number % 512) as usize;
     let mark = s * 128 + (number / 512) as usize;
-    dots::put_cell(out, inks, looks[mark], shown[sign], p.dots.places(), tight);
+    let d = t.plan.dots.places();
+    dots::put_cell(out, t.inks, t.looks[mark], t.shown[sign], d, tight);
 }
 
 // So many cells of a line. All but the last may be stored with some dots too many, over which the next cell is drawn.
-fn draw_cells(
-    out: &mut [u8],
-    p: Plan,
-    cells: &[u16],
-    shown: &[u16],
-    looks: &[u8],
-    inks: &[u64],
-    scan: units::Lines,
-    n: usize,
-)
-    requires tables_fit { TablesFit p shown.now looks.now inks.now × (length cells.now ≡ 256) × ((i : ℕ) → i < n → get_or cells.now i 0 < 65536) }
-    requires scan_lt_scans { (scan.0 < p.scans.0) × (0 < n) × (n ≤ 256) × (n * p.dots.0 ≤ length out.old) }
+fn draw_cells(out: &mut [u8], t: &Tables, cells: &[u16], scan: units::Lines, n: usize)
+    requires cells_all { length cells.now ≡ 256 }
+    requires scan_lt_scans { (scan.0 < t.now.plan.scans.0) × (0 < n) × (n ≤ 256) × (n * t.now.plan.dots.0 ≤ length out.old) }
     ensures { out.new
-        ≡ joined 0 n (cell_from cells.now shown.now looks.now p.dots.0 scan.0)
-        ++ drop (n * p.dots.0) out.old }
+        ≡ joined 0 n (cell_from cells.now t.now.shown.now t.now.looks.now t.now.plan.dots.0 scan.0)
+        ++ drop (n * t.now.plan.dots.0) out.old }
 {
     let last = n - 1;
-    let d = p.dots.places();
+    let d = t.plan.dots.places();
     for (i, number) in cells[..last].iter().enumerate() {
-        let stretch = &mut out[i * d..];
-        put(stretch, p, shown, looks, inks, scan, *number, false);
+        put(&mut out[i * d..], t, scan, *number, false);
     }
-    let stretch = &mut out[last * d..];
-    put(stretch, p, shown, looks, inks, scan, cells[last], true);
+    put(&mut out[last * d..], t, scan, cells[last], true);
 }
 
 // One line from its row's cells: of a row of double width its cells first, and then each dot twice.
-fn draw_columns(
-    out: &mut [u8],
-    p: Plan,
-    wide: bool,
-    cells: &[u16],
-    shown: &[u16],
-    looks: &[u8],
-    inks: &[u64],
-    scan: units::Lines,
-)
-    requires tables_fit { TablesFit p shown.now looks.now inks.now × (length cells.now ≡ 256) × Numbered wide p cells.now }
-    requires scan_lt_scans { (scan.0 < p.scans.0) × (p.width ≤ length out.old) }
+fn draw_columns(out: &mut [u8], t: &Tables, wide: bool, cells: &[u16], scan: units::Lines)
+    requires cells_all { length cells.now ≡ 256 }
+    requires scan_lt_scans { (scan.0 < t.now.plan.scans.0) × (t.now.plan.width ≤ length out.old) }
     ensures { out.new
-        ≡ joined 0 p.columns.0 (shown_of wide (cell_from cells.now shown.now looks.now p.dots.0 scan.0))
-        ++ drop p.width out.old }
+        ≡ joined 0 t.now.plan.columns.0 (shown_of wide (cell_from cells.now t.now.shown.now t.now.looks.now t.now.plan.dots.0 scan.0))
+        ++ drop t.now.plan.width out.old }
 {
-    let n = p.columns;
+    let n = t.plan.columns;
     if wide {
         let mut halves = [0u8; 1536];
         let count = n.pairs_begun() as usize;
-        draw_cells(&mut halves, p, cells, shown, looks, inks, scan, count);
-        dots::double(out, &halves, p.width);
+        draw_cells(&mut halves, t, cells, scan, count);
+        dots::double(out, &halves, t.plan.width);
     } else {
         let count = n.cells() as usize;
-        draw_cells(out, p, cells, shown, looks, inks, scan, count);
+        draw_cells(out, t, cells, scan, count);
     }
 }
 
 // All lines of a row from its cells.
-fn draw_lines(
-    out: &mut [u8],
-    p: Plan,
-    k: raster::Code,
-    cells: &[u16],
-    shown: &[u16],
-    looks: &[u8],
-    inks: &[u64],
-)
-    requires tables_fit { TablesFit p shown.now looks.now inks.now × (length cells.now ≡ 256) × Numbered (is_wide k) p cells.now }
-    requires width_in_bounds { p.lines.0 * p.width ≤ length out.old }
+fn draw_lines(out: &mut [u8], t: &Tables, k: raster::Code, cells: &[u16])
+    requires cells_all { length cells.now ≡ 256 }
+    requires width_in_bounds { t.now.plan.lines.0 * t.now.plan.width ≤ length out.old }
     ensures { out.new
-        ≡ joined 0 p.lines.0 (line_from p k cells.now shown.now looks.now)
-        ++ drop (p.lines.0 * p.width) out.old }
+        ≡ joined 0 t.now.plan.lines.0 (line_from t.now.plan k cells.now t.now.shown.now t.now.looks.now)
+        ++ drop (t.now.plan.lines.0 * t.now.plan.width) out.old }
 {
+    let p = t.plan;
     let wide = k.is_wide();
     for s in 0..p.lines.places() {
         let scan = video::scan_of(k, p.lines, units::Lines(s as u32));
-        let stretch = &mut out[s * p.width..];
-        draw_columns(stretch, p, wide, cells, shown, looks, inks, scan);
+        draw_columns(&mut out[s * p.width..], t, wide, cells, scan);
     }
 }
 
 // A row from where it starts: its cells once, then its lines. What is valid before it goes in, and what is valid after it comes out.
 fn draw_row(
     out: &mut [u8],
-    p: Plan,
+    t: &Tables,
     k: raster::Code,
     n: u32,
     chars: &[u8],
     attrs: &[u8],
-    shown: &[u16],
-    looks: &[u8],
-    inks: &[u64],
     start: raster::Cell,
     held: u8,
 ) -> u8
-    requires tables_fit { TablesFit p shown.now looks.now inks.now × (length chars.now ≡ 16384) × (length attrs.now ≡ 16384) }
-    requires n_value { (n ≡ fetched_for (is_wide k) p.columns.0) × (start.address < 16384) × (p.lines.0 * p.width ≤ length out.old) }
-    ensures { (result ≡ held_by p.reading.runs attrs.now p.buffer held start.address (fetched_for (is_wide k) p.columns.0))
+    requires memories { (length chars.now ≡ 16384) × (length attrs.now ≡ 16384) }
+    requires n_value { (n ≡ fetched_for (is_wide k) t.now.plan.columns.0) × (start.address < 16384) × (t.now.plan.lines.0 * t.now.plan.width ≤ length out.old) }
+    ensures { (result ≡ held_by t.now.plan.reading.runs attrs.now t.now.plan.buffer held start.address (fetched_for (is_wide k) t.now.plan.columns.0))
         × (out.new
-        ≡ row_from p k chars.now attrs.now shown.now looks.now held start.address
-        ++ drop (p.lines.0 * p.width) out.old) }
+        ≡ row_from t.now.plan k chars.now attrs.now t.now.shown.now t.now.looks.now held start.address
+        ++ drop (t.now.plan.lines.0 * t.now.plan.width) out.old) }
 {
     let mut cells = [0u16; 256];
-    let buffer = p.buffer;
-    let reading = p.reading;
+    let buffer = t.plan.buffer;
+    let reading = t.plan.reading;
     let valid = tables::gather(
         &mut cells, chars, attrs, reading, buffer, start, held, n as usize,
     );
-    draw_lines(out, p, k, &cells, shown, looks, inks);
+    draw_lines(out, t, k, &cells);
     valid
 }
 
 // All rows. What is latched in one goes on in the next.
-fn draw_rows(
-    out: &mut [u8],
-    p: Plan,
-    page: board::Page,
-    chars: &[u8],
-    attrs: &[u8],
-    shown: &[u16],
-    looks: &[u8],
-    inks: &[u64],
-)
-    requires tables_fit { TablesFit p shown.now looks.now inks.now × (length chars.now ≡ 16384) × (length attrs.now ≡ 16384) }
-    requires accepted { Accepted page × (p ≡ plan_of page) × (p.rows * p.size ≤ length out.old) }
+fn draw_rows(out: &mut [u8], t: &Tables, page: board::Page, chars: &[u8], attrs: &[u8])
+    requires memories { (length chars.now ≡ 16384) × (length attrs.now ≡ 16384) }
+    requires accepted { Accepted page × (t.now.plan ≡ plan_of page) × (t.now.plan.rows * t.now.plan.size ≤ length out.old) }
     ensures { out.new
-        ≡ joined 0 p.rows (row_drawn p page chars.now attrs.now shown.now looks.now)
-        ++ drop (p.rows * p.size) out.old }
+        ≡ joined 0 t.now.plan.rows (row_drawn t.now.plan page chars.now attrs.now t.now.shown.now t.now.looks.now)
+        ++ drop (t.now.plan.rows * t.now.plan.size) out.old }
 {
+    let p = t.plan;
     let mut held = 0;
     for r in 0..p.rows {
         let start = fetch::row_start(page, chars, r);
         let code = raster::Code::from(fetch::code_at(page, chars, r));
         let n = fetch::fetched_of(page, chars, r);
         let stretch = &mut out[r as usize * p.size..];
-        held = draw_row(
-            stretch, p, code, n, chars, attrs, shown, looks, inks, start, held,
-        );
+        held = draw_row(stretch, t, code, n, chars, attrs, start, held);
     }
 }
 
@@ -263,7 +224,13 @@ fn by_rows(
     tables::fill_words(&mut shown, words, flags, lines, scans, d);
     tables::fill_looks(&mut looks, b, field, scans);
     dots::inks(&mut inks);
-    draw_rows(out, p, page, chars, attrs, &shown, &looks, &inks);
+    let t = Tables {
+        plan: p,
+        shown: &shown,
+        looks: &looks,
+        inks: &inks,
+    };
+    draw_rows(out, &t, page, chars, attrs);
 }
 
 // The picture line by line.

@@ -14,10 +14,19 @@ fill_looks-requires c =
     let l = plan-scans _ _ c.requires.page_in_bounds.1 in
     (l, omega (arith, l))
 
+pub invariant_of-t : goal.invariant_of-t
+invariant_of-t c =
+    let q = c.requires.page_in_bounds.1 in
+    let made = made_of c.args.b _ _ c.args.lines c.args.field _ _ _ _ _ q (rw c.places-d.ensures at c.fill_words.ensures) c.fill_looks.ensures in
+    record { fit = sheet-of c.args.b _ _ c.args.lines c.args.field _ _ _ c.requires.lent.page made (search rules) (search rules) c.inks.ensures _ q }
+
 pub draw_rows-requires : goal.draw_rows-requires
 draw_rows-requires c =
     let q = c.requires.page_in_bounds.1 in
-    let made = made_of c.args.b _ _ c.args.lines c.args.field _ _ _ _ _ q (rw c.places-d.ensures at c.fill_words.ensures) c.fill_looks.ensures in record { tables_fit = (sheet-of c.args.b _ _ c.args.lines c.args.field _ _ _ c.requires.lent.page made (search rules) (search rules) c.inks.ensures _ q, c.requires.lent.chars-all, c.requires.lent.attrs-all); accepted = (c.requires.lent.page, q, rw (plan-size _ _ q) c.requires.page_in_bounds.0) }
+    record {
+      memories = (c.requires.lent.chars-all, c.requires.lent.attrs-all);
+      accepted = (c.requires.lent.page, q, rw (plan-size _ _ q) c.requires.page_in_bounds.0);
+    }
 
 pub returns : goal.returns
 returns c =

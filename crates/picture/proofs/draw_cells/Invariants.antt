@@ -9,5 +9,5 @@ use Rattle.picture.proofs.draw_cells.Given as goal
 
 abbrev pub invariant-loop-i : goal.invariant-loop-i
 invariant-loop-i l =
-    Spilling (joined 0 (l.last + 1) (cell_from l.cells l.shown l.looks l.d l.scan.0) ++ drop ((l.last + 1) * l.d) l.initial.out) l.initial.out ((l.last + 1) * l.d) l.out (l.i * l.d) l.d
-    (joined l.i (l.last + 1 - l.i) (cell_from l.cells l.shown l.looks l.d l.scan.0))
+    Spilling (joined 0 (l.last + 1) (cell_from l.cells l.t.shown.now l.t.looks.now l.d l.scan.0) ++ drop ((l.last + 1) * l.d) l.initial.out) l.initial.out ((l.last + 1) * l.d) l.out (l.i * l.d) l.d
+    (joined l.i (l.last + 1 - l.i) (cell_from l.cells l.t.shown.now l.t.looks.now l.d l.scan.0))

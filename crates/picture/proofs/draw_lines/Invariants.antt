@@ -9,5 +9,5 @@ use Rattle.picture.proofs.draw_lines.Given as goal
 
 abbrev pub invariant-loop-s : goal.invariant-loop-s
 invariant-loop-s l =
-    Filling (joined 0 l.s-end (line_from l.p l.k l.cells l.shown l.looks) ++ drop (l.s-end * l.p.width) l.initial.out) l.initial.out (l.s-end * l.p.width) l.out (l.s * l.p.width)
-    (joined l.s (l.s-end - l.s) (line_from l.p l.k l.cells l.shown l.looks))
+    Filling (joined 0 l.s-end (line_from l.p l.k l.cells l.t.shown.now l.t.looks.now) ++ drop (l.s-end * l.p.width) l.initial.out) l.initial.out (l.s-end * l.p.width) l.out (l.s * l.p.width)
+    (joined l.s (l.s-end - l.s) (line_from l.p l.k l.cells l.t.shown.now l.t.looks.now))

@@ -3,7 +3,6 @@ use Prim.Native.Nat.{ℕ, ◌<◌}
 use native.Mathlib.Omega.{arith}
 use borrow.Author.Rules.{rules}
 use lib.ListN.{get_or}
-use Rattle.tables.specs.Laws.{gathered-lt}
 use Rattle.picture.specs.Plan.{as_row, held_after}
 use Rattle.picture.proofs.draw_row.Goals as goal
 
@@ -11,12 +10,12 @@ pub draw_lines-requires : goal.draw_lines-requires
 draw_lines-requires c =
     let bytes : (i : ℕ) → get_or c.args.chars.now i 0 < 256 = λ i. omega (arith, c.type_inv.chars i) in
     let pre = c.requires in
-    record { tables_fit = (pre.tables_fit.0, search rules, (λ i h. gathered-lt _ _ _ _ _ _ _ _ _ c.gather-valid.ensures.1 bytes i (omega (arith, h, pre.n_value.0)))); width_in_bounds = pre.n_value.2 }
+    record { cells_all = search rules; width_in_bounds = pre.n_value.2 }
 
 pub returns : goal.returns
 returns c =
     let a = c.args in
     let n = c.requires.n_value.0 in (
-      held_after a.p a.k a.chars.now a.attrs.now a.held a.start.address n _ c.gather-valid.ensures.0,
-      as_row a.p a.k a.chars.now a.attrs.now a.held a.start.address n _ _ _ _ _ _ c.gather-valid.ensures.1 c.draw_lines.ensures,
+      held_after a.t.now.plan a.k a.chars.now a.attrs.now a.held a.start.address n _ c.gather-valid.ensures.0,
+      as_row a.t.now.plan a.k a.chars.now a.attrs.now a.held a.start.address n _ _ _ _ _ _ c.gather-valid.ensures.1 c.draw_lines.ensures,
     )

@@ -11,6 +11,6 @@ use Rattle.picture.proofs.draw_rows.Given as goal
 
 abbrev pub invariant-loop-r : goal.invariant-loop-r
 invariant-loop-r l =
-    Filling (joined 0 l.r-end (row_drawn l.p l.page l.chars l.attrs l.shown l.looks) ++ drop (l.r-end * l.p.size) l.initial.out) l.initial.out (l.r-end * l.p.size) l.out (l.r * l.p.size)
-    (joined l.r (l.r-end - l.r) (row_drawn l.p l.page l.chars l.attrs l.shown l.looks))
+    Filling (joined 0 l.r-end (row_drawn l.p l.page l.chars l.attrs l.t.shown.now l.t.looks.now) ++ drop (l.r-end * l.p.size) l.initial.out) l.initial.out (l.r-end * l.p.size) l.out (l.r * l.p.size)
+    (joined l.r (l.r-end - l.r) (row_drawn l.p l.page l.chars l.attrs l.t.shown.now l.t.looks.now))
     × (l.held ≡ held_at l.page l.chars l.attrs l.r 0)

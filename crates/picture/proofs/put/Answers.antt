@@ -5,4 +5,4 @@ use Rattle.picture.proofs.put.Goals as goal
 pub returns : goal.returns
 unfolding cell_dots_of
 returns c =
-    rw (c.places.ensures, c.places-s.ensures) at c.put_cell.ensures
+    rw (c.places-d.ensures, c.places-s.ensures) at c.put_cell.ensures
