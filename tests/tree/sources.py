@@ -15,6 +15,10 @@ SECTIONS = {  # the first word of a tag, and the heading that it stands for
 }
 TAG = re.compile(r'\[((?:' + '|'.join(SECTIONS) + r') [\w. -]+)\]')
 FUNCTION = re.compile(r'^( *)(pub )?(?:extern "C" )?fn (\w+)(.*?)(?:^\1| )\{\n(.*?)^\1\}', re.M | re.S)
+TRAIT = re.compile(r'^pub trait (\w+).*?\{\n(.*?)^\}', re.M | re.S)
+PROMISE = re.compile(r'^    fn (\w+)(.*?)(?:;$| \{$|^    \{$)', re.M | re.S)  # a function of a trait, with a body or none
+IMPL = re.compile(r'^impl (\w+)(?:<\w+>)? for (\w+) \{\n(.*?)^\}', re.M | re.S)
+GHOST = re.compile(r'ghost (\w+) = \{ (?:λ ([\w ]+)\. )?(.*?) \};')
 DECLARED = re.compile(r' *((?:abbrev|unfoldable) )?(?:pub )?(?:(?:record|data) (\S+)|([^\s(){}:=]+) :)')
 
 
@@ -89,10 +93,38 @@ def in_order(pattern, kind=''):  # the files of all libraries, or ' staticlib', 
     return [path for crate in crates for path in sorted(Path('crates', crate).glob(pattern))]
 
 
+def put_in(text, name, taken, fact):  # a ghost function's text in place of its name and what it is given
+    if not taken:
+        return re.sub(rf'\b{name}\b', fact, text)
+    return re.sub(rf'\b{name} (\w+)', lambda m: re.sub(rf'\b{taken}\b', m[1], fact), text)
+
+
+def kept(path, text):  # what a type keeps of a public trait or of `From`: each function, with the type's own words
+    traits = {m[1]: m for m in TRAIT.finditer(text)}
+    for impl in IMPL.finditer(text):
+        ghosts = GHOST.findall(impl[3])
+        for m in PROMISE.finditer(impl[3]) if impl[1] == 'From' else ():
+            name, (given, result), fact = ghosts[0][0], ghosts[0][1].split(), ghosts[0][2]
+            head = m[2].rstrip() + ' ensures { ' + re.sub(rf'\b{result}\b', 'result', fact) + ' }'
+            yield Function(path.parts[1], f'{impl[2]}::{m[1]}', True, '', head, '', path, impl.span())
+        trait = traits.get(impl[1])
+        for m in PROMISE.finditer(trait[2]) if trait and len(ghosts) > 1 else ():
+            head = re.sub(r'\bSelf\b', impl[2], m[2])
+            for ghost in ghosts:
+                head = put_in(head, *ghost) if ghost[1] else head.replace(f' {ghost[0]} ', f' {ghost[2]} ')
+            start = trait.start(2) + m.start()
+            yield Function(path.parts[1], f'{impl[2]}::{m[1]}', True, comment_above(text, start, '//'), head, '', path,
+                           (start, trait.start(2) + m.end()))
+
+
 def functions(kind=''):
     for path in in_order('src/*.rt', kind):
         text = path.read_text()
+        yield from kept(path, text)
+        inside = [m.span() for pattern in (TRAIT, IMPL) for m in pattern.finditer(text)]
         for m in FUNCTION.finditer(text):
+            if any(start < m.start() < end for start, end in inside):
+                continue
             owner = re.findall(r'^impl (\w+) \{', text[:m.start()], re.M)[-1:] if m[1] else []
             yield Function(path.parts[1], '::'.join(owner + [m[3]]), bool(m[2]), comment_above(text, m.start(), '//'),
                            m[4], m[5], path, m.span())

@@ -1,11 +1,11 @@
 -- No second answer meets the contract of a public function of `units`, `refusal`, `raster`, `board`, `timing` or `registers`: it names its answer, so each of
 -- these is `only`.
-use Rattle.std.specs.Prelude.{ℕ, min, ◌+◌, ◌-◌, ◌*◌, ◌/◌, ◌%◌, eqb, ltb, leb, ◌≡◌, Bool}
+use Rattle.std.specs.Prelude.{ℕ, min, ◌+◌, ◌-◌, ◌*◌, ◌/◌, ◌%◌, eqb, ltb, leb, ◌≡◌, Bool, is_ok}
 use Rattle.lists.specs.Answer.{OneAnswer, only}
 use Rattle.units.specs.declared.Dots.{Dots}
 use Rattle.units.specs.declared.Clocks.{Clocks}
 use Rattle.units.specs.declared.Lines.{Lines}
-use Rattle.units.specs.Units.{clocks, lines, during, clocks_of, whole_lines, dots_of}
+use Rattle.units.specs.Units.{clocks, lines, dots, during, clocks_of, whole_lines, dots_of}
 use Rattle.refusal.specs.Number.{Checked, number_of, beside_of, wrong_size}
 use Rattle.raster.specs.declared.Buffer.{Buffer}
 use Rattle.raster.specs.declared.Cell.{Cell}
@@ -29,6 +29,9 @@ use Rattle.registers.specs.Read.{read_of}
 use Rattle.registers.specs.Video.{set_video_of}
 
 -- ---- `units`
+
+pub clocks-count-of-one : (n : ℕ) → OneAnswer (λ r. r ≡ clocks n)
+clocks-count-of-one n = only _
 
 pub clocks-below-one : (a b : Clocks) → OneAnswer (λ r. r ≡ ltb a.0 b.0)
 clocks-below-one a b = only _
@@ -57,6 +60,9 @@ clocks-during-one a from n = only _
 pub clocks-remainder-one : (a n : Clocks) → OneAnswer (λ r. r ≡ clocks (a.0 % n.0))
 clocks-remainder-one a n = only _
 
+pub clocks-half-one : (a : Clocks) → OneAnswer (λ r. r ≡ clocks (a.0 / 2))
+clocks-half-one a = only _
+
 pub clocks-is-odd-one : (a : Clocks) → OneAnswer (λ r. r ≡ eqb (a.0 % 2) 1)
 clocks-is-odd-one a = only _
 
@@ -68,6 +74,9 @@ clocks-pairs-one a = only _
 
 pub clocks-pairs-begun-one : (a : Clocks) → OneAnswer (λ r. r ≡ (a.0 + 1) / 2)
 clocks-pairs-begun-one a = only _
+
+pub lines-count-of-one : (n : ℕ) → OneAnswer (λ r. r ≡ lines n)
+lines-count-of-one n = only _
 
 pub lines-below-one : (a b : Lines) → OneAnswer (λ r. r ≡ ltb a.0 b.0)
 lines-below-one a b = only _
@@ -102,8 +111,26 @@ lines-half-one a = only _
 pub lines-places-one : (a : Lines) → OneAnswer (λ r. r ≡ a.0)
 lines-places-one a = only _
 
+pub dots-count-of-one : (n : ℕ) → OneAnswer (λ r. r ≡ dots n)
+dots-count-of-one n = only _
+
 pub dots-below-one : (a b : Dots) → OneAnswer (λ r. r ≡ ltb a.0 b.0)
 dots-below-one a b = only _
+
+pub dots-plus-one : (a b : Dots) → OneAnswer (λ r. r ≡ dots (a.0 + b.0))
+dots-plus-one a b = only _
+
+pub dots-minus-one : (a b : Dots) → OneAnswer (λ r. r ≡ dots (a.0 - b.0))
+dots-minus-one a b = only _
+
+pub dots-times-one : (a : Dots) (k : ℕ) → OneAnswer (λ r. r ≡ dots (k * a.0))
+dots-times-one a k = only _
+
+pub dots-remainder-one : (a n : Dots) → OneAnswer (λ r. r ≡ dots (a.0 % n.0))
+dots-remainder-one a n = only _
+
+pub dots-half-one : (a : Dots) → OneAnswer (λ r. r ≡ dots (a.0 / 2))
+dots-half-one a = only _
 
 pub dots-places-one : (a : Dots) → OneAnswer (λ r. r ≡ a.0)
 dots-places-one a = only _
@@ -124,6 +151,9 @@ number-one x = only _
 
 pub beside-one : (x : Checked) → OneAnswer (λ r. r ≡ beside_of x)
 beside-one x = only _
+
+pub is-done-one : (x : Checked) → OneAnswer (λ r. r ≡ is_ok x)
+is-done-one x = only _
 
 pub wrong-size-one : (wrong : Bool) → OneAnswer (λ r. r ≡ wrong_size wrong)
 wrong-size-one wrong = only _

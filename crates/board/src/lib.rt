@@ -1,5 +1,6 @@
 #![tactic(auto)]
-// The board's whole state, by value. It holds numbers only and is laid out as C lays it out, so that every bit pattern is a value.
+// The board's whole state, by value. It holds numbers only and is laid out as C lays it out, so that every bit
+// pattern is a value.
 ghost use Rattle.std.specs.Prelude.{◌≡◌};
 ghost use Rattle.board.specs.State.{clock_zero, power_of};
 ghost use Rattle.board.specs.Layout.{layout_of, last_ir, page_length};
@@ -29,7 +30,8 @@ pub struct Layout {
     pub rest: usize,
 }
 
-// What a page file holds beside the memories. The switches are the file's byte: bit 0 display, 1 cursor, 2 BKGND, 3 RBLANK, and from version 2 on bit
+// What a page file holds beside the memories. The switches are the file's byte: bit 0 display, 1 cursor, 2 BKGND, 3
+// RBLANK, and from version 2 on bit
 // 4 field mode, 5 ACD. The chip counts in version 3.
 #[repr(C)]
 #[derive(Clone, Copy)]
@@ -52,7 +54,8 @@ pub struct Place {
     pub row: raster::Row,
 }
 
-// The pointer names an IR. The count of master resets in a row is the power state: 0 or 1 is inactive, 2 and above active.
+// The pointer names an IR. The count of master resets in a row is the power state: 0 or 1 is inactive, 2 and above
+// active.
 #[repr(C)]
 #[derive(Clone, Copy)]
 pub struct Board {

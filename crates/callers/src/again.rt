@@ -57,7 +57,8 @@ pub fn font_again(file: &[u8], out: &mut [u8]) -> Answer
     }
 }
 
-// A page's numbers made a board, the board written and read again: the same numbers, and zeros where numbers are ignored.
+// A page's numbers made a board, the board written and read again: the same numbers, and zeros where numbers are
+// ignored.
 pub fn numbers_again(numbers: &[u8], chars: &[u8], attrs: &[u8], out: &mut [u8]) -> Answer
     ensures { let c = length chars.now in let a = length attrs.now in
         (result ≡ answer_of (numbers_again_check numbers.now c a (length out.old)))

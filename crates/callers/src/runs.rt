@@ -2,7 +2,8 @@
 ghost use Rattle.std.specs.Prelude.{◌≡◌, true, ◌+◌};
 ghost use Rattle.callers.specs.Runs.{run_part, run_start};
 
-// What C takes from character memory, by the first address and the count that it is answered, is the row's run: the same cells at the same place; none on a refusal.
+// What C takes from character memory, by the first address and the count that it is answered, is the row's run: the
+// same cells at the same place; none on a refusal.
 pub fn run_taken<'a>(numbers: &[u8], chars: &'a [u8], row: u32) -> &'a [u8]
     ensures { (result.now ≡ run_part numbers.now chars.now row)
         × (result.ref_ptr.0 ≡ chars.entry.ref_ptr.0)

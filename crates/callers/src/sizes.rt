@@ -1,7 +1,8 @@
 // The calls that take a page's numbers alone. C has a struct for each of their answers, so `==` does not compare them.
 ghost use Rattle.std.specs.Prelude.{◌≡◌, true};
 
-// The check, the size and the board of any numbers answer the same, with the same number beside it, and on a refusal the
+// The check, the size and the board of any numbers answer the same, with the same number beside it, and on a refusal
+// the
 // size is 0 by 0.
 pub fn numbers_agree(numbers: &[u8]) -> bool
     ensures { result ≡ true }

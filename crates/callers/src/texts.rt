@@ -13,7 +13,8 @@ fn put_codes(chars: &[u8], cells: &[u16], n: usize, text: &mut [u8])
     }
 }
 
-// Each cell that is answered lies in character memory, and its code is what the row shows there. Text without room for the row, or of a refused row, stays.
+// Each cell that is answered lies in character memory, and its code is what the row shows there. Text without room
+// for the row, or of a refused row, stays.
 pub fn row_text(numbers: &[u8], chars: &[u8], row: u32, text: &mut [u8])
     ensures { text.new ≡ row_text numbers.now chars.now row text.old }
 {
@@ -33,7 +34,8 @@ pub fn text_begins<'a>(numbers: &[u8], chars: &'a [u8], row: u32, text: &mut [u8
     crate::runs::run_taken(numbers, chars, row)
 }
 
-// Both calls refuse a row by the same number, with the same beside it, and its cells are at least as many as its run has.
+// Both calls refuse a row by the same number, with the same beside it, and its cells are at least as many as its run
+// has.
 pub fn cells_agree(numbers: &[u8], chars: &[u8], row: u32) -> bool
     ensures { result ≡ true }
 {

@@ -32,7 +32,8 @@ pub fn half_woken(byte: u8) -> BoardAnswer
     feldrime::feldrime_register_write(one, 0, byte)
 }
 
-// From 10 hex up to the last IR of the page: the next write at 0 loads the register that the command names, and no other.
+// From 10 hex up to the last IR of the page: the next write at 0 loads the register that the command names, and no
+// other.
 pub fn pointed_load(b: board::Board, command: u8, byte: u8) -> BoardAnswer
     ensures { Ready b → 16 ≤ command → command ≤ last_ir b.page.version + 16 → result ≡ board_answer unrefused (loaded_at b (command - 16) byte) }
 {

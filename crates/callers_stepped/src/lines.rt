@@ -68,7 +68,8 @@ fn alone(number: u32) -> Answer
     }
 }
 
-// What the call that draws answers, from the calls that step. A step answers 3 and 12 for what is lent whatever the board is, and the page of a board
+// What the call that draws answers, from the calls that step. A step answers 3 and 12 for what is lent whatever the
+// board is, and the page of a board
 // that was made, or of power's, has no 12 of its own.
 fn line_answer(
     numbers: &[u8],
@@ -146,7 +147,8 @@ pub fn line_by_steps(
     answer
 }
 
-// The two ways to draw from C, over the same numbers: the same answer, and what was the same in both buffers is the same again.
+// The two ways to draw from C, over the same numbers: the same answer, and what was the same in both buffers is the
+// same again.
 pub fn drawn_both_ways(
     numbers: &[u8],
     chars: &[u8],

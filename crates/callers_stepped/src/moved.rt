@@ -6,7 +6,8 @@ ghost use Rattle.agreement.specs.FromC.{step_c};
 
 use feldrime::{Answer, StepAnswer};
 
-// What either move leaves, refused or not, has the picture that stands there already: the contract is that of `feldrime_picture_draw`.
+// What either move leaves, refused or not, has the picture that stands there already: the contract is that of
+// `feldrime_picture_draw`.
 pub fn moved_over_picture(
     numbers: &mut [u8],
     chars: &mut [u8],
@@ -58,7 +59,8 @@ fn step_after(
     s.answer
 }
 
-// What either move leaves, refused or not, is answered the same at every step: the contract is that of the numbers and memory handed over.
+// What either move leaves, refused or not, is answered the same at every step: the contract is that of the numbers
+// and memory handed over.
 pub fn moved_step(
     there: bool,
     numbers: &mut [u8],

@@ -4,7 +4,8 @@ ghost use Rattle.feldrime.specs.PictureDraw.{DrawsPictureFor};
 
 use feldrime::Answer;
 
-// Any visible line that `feldrime_line_draw` draws over the picture stands there already: the contract is that of `feldrime_picture_draw`.
+// Any visible line that `feldrime_line_draw` draws over the picture stands there already: the contract is that of
+// `feldrime_picture_draw`.
 pub fn line_over_picture(
     numbers: &[u8],
     chars: &[u8],

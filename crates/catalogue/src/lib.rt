@@ -158,7 +158,8 @@ fn write_table(chars: &mut [u8], p: board::Page, place: usize)
     );
 }
 
-// A sheet becomes a page with a row table, in the lowest stretch of cells that no row fetches: the board with that page.
+// A sheet becomes a page with a row table, in the lowest stretch of cells that no row fetches: the board with that
+// page.
 pub fn to_table(b: board::Board, chars: &mut [u8]) -> Result<board::Board, Refusal>
     ensures { MovesToTable b chars.old result chars.new }
 {

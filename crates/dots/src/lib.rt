@@ -73,7 +73,8 @@ fn change(from: u64, to: u64) -> u64
     from ^ to
 }
 
-// What eight dots are made from: a mask for each byte of a word, FF hex for a dot of the symbol, then for each of sixteen
+// What eight dots are made from: a mask for each byte of a word, FF hex for a dot of the symbol, then for each of
+// sixteen
 // looks the surround in every byte, and what makes the symbol of it.
 fn ink(i: usize) -> u64
     requires { i < 288 }
@@ -108,7 +109,8 @@ fn blend(inks: &[u64], levels: u8, word: u16) -> u64
     inks[256 + look] ^ (inks[(word % 256) as usize] & inks[272 + look])
 }
 
-// A cell from its word, in which the low d bits are its dots. A cell of fewer than eight dots is stored as eight unless it
+// A cell from its word, in which the low d bits are its dots. A cell of fewer than eight dots is stored as eight
+// unless it
 // is tight: the next cell is then drawn over what is too much.
 pub fn put_cell(out: &mut [u8], inks: &[u64], levels: u8, word: u16, d: usize, tight: bool)
     requires { (inks.now ≡ tab 288 ink_of) × (levels < 16) × (6 ≤ d) × (d ≤ 12) × (reach_of tight d ≤ length out.old) }

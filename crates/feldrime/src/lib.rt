@@ -483,12 +483,6 @@ pub struct StepBy {
     pub board: board::Board,
 }
 
-fn bit(on: bool) -> u32
-    ensures { result ≡ pick on 1 0 }
-{
-    if on { 1 } else { 0 }
-}
-
 fn number_of(s: step::Stepped) -> StepAnswer
     ensures { result ≡ numbered s }
 {
@@ -497,11 +491,11 @@ fn number_of(s: step::Stepped) -> StepAnswer
     StepAnswer {
         refusal: refusal::number(refused),
         beside: refusal::beside(refused),
-        hsync: bit(s.signals.hsync),
-        vsync: bit(s.signals.vsync),
-        blank: bit(s.signals.blank),
-        cursor: bit(s.signals.cursor),
-        blink: bit(s.signals.blink),
+        hsync: u32::from(s.signals.hsync),
+        vsync: u32::from(s.signals.vsync),
+        blank: u32::from(s.signals.blank),
+        cursor: u32::from(s.signals.cursor),
+        blink: u32::from(s.signals.blink),
         address: s.address as u32,
         dots: dots,
     }

@@ -1,5 +1,6 @@
 #![tactic(auto)]
-// The calls as C makes them, by the names of include/feldrime.h. Each is that of `feldrime` and states its clauses again.
+// The calls as C makes them, by the names of include/feldrime.h. Each is that of `feldrime` and states its clauses
+// again.
 ghost use Rattle.std.specs.Prelude.{◌≡◌};
 ghost use Rattle.board.specs.State.{power_of};
 ghost use Rattle.shape.specs.Font.{lent_font, font_to_fill, left_font};

@@ -169,7 +169,8 @@ pub fn span_of(b: board::Board, chars: &[u8], row: u32) -> Result<Span, Refusal>
 }
 
 // A row's first run of cells, as that part of the caller's character memory: its cells, and where it stands.
-// It is empty on a refusal, whose number is set beside it.
+// It is empty on a refusal, whose number is set beside it: 01 asks for a returned part of that form, and `span_of` is
+// the one that answers a `Result`.
 #[tactic(auto, unfolding(crate::specs::Run::span_of, crate::specs::Run::run_of))]
 pub fn row_run<'a>(b: board::Board, chars: &'a [u8], row: u32, refusal: &mut u32) -> &'a [u8]
     ensures { GivesRun b chars.now row chars.entry.ref_ptr.0 chars.entry.ref_ptr.1

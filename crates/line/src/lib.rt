@@ -50,7 +50,8 @@ fn cells(out: &mut [u8], w: Walk, row: &[u16], looks: &[u8], words: &[u16], flag
     }
 }
 
-// Writes the dots of n columns: of a row of double width its cells first, and then each dot twice. A picture does it with cells from tables:
+// Writes the dots of n columns: of a row of double width its cells first, and then each dot twice. A picture does it
+// with cells from tables:
 // one function for both would take the cells' drawing as a closure, with clauses over all that it lends, and be longer.
 fn columns(
     out: &mut [u8],
@@ -99,7 +100,8 @@ fn held_for(p: board::Page, chars: &[u8], attrs: &[u8], row: u32, start: raster:
     0
 }
 
-// 7 for a line that is not visible, 8 for a buffer that is too short; of an accepted page the line's dots are few enough to count.
+// 7 for a line that is not visible, 8 for a buffer that is too short; of an accepted page the line's dots are few
+// enough to count.
 #[tactic(auto, unfolding(timing::specs::Fields::timing_of, timing::specs::Fields::counts_of))]
 fn line_check(p: board::Page, line: units::Lines, room: usize) -> Result<(), Refusal>
     requires { Accepted p }

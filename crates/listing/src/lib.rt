@@ -81,7 +81,8 @@ fn room_for_dots(room: usize) -> usize
     if room == 0 { 0 } else { room - 1 }
 }
 
-// A visible line of the listing as it looks in a field, at the front of out, and how many bytes it has. A refusal leaves
+// A visible line of the listing as it looks in a field, at the front of out, and how many bytes it has. A refusal
+// leaves
 // out as it was.
 pub fn listing_line(
     b: board::Board,

@@ -1,5 +1,6 @@
 #![tactic(auto)]
-// An index of phrases (02, R-6): which record holds a row, and which two records disagree. The decisions are the crate `records`'; these go over the records, however they are kept.
+// An index of phrases (02, R-6): which record holds a row, and which two records disagree. The decisions are the
+// crate `records`'; these go over the records, however they are kept.
 ghost use Rattle.std.specs.Prelude.{◌≡◌, ◌≤◌, ◌<◌, List, length, get_or};
 ghost use Rattle.records.specs.declared.Phrase.{Phrase};
 ghost use Rattle.records.specs.Records.{none, phrase_of_row, phrases_differ};

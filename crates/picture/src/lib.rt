@@ -17,7 +17,8 @@ ghost use Rattle.picture.specs.Agree.{shaped_over};
 use refusal::Refusal;
 use units::Unit;
 
-// What is the same for all rows: columns, dots a cell, lines a row, its scan lines, rows, the bytes of a line and of a row, the buffer, how cells are read.
+// What is the same for all rows: columns, dots a cell, lines a row, its scan lines, rows, the bytes of a line and of
+// a row, the buffer, how cells are read.
 #[derive(Clone, Copy)]
 pub struct Plan {
     pub columns: units::Clocks,
@@ -41,7 +42,8 @@ struct Tables<'a> {
     ghost fit: { TablesFit plan shown.now looks.now inks.now },
 }
 
-// One cell from its number, on a scan line. No branch goes by what a cell is.
+// One cell from its number, on a scan line. No branch goes by what a cell is. `line` does the same from the font: there
+// one line is drawn, and tables would cost more than they save.
 fn put(out: &mut [u8], t: &Tables, scan: units::Lines, number: u16, tight: bool)
     requires scan_lt_scans { scan.0 < t.now.plan.scans.0 }
     requires dots_in_bounds { reach_of tight t.now.plan.dots.0 ≤ length out.old }
@@ -108,7 +110,8 @@ fn draw_lines(out: &mut [u8], t: &Tables, k: raster::Code, cells: &[u16])
     }
 }
 
-// A row from where it starts: its cells once, then its lines. What is valid before it goes in, and what is valid after it comes out.
+// A row from where it starts: its cells once, then its lines. What is valid before it goes in, and what is valid
+// after it comes out.
 fn draw_row(
     out: &mut [u8],
     t: &Tables,

@@ -160,7 +160,8 @@ fn ends_at(p: board::Page, k: raster::Code, clock: units::Clocks) -> bool
     !k.is_wide() | (clock.is_odd() | (next == t.counts.hact))
 }
 
-// Past a clock: the cell that it fetches is latched where it has AFLG, and after a cell's last column the beam moves on.
+// Past a clock: the cell that it fetches is latched where it has AFLG, and after a cell's last column the beam moves
+// on.
 fn past_cell(p: board::Page, attrs: &[u8], clock: units::Clocks, x: raster::Row) -> raster::Row
     requires { (length attrs.now ≡ 16384) × (clock.0 < 384) × (x.address < 16384) }
     ensures { result ≡ past_cell p attrs.now clock.0 x }
@@ -324,7 +325,8 @@ fn at_origin(c: units::Clocks, line: units::Lines, frame: u32) -> bool
     (c == units::Clocks(0)) & (line == units::Lines(0)) & (frame == 0)
 }
 
-// What is carried before clock c of a line of a frame. The work is the same for every clock; at clock 0 it is not needed.
+// What is carried before clock c of a line of a frame. The work is the same for every clock; at clock 0 it is not
+// needed.
 fn carried_before(
     p: board::Page,
     chars: &[u8],

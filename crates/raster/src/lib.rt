@@ -1,5 +1,6 @@
 #![tactic(auto)]
-// The beam: where it is, and which cell it is at. Almost all of this crate is theory (specs/); the code is the move from cell to cell.
+// The beam: where it is, and which cell it is at. Almost all of this crate is theory (specs/); the code is the move
+// from cell to cell.
 ghost use Rattle.std.specs.Prelude.{◌≡◌};
 ghost use Rattle.raster.specs.Moves.{cell, advance, advance_by};
 ghost use Rattle.raster.specs.Latch.{latched};
@@ -11,7 +12,8 @@ pub struct Cell {
     pub address: u16,
 }
 
-// What the beam carries along, and what a row keeps: a cell's address, and the attribute byte that was latched before it, 0 for none.
+// What the beam carries along, and what a row keeps: a cell's address, and the attribute byte that was latched
+// before it, 0 for none.
 #[repr(C)]
 #[derive(Clone, Copy)]
 pub struct Beam {

@@ -6,7 +6,8 @@ ghost use Rattle.records.specs.Records.{bad_record, disagrees, pair_answer};
 ghost use Rattle.records.specs.Ends.{ends_by, asked_of, holds_ends};
 ghost use Rattle.records.specs.Folds.{start_of, visit_of, label_of, same_label, unequal, mate_start, mate_visit, mate_four, first_four, fours_from, pair_start, pair_visit};
 
-// A phrase in a language, by its number: its cells are first to first + length - 1. Any four numbers may be handed over.
+// A phrase in a language, by its number: its cells are first to first + length - 1. Any four numbers may be handed
+// over.
 #[repr(C)]
 #[derive(Clone, Copy)]
 pub struct Phrase {
@@ -112,7 +113,8 @@ fn holds(p: Phrase, asked: Asked) -> bool
     (p.first <= asked.low) & ((asked.high as u64) < p.first as u64 + p.length as u64)
 }
 
-// The same language and number, and another first cell or length. A derived `==` would be no plainer: of the four fields two
+// The same language and number, and another first cell or length. A derived `==` would be no plainer: of the four
+// fields two
 // are to agree, and of the others one is not to.
 fn disagree(p: Phrase, o: Phrase) -> bool
     ensures { result ≡ disagrees p o }
@@ -171,7 +173,8 @@ pub fn start_mate(o: Phrase) -> Mate
     }
 }
 
-// Language and number in one number, so that a single branch lets a record go by. With two branches one processor guessed
+// Language and number in one number, so that a single branch lets a record go by. With two branches one processor
+// guessed
 // wrong at every record of the same language, and the search took seven times as long.
 fn label(p: Phrase) -> u64
     ensures { result ≡ label_of p }
@@ -227,8 +230,10 @@ fn first_four(a: bool, b: bool, c: bool, i: usize) -> usize
     i + 3
 }
 
-// The same for four records in a row, the first at i. A loop that visits one record a turn is so short that its time went
-// by where the linker put it, up to twice as long at some places. Whether labels are the same is asked once of each record.
+// The same for four records in a row, the first at i. A loop that visits one record a turn is so short that its time
+// went
+// by where the linker put it, up to twice as long at some places. Whether labels are the same is asked once of each
+// record.
 pub fn visit_four(s: Mate, a: Phrase, b: Phrase, c: Phrase, d: Phrase, i: usize, o: Phrase) -> Mate
     requires { i + 3 < 18446744073709551616 }
     ensures { result ≡ mate_four s a b c d i o }

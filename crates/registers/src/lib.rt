@@ -75,6 +75,7 @@ fn loaded(b: board::Board, v: u8) -> board::Board
     }
 }
 
+// Each keeps one byte of an address. `upper` takes six bits of v, so `u16::from_be_bytes` would be no plainer.
 fn lower(x: u16, v: u8) -> u16
     ensures { result ≡ lower_of x v }
 {

@@ -7,7 +7,8 @@ ghost use Rattle.shape.specs.Laws.{weight_of};
 use refusal::Refusal;
 use units::Unit;
 
-// What a scan line takes from a font: the first position in each of its two lists that equals the scan line, or the list's length; and its group.
+// What a scan line takes from a font: the first position in each of its two lists that equals the scan line, or the
+// list's length; and its group.
 #[derive(Clone, Copy)]
 pub struct FontLine {
     pub unshifted: usize,
@@ -21,7 +22,8 @@ pub struct FontLines {
     pub each: [FontLine; 16],
 }
 
-// The first position in a list of line numbers that equals the scan line, or the list's length. Four bits of a line number count.
+// The first position in a list of line numbers that equals the scan line, or the list's length. Four bits of a line
+// number count.
 fn position(list: &[u8], scan: units::Lines) -> usize
     ensures { result ≡ position_of list.now scan.0 }
 {
@@ -126,7 +128,8 @@ fn chosen(flag: u8, line: FontLine) -> usize
     }
 }
 
-// What a code is multiplied by so that a group's pair stands where CA6 and CA7 do. It is the same for all cells of a line, so it is worked out once.
+// What a code is multiplied by so that a group's pair stands where CA6 and CA7 do. It is the same for all cells of a
+// line, so it is worked out once.
 fn weight(group: u8) -> u16
     ensures { result ≡ weight_of group }
 {

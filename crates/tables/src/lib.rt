@@ -11,7 +11,8 @@ ghost use Rattle.tables.specs.Tables.{cell_number, number_for, levels_for, code_
 
 use units::Unit;
 
-// What attribute bit 5 adds to a code: 256 if it means graphics. A number, since a test in the loop would keep the compiler from making vectors.
+// What attribute bit 5 adds to a code: 256 if it means graphics. A number, since a test in the loop would keep the
+// compiler from making vectors.
 fn graphics_step(graphics: bool) -> u16
     ensures { result ≡ pick graphics 256 0 }
 {
@@ -66,7 +67,8 @@ fn cell_at(
     (number, run_on(k.runs, attributes, held))
 }
 
-// The cells of a row that are one run. The compiler makes vectors of it unless attributes run on. All in them has sixteen bits, the cell's address too.
+// The cells of a row that are one run. The compiler makes vectors of it unless attributes run on. All in them has
+// sixteen bits, the cell's address too.
 fn gather_run(
     cells: &mut [u16],
     chars: &[u8],
@@ -115,7 +117,8 @@ fn gather_round(
     valid
 }
 
-// The cells of a row from its start on, each once for all its lines, where held is valid before the row; and what is valid after it.
+// The cells of a row from its start on, each once for all its lines, where held is valid before the row; and what is
+// valid after it.
 pub fn gather(
     cells: &mut [u16],
     chars: &[u8],
@@ -165,7 +168,8 @@ pub fn looks(table: &mut [u8], s: video::Scene)
     half(&mut table[64..], s, true);
 }
 
-// Those of n scan lines, end to end. One function for this loop and that of `fill_words` would take the filling as a closure with clauses, and be longer.
+// Those of n scan lines, end to end. One function for this loop and that of `fill_words` would take the filling as a
+// closure with clauses, and be longer.
 pub fn fill_looks(table: &mut [u8], b: board::Board, field: u8, n: units::Lines)
     requires { (n.0 ≤ 16) × (n.0 * 128 ≤ length table.old) }
     ensures { table.new ≡ looks_filled b field n.0 table.old }
@@ -176,7 +180,8 @@ pub fn fill_looks(table: &mut [u8], b: board::Board, field: u8, n: units::Lines)
     }
 }
 
-// A scan line's table by code, in graphics mode or not: numbers whose low bits are the dots. Those of the codes below the first stand there already.
+// A scan line's table by code, in graphics mode or not: numbers whose low bits are the dots. Those of the codes
+// below the first stand there already.
 fn code_words(
     table: &mut [u16],
     first: usize,
@@ -198,7 +203,8 @@ fn code_words(
     }
 }
 
-// A scan line's table by sign: the codes in character mode, of which those below 128 show nothing, and then in graphics mode.
+// A scan line's table by sign: the codes in character mode, of which those below 128 show nothing, and then in
+// graphics mode.
 fn shown_words(table: &mut [u16], words: &[u16], flags: &[u8], line: shape::FontLine, d: usize)
     requires { (length words.now ≡ 1152) × (length flags.now ≡ 128) × (512 ≤ length table.old) }
     ensures { table.new

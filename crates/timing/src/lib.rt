@@ -315,7 +315,8 @@ pub fn state_refused(b: board::Board) -> bool
         | board::pointer_refused(page, b.pointer)
 }
 
-// What drawing, stepping, states and runs ask: what refuses a lent part, whether what was asked for is out of range, and whether the room is short.
+// What drawing, stepping, states and runs ask: what refuses a lent part, whether what was asked for is out of range,
+// and whether the room is short.
 #[tactic(auto, unfolding(crate::specs::Check::call_check))]
 pub fn call_check(
     b: board::Board,

@@ -1,6 +1,8 @@
 #![tactic(auto)]
-// The three units of the papers: character clocks, scan lines, dots. A count of one is never added to a count of another.
-// Only here is a count's plain number worked with: sums and comparisons within a unit, the conversions between them, and
+// The three units of the papers: character clocks, scan lines, dots. A count of one is never added to a count of
+// another.
+// Only here is a count's plain number worked with: sums and comparisons within a unit, the conversions between them,
+// and
 // those to cells of a row and places of a buffer, which are plain numbers. Elsewhere it is only handed on: to C, as the
 // number next to a refusal, to a file, to the listing. The functions of `callers*` read it as C does.
 ghost use Rattle.std.specs.Prelude.{ℕ, ◌≡◌, ◌+◌, ◌-◌, ◌*◌, ◌/◌, ◌%◌, ◌<◌, ◌^◌, eqb};

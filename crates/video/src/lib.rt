@@ -14,7 +14,8 @@ ghost use Rattle.video.specs.At.{lent_refused, lent_by, lent_check, reading_of, 
 use refusal::Refusal;
 use units::Unit;
 
-// What is the same for all cells of a scan line: whether the picture is shown, the blank level, BKGND, BLINK, whether this is the
+// What is the same for all cells of a scan line: whether the picture is shown, the blank level, BKGND, BLINK,
+// whether this is the
 // underline line and the strike line, whether the cursor gate opens on this line, and at which address.
 #[derive(Clone, Copy)]
 pub struct Scene {
@@ -28,7 +29,8 @@ pub struct Scene {
     pub cursor: u16,
 }
 
-// How a page's cells are read: where the cursor is, whether attributes run on, whether a cell that sets them has zero dots, and whether bit 5 of
+// How a page's cells are read: where the cursor is, whether attributes run on, whether a cell that sets them has
+// zero dots, and whether bit 5 of
 // them means graphics.
 #[derive(Clone, Copy)]
 pub struct Reading {
@@ -57,8 +59,10 @@ struct Case {
     nondisplay: bool,
 }
 
-// A line of it: what it asks of each input, and what it gives, the level of the symbol, underline and strike-through too, and that of its surround.
-// Marks and levels are numbers, since `table1` of specs/Table.antt is the paper's table with its 0s and 1s; levels are bytes of the picture too.
+// A line of it: what it asks of each input, and what it gives, the level of the symbol, underline and strike-through
+// too, and that of its surround.
+// Marks and levels are numbers, since `table1` of specs/Table.antt is the paper's table with its 0s and 1s; levels
+// are bytes of the picture too.
 #[derive(Clone, Copy)]
 struct TableLine {
     blank: u8,
@@ -71,7 +75,8 @@ struct TableLine {
     surround: u8,
 }
 
-// The bit of a weight, of the switches or of the attributes.
+// The bit of a weight, of the switches or of the attributes. Both stay bytes, since they come from the page and the
+// memory so, and the drawers look tables up by them; `has_bit` is the papers' word for it, which the definitions use.
 fn has(byte: u8, weight: u8) -> bool
     requires { 0 < weight }
     ensures { result ≡ has_bit byte weight }
@@ -285,7 +290,8 @@ pub fn counted_byte(k: Reading, again: bool, byte: u8) -> u8
     if again & k.runs { 0 } else { byte }
 }
 
-// The code that a cell with this attribute byte is shown as: 0, which has zero dots, where it sets attributes and such cells are hidden.
+// The code that a cell with this attribute byte is shown as: 0, which has zero dots, where it sets attributes and
+// such cells are hidden.
 pub fn shown_code(hidden: bool, code: u8, byte: u8) -> u8
     ensures { result ≡ shown_code hidden code byte }
 {
