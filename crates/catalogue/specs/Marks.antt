@@ -33,7 +33,7 @@ use Rattle.timing.specs.Fields.{coded_of, rows_of, hact_of, table_of, buffer_of,
 use Rattle.timing.specs.Laws.{Accepted, call-passed, buffer-bounded}
 use Rattle.fetch.specs.Rows.{entry_of, fetched_of, fetch_at}
 use Rattle.fetch.specs.Laws.{no-codes, start-sheet}
-use Rattle.catalogue.specs.ToSheet.{follows_row, rows_apart, as_sheet_page, as_sheet_order, as_sheet_check, as_sheet}
+use Rattle.catalogue.specs.ToSheet.{follows_row, rows_apart, as_sheet_page, as_sheet_check, as_sheet}
 use Rattle.board.specs.Parts.{with_page}
 use Rattle.catalogue.specs.ToTable.{fetches_cell, table_size, table_places, unfetched_at, table_place, table_byte, as_table_page, as_table_chars, own_check, as_table_order, as_table_check, as_table, as_table_left}
 

@@ -1,6 +1,6 @@
 -- 02, R-5, moving back: a page whose rows follow one another becomes a sheet.
 use Rattle.std.specs.Prelude.{ℕ, ◌+◌, ◌-◌, ◌%◌, Bool, not, List, [], ◌∷◌, eqb, length, set, Result, Err}
-use Rattle.lists.specs.Choice.{pick, first_of}
+use Rattle.lists.specs.Choice.{first_of}
 use Rattle.lists.specs.Search.{any_below}
 use Rattle.refusal.specs.declared.Refusal.{Refusal}
 use Rattle.refusal.specs.declared.Refusal.TheVariants.{Kind, Coded, Apart}
