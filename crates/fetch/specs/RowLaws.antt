@@ -10,7 +10,7 @@
 use Rattle.std.specs.Prelude.{ℕ, ◌+◌, ◌≤◌, ◌<◌, ◌≡◌, Bool, ◌||◌, ltb, leb, length, get_or, Ok, Err}
 use Rattle.std.proofs.Math.Path.{refl, ap}
 use Rattle.std.proofs.Common.{sym, ◌∙◌, arith, ltb-false, le-ltb}
-use Rattle.std.proofs.Math.Bool.{true, false, or-false}
+use Rattle.std.proofs.Math.Bool.{false, or-false}
 use mathlib.Core.List.{List, ◌++◌}
 use Rattle.std.proofs.Math.ListN.{drop, get_or-append}
 use Rattle.lists.specs.Choice.{neither}

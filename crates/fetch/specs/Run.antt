@@ -3,7 +3,7 @@ use Rattle.std.specs.Prelude.{ℕ, min, ◌+◌, ◌-◌, ◌%◌, ◌≤◌, �
 use Rattle.std.proofs.Common.{◌∙◌, arith}
 use borrow.Author.Tests.{leb-true, ltb-true}
 use Rattle.std.proofs.Math.Dec.{leb}
-use Rattle.lists.specs.Choice.{pick, both}
+use Rattle.lists.specs.Choice.{both}
 use Rattle.refusal.specs.declared.Refusal.{Refusal}
 use Rattle.refusal.specs.Number.{Checked, given, value_or, number_of, wrong_size}
 use Rattle.raster.specs.declared.Buffer.{Buffer}

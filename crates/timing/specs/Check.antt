@@ -1,9 +1,8 @@
 -- The page check of 01, and the size of an accepted page's picture.
 use Rattle.std.specs.Prelude.{◌+◌, ◌-◌, ◌/◌, ◌%◌, Bool, ◌&&◌, ◌||◌, not, [], ◌∷◌, eqb, ltb, leb, is_ok, Err, Result}
-use Rattle.lists.specs.Choice.{pick, first_of}
+use Rattle.lists.specs.Choice.{first_of}
 use Rattle.units.specs.declared.Clocks.{Clocks}
 use Rattle.units.specs.declared.Dots.{Dots}
-use Rattle.units.specs.declared.Lines.{Lines}
 use Rattle.units.specs.Units.{clocks, lines, dots, dots_of}
 use Rattle.refusal.specs.declared.Refusal.{Refusal}
 use Rattle.refusal.specs.declared.Refusal.TheVariants.{Reserved, BackPorch, LineShort, FrontPorch, Width, Range, Room, Address}

@@ -2,9 +2,7 @@
 use Rattle.std.specs.Prelude.{ℕ, ◌*◌, ◌/◌, ◌%◌, ◌≤◌, ◌<◌, ◌≡◌, refl, Bool, true, false, not, ◌&&◌, ◌||◌, eqb, ltb, leb, is_ok, Err}
 use Rattle.std.proofs.Common.{true≢false, mul-le-mul, div-lt_iff_lt-mul, arith, ltb-false, leb-false, le-ltb}
 use Rattle.std.proofs.lemmas.Bool.{eqb-false, lt-leb}
-use Rattle.lists.specs.Choice.{pick, neither, pick-le}
-use Rattle.units.specs.declared.Lines.{Lines}
-use Rattle.units.specs.declared.Dots.{Dots}
+use Rattle.lists.specs.Choice.{neither, pick-le}
 use Rattle.units.specs.Units.{clocks_of}
 use Rattle.refusal.specs.declared.Refusal.TheVariants.{Reserved, BackPorch, LineShort, FrontPorch, Width, Range, Room, Address}
 use Rattle.refusal.specs.Number.{Checked, unrefused, check_of}

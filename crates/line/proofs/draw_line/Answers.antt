@@ -1,7 +1,7 @@
 -- Rests on draw-passed, from which what whole_line asks follows, and on as_line: it draws the line.
 use Rattle.std.specs.Prelude.{is_ok}
-use Rattle.std.proofs.Common.{◌≡◌, ◌≤◌, ◌<◌, length, sym, ap, ◌∙◌}
-use Rattle.refusal.specs.Number.{Checked, unrefused}
+use Rattle.std.proofs.Common.{◌≡◌, length, sym, ap, ◌∙◌}
+use Rattle.refusal.specs.Number.{unrefused}
 use Rattle.refusal.specs.Laws.{sent-on}
 use Rattle.shape.specs.Font.{Font, font_of}
 use Rattle.video.specs.At.{lent_check}
