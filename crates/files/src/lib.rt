@@ -179,11 +179,7 @@ pub fn read_check(file: &[u8], size: bool) -> Result<(), Refusal>
 }
 
 // Reads a page file into the two memories, and gives the board of its page. A refusal leaves both as they were.
-pub fn read_page(
-    file: &[u8],
-    chars: &mut [u8],
-    attrs: &mut [u8],
-) -> Result<board::Board, Refusal>
+pub fn read_page(file: &[u8], chars: &mut [u8], attrs: &mut [u8]) -> Result<board::Board, Refusal>
     ensures { ReadsPage file.now chars.old attrs.old result chars.new attrs.new }
 {
     let size = board::memories_refused(chars.len(), attrs.len());
@@ -263,12 +259,7 @@ pub fn file_size(version: u8) -> usize
 }
 
 // 3, 12, 4, 13, 14, 15, 6, 7.
-fn write_check(
-    b: board::Board,
-    chars: usize,
-    attrs: usize,
-    out: usize,
-) -> Result<(), Refusal>
+fn write_check(b: board::Board, chars: usize, attrs: usize, out: usize) -> Result<(), Refusal>
     ensures { result ≡ write_check b chars attrs out }
 {
     let short = out < file_size(b.page.version);

@@ -87,12 +87,7 @@ pub fn read_file(
 }
 
 // Writes a page file at the front of out. A refusal leaves out as it was.
-pub fn write_file(
-    numbers: &[u8],
-    chars: &[u8],
-    attrs: &[u8],
-    out: &mut [u8],
-) -> Result<(), Refusal>
+pub fn write_file(numbers: &[u8], chars: &[u8], attrs: &[u8], out: &mut [u8]) -> Result<(), Refusal>
     ensures { WritesFile numbers.now chars.now attrs.now out.old result out.new }
 {
     if numbers_refused(numbers) {
