@@ -1,10 +1,8 @@
 -- The listing of an accepted page file, line by line, fits 3,073 bytes: nothing that the listing program calls for is refused. Assumes nothing.
-use Rattle.std.specs.Prelude.{ℕ, ◌+◌, ◌*◌, ◌≤◌, ◌<◌, ◌≡◌, Bool, true, false, List, length, is_ok}
+use Rattle.std.specs.Prelude.{ℕ, ◌+◌, ◌*◌, ◌≤◌, ◌<◌, ◌≡◌, List, length}
 use Rattle.std.proofs.Common.{arith, le-ltb, length-append}
 use Rattle.std.proofs.lemmas.Bool.{lt-leb}
-use Rattle.lists.specs.Choice.{pick}
 use Rattle.refusal.specs.Number.{unrefused}
-use Rattle.units.specs.Units.{clocks, lines, dots, dots_of}
 use Rattle.board.specs.declared.Page.{Page}
 use Rattle.board.specs.Layout.{last_ir}
 use Rattle.timing.specs.Fields.{rows_of, lines_of, hact_of, ht_of, vt_of, visible_of}

@@ -1,6 +1,5 @@
 -- Rests on three and taken: 3 for the numbers, else what to_sheet answers and put_page leaves.
-use mathlib.Core.Path.{refl, sym, ap, ◌∙◌}
-use Rattle.refusal.specs.Number.{check_of}
+use mathlib.Core.Path.{refl, sym, ◌∙◌}
 use Rattle.catalogue.specs.Marks.{as-sheet-width}
 use Rattle.numbers.specs.Laws.{numbers-all, numbers-room}
 use Rattle.feldrime.specs.Catalogue.{to_sheet_check, to_sheet_numbers}

@@ -1,16 +1,23 @@
 -- Rests on read-passed for what the callees ask, on read_done and read-refused for what is left.
 use Rattle.std.specs.Prelude.{is_ok}
 use Rattle.std.proofs.Common.{◌≡◌, ℕ, ◌+◌, length, take, drop, sym, ap, ap₂, ◌∙◌, arith}
+use Rattle.refusal.specs.Number.{unrefused}
 use Rattle.refusal.specs.Laws.{sent-on}
+use Rattle.board.specs.Range.{memories_refused}
 use Rattle.board.specs.Laws.{layout-fits}
 use Rattle.files.specs.Page.{version_in}
+use Rattle.files.specs.File.{read_check}
 use Rattle.files.specs.Laws.{Taken, read-passed, read_done, read-refused, read-why}
 use Rattle.files.proofs.read_page.Goals as goal
 use Rattle.files.proofs.read_page.Goals.{In_ok-read_check}
 
--- what the check says where it passes the file and the memories
-taken : (c : In_ok-read_check) → Taken c.args.file.now (length c.args.chars.now) (length c.args.attrs.now)
-taken c = read-passed _ _ _ (rw c.memories_refused-size.ensures at (sym c.in_ok-read_check.ensures))
+-- the check passes the file and the memories, and what that says
+module _ (c : In_ok-read_check) where
+  passes : read_check c.args.file.now (memories_refused (length c.args.chars.now) (length c.args.attrs.now)) ≡ unrefused
+  passes = rw c.memories_refused-size.ensures at (sym c.in_ok-read_check.ensures)
+
+  taken : Taken c.args.file.now (length c.args.chars.now) (length c.args.attrs.now)
+  taken = read-passed _ _ _ passes
 
 pub bounds-file-0 : goal.bounds-file-0
 bounds-file-0 c = omega (arith, (taken (goal.at.bounds-file-0 c).In_ok-read_check).file-all)
@@ -39,10 +46,10 @@ returns-in_err-read_check c =
 
 pub returns : goal.returns
 returns c =
-    let ok = rw c.memories_refused-size.ensures at (sym c.in_ok-read_check.ensures) in
+    let passed = (goal.at.returns c).In_ok-read_check in
+    let fits = taken passed in
     let file = c.args.file.now in
-    let fits = taken (goal.at.returns c).In_ok-read_check in
     let place = c.chars_place-start.ensures in
-    read_done file _ c.args.chars.now c.args.attrs.now ok _ c.board_at.ensures _ _
+    read_done file _ c.args.chars.now c.args.attrs.now (passes passed) _ c.board_at.ensures _ _
     (c.take_from.ensures ∙ ap₂ (λ (n a : ℕ). take n (drop a file)) fits.chars-all place)
     (c.take_from-2.ensures ∙ ap₂ (λ (n a : ℕ). take n (drop (a + 16384) file)) fits.attrs-all place)

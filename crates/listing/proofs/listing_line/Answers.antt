@@ -1,5 +1,5 @@
 -- Rests on line_refused for the refusals, on line-put for the line drawn and marked.
-use Rattle.std.proofs.Common.{refl, sym, ◌∙◌}
+use Rattle.std.proofs.Common.{refl, ◌∙◌}
 use Rattle.refusal.specs.Laws.{sent-on}
 use Rattle.shape.specs.Font.{Font, font_of}
 use Rattle.listing.specs.Line.{line_refused, line-sized, line-fits, line-put}

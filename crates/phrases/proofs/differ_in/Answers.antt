@@ -1,12 +1,9 @@
 -- Rests on pairs-all: the answer after all records is the one that the contract cites.
-use Rattle.std.proofs.Common.{◌≡◌, List, length, arith, ap, ◌∙◌, add-one}
+use Rattle.std.proofs.Common.{◌≡◌, List, length, arith, ap, ◌∙◌}
 use Rattle.records.specs.declared.Phrase.{Phrase}
 use Rattle.records.specs.Folds.{pairs_to}
 use Rattle.phrases.specs.Laws.{pairs-all}
 use Rattle.phrases.proofs.differ_in.Goals as goal
-
-pub loop-i-preserved : goal.loop-i-preserved
-loop-i-preserved g c = c.visit_pair-s.ensures ∙ rw (c.loop-i.invariant, c.mate_of.ensures, add-one c.loop-i.i)
 
 pub returns : goal.returns
 returns g c =

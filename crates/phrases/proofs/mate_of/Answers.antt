@@ -5,11 +5,6 @@ use Rattle.records.specs.Folds.{mate_to}
 use Rattle.phrases.specs.Laws.{mate-fours, mate-all}
 use Rattle.phrases.proofs.mate_of.Goals as goal
 
-pub loop-four-init : goal.loop-four-init
-loop-four-init g c =
-    let first : c.fours_from-from.result ≡ c.fours_from-from.result + 4 * 0 = omega arith in
-    c.mate_near-s.ensures ∙ ap (mate_to (g.I.Index.kept c.args.index.now) c.args.after) first
-
 pub loop-four-preserved : goal.loop-four-preserved
 loop-four-preserved g c =
     let kept : List Phrase = g.I.Index.kept c.args.index.now in
