@@ -22,7 +22,7 @@ use Rattle.catalogue.specs.ToSheet.{as_sheet}
 use Rattle.records.specs.declared.Phrase.{Phrase}
 use Rattle.records.specs.declared.PhraseAnswer.{PhraseAnswer}
 use Rattle.records.specs.declared.PairAnswer.{PairAnswer}
-use Rattle.records.specs.declared.Asked.{Asked}
+use Rattle.records.specs.declared.Ends.{Ends}
 use Rattle.records.specs.declared.Mate.{Mate}
 use Rattle.records.specs.Records.{phrase_of_row, phrases_differ}
 use Rattle.records.specs.Ends.{asked_of}
@@ -106,11 +106,11 @@ to-sheet-one b chars = only _
 pub row-asked-one : (b : Board) (chars : List ℕ) (row : ℕ) → OneAnswer (λ r. r ≡ asked_of b chars row)
 row-asked-one b chars row = only _
 
-pub start-one : (a : Asked) → OneAnswer (λ r. r ≡ start_of a)
-start-one a = only _
+pub start-one : (x : Checked) → OneAnswer (λ r. r ≡ start_of x)
+start-one x = only _
 
-pub visit-one : (s : PhraseAnswer) (p : Phrase) (i : ℕ) (a : Asked) → OneAnswer (λ r. r ≡ visit_of s p i a)
-visit-one s p i a = only _
+pub visit-one : (s : PhraseAnswer) (p : Phrase) (i : ℕ) (e : Ends) → OneAnswer (λ r. r ≡ visit_of s p i e)
+visit-one s p i e = only _
 
 pub start-mate-one : (o : Phrase) → OneAnswer (λ r. r ≡ mate_start o)
 start-mate-one o = only _
@@ -132,7 +132,7 @@ visit-pair-one s m i = only _
 
 -- ---- `phrases`
 
-pub search-one : (phrases : List Phrase) (a : Asked) → OneAnswer (λ r. r ≡ search_of phrases a)
+pub search-one : (phrases : List Phrase) (a : Result Ends Refusal) → OneAnswer (λ r. r ≡ search_of phrases a)
 search-one phrases a = only _
 
 pub phrase-of-row-one : (b : Board) (chars : List ℕ) (phrases : List Phrase) (row : ℕ) → OneAnswer (λ r. r ≡ phrase_of_row b chars phrases row)

@@ -31,8 +31,7 @@ pub struct Layout {
 }
 
 // What a page file holds beside the memories. The switches are the file's byte: bit 0 display, 1 cursor, 2 BKGND, 3
-// RBLANK, and from version 2 on bit
-// 4 field mode, 5 ACD. The chip counts in version 3.
+// RBLANK, and from version 2 on bit 4 field mode, 5 ACD. The chip counts in version 3.
 #[repr(C)]
 #[derive(Clone, Copy)]
 pub struct Page {

@@ -2,8 +2,7 @@
 ghost use Rattle.std.specs.Prelude.{◌≡◌, true};
 
 // The check, the size and the board of any numbers answer the same, with the same number beside it, and on a refusal
-// the
-// size is 0 by 0.
+// the size is 0 by 0.
 pub fn numbers_agree(numbers: &[u8]) -> bool
     ensures { result ≡ true }
 {

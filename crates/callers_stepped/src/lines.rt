@@ -69,8 +69,7 @@ fn alone(number: u32) -> Answer
 }
 
 // What the call that draws answers, from the calls that step. A step answers 3 and 12 for what is lent whatever the
-// board is, and the page of a board
-// that was made, or of power's, has no 12 of its own.
+// board is, and the page of a board that was made, or of power's, has no 12 of its own.
 fn line_answer(
     numbers: &[u8],
     chars: &[u8],

@@ -6,8 +6,7 @@ ghost use Rattle.callers_stepped.specs.States.{stepped_to};
 use feldrime::BoardAnswer;
 
 // The state for any clock, asked for and stepped on, is what `feldrime_state_at` answers so many clocks later,
-// wherever a
-// step answers 0; else a step's own answer and the old board.
+// wherever a step answers 0; else a step's own answer and the old board.
 pub fn stepped_to(
     b: board::Board,
     chars: &[u8],

@@ -74,8 +74,7 @@ fn change(from: u64, to: u64) -> u64
 }
 
 // What eight dots are made from: a mask for each byte of a word, FF hex for a dot of the symbol, then for each of
-// sixteen
-// looks the surround in every byte, and what makes the symbol of it.
+// sixteen looks the surround in every byte, and what makes the symbol of it.
 fn ink(i: usize) -> u64
     requires { i < 288 }
     ensures { result ≡ ink_of i }
@@ -110,8 +109,7 @@ fn blend(inks: &[u64], levels: u8, word: u16) -> u64
 }
 
 // A cell from its word, in which the low d bits are its dots. A cell of fewer than eight dots is stored as eight
-// unless it
-// is tight: the next cell is then drawn over what is too much.
+// unless it is tight: the next cell is then drawn over what is too much.
 pub fn put_cell(out: &mut [u8], inks: &[u64], levels: u8, word: u16, d: usize, tight: bool)
     requires { (inks.now ≡ tab 288 ink_of) × (levels < 16) × (6 ≤ d) × (d ≤ 12) × (reach_of tight d ≤ length out.old) }
     ensures { out.new ≡ cell_put levels word d tight out.old }

@@ -313,16 +313,11 @@ pub fn feldrime_to_sheet(numbers: &mut [u8], chars: &[u8]) -> Answer
 }
 
 // What a row asks of each record.
-fn numbers_asked(numbers: &[u8], chars: &[u8], row: u32) -> records::Asked
+fn numbers_asked(numbers: &[u8], chars: &[u8], row: u32) -> Result<records::Ends, Refusal>
     ensures { result ≡ asked_for numbers.now chars.now row }
 {
     if numbers::numbers_refused(numbers) {
-        return records::Asked {
-            refusal: 3,
-            beside: 0,
-            low: 0,
-            high: 0,
-        };
+        return Err(Refusal::Size);
     }
     records::row_asked(files::board_at(numbers, 1), chars, row)
 }

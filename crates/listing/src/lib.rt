@@ -82,8 +82,7 @@ fn room_for_dots(room: usize) -> usize
 }
 
 // A visible line of the listing as it looks in a field, at the front of out, and how many bytes it has. A refusal
-// leaves
-// out as it was.
+// leaves out as it was.
 pub fn listing_line(
     b: board::Board,
     chars: &[u8],

@@ -1,7 +1,6 @@
 #![tactic(auto)]
 // The listing program but for C's `main` (programs/listing). It reads a page file, then a font file, from standard
-// input
-// and writes the listing or the refusal to standard output.
+// input and writes the listing or the refusal to standard output.
 ghost use Rattle.std.specs.Prelude.{◌≤◌, length};
 ghost use Rattle.refusal.specs.Number.{value_or};
 ghost use Rattle.io.specs.Counts.{IsPrefixLen};
@@ -86,8 +85,7 @@ fn print_listing(
 }
 
 // What C's `main` is told: all was written, or writing failed, or the page was accepted and nothing is written yet.
-// 1 is
-// its own, for input that cannot be read.
+// 1 is its own, for input that cannot be read.
 const WRITTEN: u32 = 0;
 
 const UNWRITTEN: u32 = 2;

@@ -5,7 +5,7 @@
 --     mate-begins, mate-turn, mate-fours, mate-all      the search for a later record that disagrees with one
 --     pairs-all      and for the first two
 use Prim.Native.Nat.{ℕ, zero, suc, ◌+◌, ◌<◌}
-use Rattle.std.specs.Prelude.{◌≡◌, Bool, ◌&&◌, ◌||◌, List, Some, None, length, get_or, is_ok}
+use Rattle.std.specs.Prelude.{◌≡◌, Bool, ◌&&◌, ◌||◌, List, Some, None, Ok, Err, length, get_or, is_ok}
 use Rattle.std.specs.Option.{is_some, is_none, unwrap_or}
 use Rattle.std.proofs.Math.Path.{refl}
 use Rattle.std.proofs.Common.{ap, ◌∙◌, arith, eq-eqb, eqb-true, lt-ltb, le-ltb}
@@ -13,16 +13,16 @@ use Rattle.std.proofs.Math.Bool.{true, false}
 use Rattle.std.proofs.Math.Dec.{eqb}
 use Rattle.lists.specs.Choice.{pick}
 use Rattle.lists.specs.Search.{any_below, first_below, any_none, first-kept, first-new, same-any, same_first}
-use Rattle.refusal.specs.Number.{number_of, beside_of}
-use Rattle.refusal.specs.Laws.{number-ok}
+use Rattle.refusal.specs.declared.Refusal.{Refusal}
+use Rattle.refusal.specs.Number.{Checked, unrefused, given}
 use Rattle.board.specs.declared.Board.{Board}
 use Rattle.fetch.specs.Rows.{fetched_of, fetch_at}
 use Rattle.fetch.specs.Run.{run_check}
 use Rattle.records.specs.declared.Phrase.{Phrase}
 use Rattle.records.specs.declared.PairAnswer.{PairAnswer}
-use Rattle.records.specs.declared.Asked.{Asked}
+use Rattle.records.specs.declared.Ends.{Ends}
 use Rattle.records.specs.Records.{none, bad_record, holds_row, disagrees, at, among, phrase_answer, phrase_of_row, pair_answer, later_differs, phrases_differ}
-use Rattle.records.specs.Ends.{low_to, high_to, asked, asked_of, holds_ends, holds_row_lem}
+use Rattle.records.specs.Ends.{low_to, high_to, ends_of, asked_of, holds_ends, holds_row_lem}
 use Rattle.records.specs.Folds.{turn, start_of, visit_of, search_to, phrase_among, search_of, mate_on, mate_start, mate_visit, mate_four, mate_to, mate_of, pair_start, pair_visit, pairs_to}
 
 -- a turn more of a search that keeps its whole answer
@@ -54,49 +54,38 @@ same-among refused found nothing bad t u n h = rw (same-any t u n h, same_first 
 
 -- ---- the record of a row
 
-module _ (rs : List Phrase) (a : Asked) where
-  before : a.refusal ≡ 0 → (n : ℕ) → search_to rs a n ≡ phrase_among (start_of a) (at rs bad_record) (at rs (holds_ends a)) n
+module _ (rs : List Phrase) (e : Ends) where
+  before : (n : ℕ) → search_to rs e n ≡ phrase_among (start_of unrefused) (at rs bad_record) (at rs (holds_ends e)) n
   unfolding visit_of among any_below
-  before z zero = refl
-  before z (suc n) =
-      among-more (phrase_answer 20 0 0) (phrase_answer 0 0 1) (start_of a) (at rs bad_record) (at rs (holds_ends a))
-      (λ s. eqb s.refusal 0) (λ s. eqb s.found 0) (λ i. refl) (λ i. refl) (eq-eqb _ _ z) (λ i. refl) refl n (before z n)
+  before zero = refl
+  before (suc n) =
+      among-more (phrase_answer 20 0 0) (phrase_answer 0 0 1) (start_of unrefused) (at rs bad_record) (at rs (holds_ends e))
+      (λ s. eqb s.refusal 0) (λ s. eqb s.found 0) (λ i. refl) (λ i. refl) refl (λ i. refl) refl n (before n)
 
-  stays : eqb a.refusal 0 ≡ false → (n : ℕ) → search_to rs a n ≡ start_of a
-  unfolding visit_of
-  stays z zero = refl
-  stays z (suc n) = rw (stays z n, z)
-
-  pub search-all : search_to rs a (length rs) ≡ search_of rs a
+  pub search-all : search_to rs e (length rs) ≡ search_of rs (Ok e)
   unfolding search_of
-  search-all = go (eqb a.refusal 0) refl
-    where
-      go : (t : Bool) → eqb a.refusal 0 ≡ t → search_to rs a (length rs) ≡ pick t (phrase_among (start_of a) (at rs bad_record) (at rs (holds_ends a)) (length rs)) (start_of a)
-      go true e = before (eqb-true _ _ e) (length rs)
-      go false e = stays e (length rs)
+  search-all = before (length rs)
 
-pub held-refused : (rs : List Phrase) (n m : ℕ) → eqb n 0 ≡ false → search_of rs (asked n m 0 0) ≡ phrase_answer n m 0 0
+pub held-refused : (rs : List Phrase) (why : Refusal) → search_of rs (Err why) ≡ start_of (Err why)
 unfolding search_of
-held-refused rs n m e = rw e
+held-refused rs why = refl
 
 module _ (b : Board) (chars : List ℕ) (rs : List Phrase) (row : ℕ) where
-  ends : Asked
-  ends = asked 0 0 (low_to (fetch_at b.page chars row) (fetched_of b.page chars row)) (high_to (fetch_at b.page chars row) (fetched_of b.page chars row))
+  ends : Ends
+  ends = ends_of (low_to (fetch_at b.page chars row) (fetched_of b.page chars row)) (high_to (fetch_at b.page chars row) (fetched_of b.page chars row))
 
-  held : search_of rs ends ≡ phrase_among (phrase_answer 0 0 0 0) (at rs bad_record) (at rs (holds_row b.page chars row)) (length rs)
+  held : search_of rs (Ok ends) ≡ phrase_among (phrase_answer 0 0 0 0) (at rs bad_record) (at rs (holds_row b.page chars row)) (length rs)
   unfolding search_of ends
   held = same-among _ _ _ (at rs bad_record) (at rs (holds_ends ends)) (at rs (holds_row b.page chars row)) (length rs) (λ i l. holds_row_lem b.page chars row (get_or rs i none))
 
   pub row-held : search_of rs (asked_of b chars row) ≡ phrase_of_row b chars rs row
   unfolding phrase_of_row asked_of ends
-  row-held = go (is_ok (run_check b (length chars) row)) refl
+  row-held = go (run_check b (length chars) row)
     where
-      go : (t : Bool) → is_ok (run_check b (length chars) row) ≡ t
-          → search_of rs (pick t ends (asked (number_of (run_check b (length chars) row)) (beside_of (run_check b (length chars) row)) 0 0))
-          ≡ pick t (phrase_among (phrase_answer 0 0 0 0) (at rs bad_record) (at rs (holds_row b.page chars row)) (length rs))
-          (phrase_answer (number_of (run_check b (length chars) row)) (beside_of (run_check b (length chars) row)) 0 0)
-      go true e = held
-      go false e = held-refused rs _ _ (number-ok (run_check b (length chars) row) ∙ e)
+      go : (r : Checked) → search_of rs (given r ends)
+          ≡ pick (is_ok r) (phrase_among (phrase_answer 0 0 0 0) (at rs bad_record) (at rs (holds_row b.page chars row)) (length rs)) (start_of r)
+      go (Ok tt) = held
+      go (Err why) = held-refused rs why
 
 -- ---- two records that differ
 

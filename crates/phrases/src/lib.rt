@@ -6,6 +6,8 @@ ghost use Rattle.records.specs.declared.Phrase.{Phrase};
 ghost use Rattle.records.specs.Records.{none, phrase_of_row, phrases_differ};
 ghost use Rattle.records.specs.Folds.{search_of, mate_to, mate_of};
 
+use refusal::Refusal;
+
 // The records of an index, by their positions.
 pub trait Index {
     ghost kept: { Self → List Phrase };
@@ -36,18 +38,28 @@ impl<'a> Index for Listed<'a> {
 
 // The lowest record of an index that holds what is asked.
 // No law of one answer: each index has its own, and `search` below shows the law.
-pub fn search_in<I: Index>(index: &I, asked: records::Asked) -> records::PhraseAnswer
+pub fn search_in<I: Index>(
+    index: &I,
+    asked: Result<records::Ends, Refusal>,
+) -> records::PhraseAnswer
     ensures { result ≡ search_of (I.kept index.now) asked }
 {
-    let mut s = records::start(asked);
+    let ends = match asked {
+        Ok(ends) => ends,
+        Err(why) => return records::start(Err(why)),
+    };
+    let mut s = records::start(Ok(()));
     for i in 0..index.count() {
-        s = records::visit(s, index.at(i), i, asked);
+        s = records::visit(s, index.at(i), i, ends);
     }
     s
 }
 
 // The lowest record that holds what is asked.
-pub fn search(phrases: &[records::Phrase], asked: records::Asked) -> records::PhraseAnswer
+pub fn search(
+    phrases: &[records::Phrase],
+    asked: Result<records::Ends, Refusal>,
+) -> records::PhraseAnswer
     ensures { result ≡ search_of phrases.now asked }
 {
     search_in(&Listed(phrases), asked)

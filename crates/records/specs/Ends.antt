@@ -3,17 +3,18 @@
 --     asked-row     what a row asks, as the code has it
 --     holds_row_lem     a record holds every cell exactly where it holds these two
 use Prim.Native.Nat.{ℕ, zero, suc, min, max, ◌+◌, ◌≤◌, ◌<◌}
-use Rattle.std.specs.Prelude.{◌≡◌, refl, Bool, true, false, not, ◌&&◌, List, ltb, leb, length, is_ok}
+use Rattle.std.specs.Prelude.{◌≡◌, refl, Bool, true, false, not, ◌&&◌, List, ltb, leb, length, Result, Ok, Err}
 use Rattle.std.proofs.Common.{sym, ◌∙◌, true≢false, eq-or-lt_of_le, le_of_suc-le-suc, arith, lt-ltb, le-leb, ltb-true, leb-true}
 use Rattle.std.proofs.Math.Logic.{⊎_elim}
 use Rattle.std.proofs.Math.Numerals.{add-one}
 use Rattle.std.proofs.lemmas.Bool.{not-false}
-use Rattle.lists.specs.Choice.{pick, both}
+use Rattle.lists.specs.Choice.{both}
 use Rattle.lists.specs.Search.{any_below, any_none, none_of}
 use Rattle.raster.specs.declared.Buffer.{Buffer}
 use Rattle.raster.specs.declared.Cell.{Cell}
 use Rattle.raster.specs.Moves.{cell, advance_by}
-use Rattle.refusal.specs.Number.{number_of, beside_of}
+use Rattle.refusal.specs.declared.Refusal.{Refusal}
+use Rattle.refusal.specs.Number.{unrefused, given}
 use Rattle.board.specs.declared.Page.{Page}
 use Rattle.board.specs.declared.Board.{Board}
 use Rattle.timing.specs.Fields.{buffer_of}
@@ -22,7 +23,6 @@ use Rattle.fetch.specs.Run.{run_check}
 use Rattle.fetch.specs.Laws.{fetched-small}
 use Rattle.records.specs.declared.Phrase.{Phrase}
 use Rattle.records.specs.declared.Ends.{Ends}
-use Rattle.records.specs.declared.Asked.{Asked}
 use Rattle.records.specs.Records.{past_of, holds_cell, holds_row}
 
 -- of f 0 to f (n - 1), and of f 0 where n is 0
@@ -41,18 +41,14 @@ ends_of l h = record { low = l; high = h }
 unfoldable pub ends_by : Buffer → (start n : ℕ) → Ends
 ends_by b a n = ends_of (low_to (λ i. advance_by b i a) n) (high_to (λ i. advance_by b i a) n)
 
-abbrev pub asked : (refusal beside low high : ℕ) → Asked
-asked r b l h = record { refusal = r; beside = b; low = l; high = h }
-
--- what a row asks of each record
-unfoldable pub asked_of : Board → (chars : List ℕ) → (row : ℕ) → Asked
+-- what a row asks of each record: whether it holds the ends of the row's cells
+unfoldable pub asked_of : Board → (chars : List ℕ) → (row : ℕ) → Result Ends Refusal
 asked_of b chars row =
-    pick (is_ok (run_check b (length chars) row))
-    (asked 0 0 (low_to (fetch_at b.page chars row) (fetched_of b.page chars row)) (high_to (fetch_at b.page chars row) (fetched_of b.page chars row)))
-    (asked (number_of (run_check b (length chars) row)) (beside_of (run_check b (length chars) row)) 0 0)
+    given (run_check b (length chars) row)
+    (ends_of (low_to (fetch_at b.page chars row) (fetched_of b.page chars row)) (high_to (fetch_at b.page chars row) (fetched_of b.page chars row)))
 
-unfoldable pub holds_ends : Asked → Phrase → Bool
-holds_ends a r = leb r.first a.low && ltb a.high (past_of r)
+unfoldable pub holds_ends : Ends → Phrase → Bool
+holds_ends e r = leb r.first e.low && ltb e.high (past_of r)
 
 -- ---- the ends are what they are called
 
@@ -117,16 +113,16 @@ module _ (b : Buffer) (a i : ℕ) {x : ℕ} (xe : x ≡ advance_by b i a) where
   high-more he e = e ∙ rw (he, xe, add-one i)
 
 module _ (b : Board) (chars : List ℕ) (row : ℕ) where
-  pub asked-row : is_ok (run_check b (length chars) row) ≡ true → {u : Buffer} {x : Cell} {n : ℕ} {e : Ends} → u ≡ buffer_of b.page → x ≡ cell (row_start b.page chars row) → n ≡ fetched_of b.page chars row
-      → e ≡ ends_by u x.address n → asked 0 0 e.low e.high ≡ asked_of b chars row
+  pub asked-row : run_check b (length chars) row ≡ unrefused → {u : Buffer} {x : Cell} {n : ℕ} {e : Ends} → u ≡ buffer_of b.page → x ≡ cell (row_start b.page chars row) → n ≡ fetched_of b.page chars row
+      → e ≡ ends_by u x.address n → Ok e ≡ asked_of b chars row
   unfolding asked_of ends_by fetch_at
   asked-row t ue xe ne e = rw (t, e, ue, xe, ne)
 
-  pub asked-refused : is_ok (run_check b (length chars) row) ≡ false → {n m : ℕ} → n ≡ number_of (run_check b (length chars) row) → m ≡ beside_of (run_check b (length chars) row) → asked n m 0 0 ≡ asked_of b chars row
+  pub asked-refused : {why : Refusal} → Err why ≡ run_check b (length chars) row → Err why ≡ asked_of b chars row
   unfolding asked_of
-  asked-refused t ne me = rw (t, ne, me)
+  asked-refused t = rw (← t)
 
 pub holds_row_lem : (p : Page) (chars : List ℕ) (row : ℕ) (r : Phrase)
-    → holds_ends (asked 0 0 (low_to (fetch_at p chars row) (fetched_of p chars row)) (high_to (fetch_at p chars row) (fetched_of p chars row))) r ≡ holds_row p chars row r
+    → holds_ends (ends_of (low_to (fetch_at p chars row) (fetched_of p chars row)) (high_to (fetch_at p chars row) (fetched_of p chars row))) r ≡ holds_row p chars row r
 unfolding holds_row holds_cell holds_ends
 holds_row_lem p chars row r = sym (all-within (fetch_at p chars row) r.first (past_of r) (fetched_of p chars row) (fetched-small p chars row).0)

@@ -6,8 +6,9 @@ ghost use Rattle.records.specs.Records.{bad_record, disagrees, pair_answer};
 ghost use Rattle.records.specs.Ends.{ends_by, asked_of, holds_ends};
 ghost use Rattle.records.specs.Folds.{start_of, visit_of, label_of, same_label, unequal, mate_start, mate_visit, mate_four, first_four, fours_from, pair_start, pair_visit};
 
-// A phrase in a language, by its number: its cells are first to first + length - 1. Any four numbers may be handed
-// over.
+use refusal::Refusal;
+
+// A phrase in a language, by its number: its cells are first to first + length - 1. Any four numbers may be handed over.
 #[repr(C)]
 #[derive(Clone, Copy)]
 pub struct Phrase {
@@ -45,15 +46,6 @@ pub struct Ends {
     pub high: u16,
 }
 
-// What is asked of each record: a refusal that came before, or the ends of a row's cells.
-#[derive(Clone, Copy)]
-pub struct Asked {
-    pub refusal: u32,
-    pub beside: u32,
-    pub low: u32,
-    pub high: u32,
-}
-
 // The first later record that disagrees with one, where there is one, and whether that one is bad.
 #[derive(Clone, Copy)]
 pub struct Mate {
@@ -78,26 +70,13 @@ fn row_ends(buffer: raster::Buffer, start: raster::Cell, n: u32) -> Ends
 }
 
 // What a row asks of each record.
-pub fn row_asked(b: board::Board, chars: &[u8], row: u32) -> Asked
+pub fn row_asked(b: board::Board, chars: &[u8], row: u32) -> Result<Ends, Refusal>
     ensures { result ≡ asked_of b chars.now row }
 {
-    if let Err(why) = fetch::span_of(b, chars, row) {
-        return Asked {
-            refusal: refusal::number(Err(why)),
-            beside: refusal::beside(Err(why)),
-            low: 0,
-            high: 0,
-        };
-    }
+    fetch::span_of(b, chars, row)?;
     let n = fetch::fetched_of(b.page, chars, row);
     let start = fetch::row_start(b.page, chars, row);
-    let e = row_ends(timing::buffer_of(b.page), start, n);
-    Asked {
-        refusal: 0,
-        beside: 0,
-        low: e.low as u32,
-        high: e.high as u32,
-    }
+    Ok(row_ends(timing::buffer_of(b.page), start, n))
 }
 
 // 20: a record of length 0, or one that passes 16383.
@@ -107,15 +86,14 @@ fn is_bad(p: Phrase) -> bool
     (p.length == 0) | (16384 < p.first as u64 + p.length as u64)
 }
 
-fn holds(p: Phrase, asked: Asked) -> bool
-    ensures { result ≡ holds_ends asked p }
+fn holds(p: Phrase, ends: Ends) -> bool
+    ensures { result ≡ holds_ends ends p }
 {
-    (p.first <= asked.low) & ((asked.high as u64) < p.first as u64 + p.length as u64)
+    (p.first <= ends.low as u32) & ((ends.high as u64) < p.first as u64 + p.length as u64)
 }
 
 // The same language and number, and another first cell or length. A derived `==` would be no plainer: of the four
-// fields two
-// are to agree, and of the others one is not to.
+// fields two are to agree, and of the others one is not to.
 fn disagree(p: Phrase, o: Phrase) -> bool
     ensures { result ≡ disagrees p o }
 {
@@ -125,23 +103,23 @@ fn disagree(p: Phrase, o: Phrase) -> bool
 }
 
 // The answer before any record is looked at.
-pub fn start(asked: Asked) -> PhraseAnswer
-    ensures { result ≡ start_of asked }
+pub fn start(refused: Result<(), Refusal>) -> PhraseAnswer
+    ensures { result ≡ start_of refused }
 {
     PhraseAnswer {
-        refusal: asked.refusal,
-        beside: asked.beside,
+        refusal: refusal::number(refused),
+        beside: refusal::beside(refused),
         found: 0,
         position: 0,
     }
 }
 
 // The answer once one record more is looked at. Most records alter nothing: these are let go by one branch.
-pub fn visit(s: PhraseAnswer, p: Phrase, i: usize, asked: Asked) -> PhraseAnswer
-    ensures { result ≡ visit_of s p i asked }
+pub fn visit(s: PhraseAnswer, p: Phrase, i: usize, ends: Ends) -> PhraseAnswer
+    ensures { result ≡ visit_of s p i ends }
 {
     let bad = is_bad(p);
-    let good = holds(p, asked);
+    let good = holds(p, ends);
     if !(bad | good) {
         return s;
     }
@@ -174,8 +152,7 @@ pub fn start_mate(o: Phrase) -> Mate
 }
 
 // Language and number in one number, so that a single branch lets a record go by. With two branches one processor
-// guessed
-// wrong at every record of the same language, and the search took seven times as long.
+// guessed wrong at every record of the same language, and the search took seven times as long.
 fn label(p: Phrase) -> u64
     ensures { result ≡ label_of p }
 {
@@ -231,9 +208,8 @@ fn first_four(a: bool, b: bool, c: bool, i: usize) -> usize
 }
 
 // The same for four records in a row, the first at i. A loop that visits one record a turn is so short that its time
-// went
-// by where the linker put it, up to twice as long at some places. Whether labels are the same is asked once of each
-// record.
+// went by where the linker put it, up to twice as long at some places. Whether labels are the same is asked once of
+// each record.
 pub fn visit_four(s: Mate, a: Phrase, b: Phrase, c: Phrase, d: Phrase, i: usize, o: Phrase) -> Mate
     requires { i + 3 < 18446744073709551616 }
     ensures { result ≡ mate_four s a b c d i o }

@@ -258,8 +258,7 @@ fn one_clock(
 }
 
 // Whether nothing refuses a clock, without the number. timing::call_check has it all, but is too large to be
-// inlined. The groups come last, since their
-// loop parts what stands before it from what stands behind.
+// inlined. The groups come last, since their loop parts what stands before it from what stands behind.
 fn clear(b: board::Board, size: bool, groups: &[u8]) -> bool
     ensures { result ≡ is_ok (call_check b (lent_by size groups.now) false false) }
 {

@@ -1,10 +1,9 @@
 #![tactic(auto)]
 // The three units of the papers: character clocks, scan lines, dots. A count of one is never added to a count of
-// another.
-// Only here is a count's plain number worked with: sums and comparisons within a unit, the conversions between them,
-// and
-// those to cells of a row and places of a buffer, which are plain numbers. Elsewhere it is only handed on: to C, as the
-// number next to a refusal, to a file, to the listing. The functions of `callers*` read it as C does.
+// another. Only here is a count's plain number worked with: sums and comparisons within a unit, the conversions
+// between them, and those to cells of a row and places of a buffer, which are plain numbers. Elsewhere it is only
+// handed on: to C, as the number next to a refusal, to a file, to the listing. The functions of `callers*` read it
+// as C does.
 ghost use Rattle.std.specs.Prelude.{ℕ, ◌≡◌, ◌+◌, ◌-◌, ◌*◌, ◌/◌, ◌%◌, ◌<◌, ◌^◌, eqb};
 ghost use Rattle.units.specs.Units.{clocks, lines, dots, during, clocks_of, dots_of, whole_lines};
 

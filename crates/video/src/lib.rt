@@ -15,8 +15,8 @@ use refusal::Refusal;
 use units::Unit;
 
 // What is the same for all cells of a scan line: whether the picture is shown, the blank level, BKGND, BLINK,
-// whether this is the
-// underline line and the strike line, whether the cursor gate opens on this line, and at which address.
+// whether this is the underline line and the strike line, whether the cursor gate opens on this line, and at which
+// address.
 #[derive(Clone, Copy)]
 pub struct Scene {
     pub shown: bool,
@@ -30,8 +30,7 @@ pub struct Scene {
 }
 
 // How a page's cells are read: where the cursor is, whether attributes run on, whether a cell that sets them has
-// zero dots, and whether bit 5 of
-// them means graphics.
+// zero dots, and whether bit 5 of them means graphics.
 #[derive(Clone, Copy)]
 pub struct Reading {
     pub cursor: u16,
