@@ -2,7 +2,6 @@
 // The calls, which `feldrime_c` hands to C. Only numbers and slices cross; every call checks what it is given, so none
 // has a condition to meet.
 ghost use Rattle.std.specs.Prelude.{◌≡◌};
-ghost use Rattle.lists.specs.Choice.{pick};
 ghost use Rattle.board.specs.State.{power_of};
 ghost use Rattle.shape.specs.Font.{lent_font, font_to_fill, left_font};
 ghost use Rattle.records.specs.Records.{phrases_differ};

@@ -2,6 +2,7 @@
 use Rattle.std.specs.Prelude.{Ok, Err}
 use Rattle.std.proofs.Common.{◌≡◌, List, ℕ, sym, ap, ◌∙◌, arith, length}
 use Rattle.refusal.specs.Number.{check_of, unrefused}
+use Rattle.refusal.specs.Laws.{sent-on}
 use Rattle.timing.specs.Laws.{buffer-bounded}
 use Rattle.board.specs.declared.Board.{Board}
 use Rattle.fetch.specs.declared.Span.{Span}
@@ -17,7 +18,7 @@ whole b chars row e = sym (ap check_of e ∙ span-number b chars row)
 pub returns-in_err-span_of : goal.returns-in_err-span_of
 returns-in_err-span_of c =
     let told = ap check_of c.in_err-span_of.ensures.0 ∙ span-number c.args.b c.args.chars.now c.args.row in
-    asked-refused _ _ _ told
+    sent-on c.from_residual.result c.from_residual.ensures.1 ∙ asked-refused _ _ _ told
 
 pub fetched_of-n-requires : goal.fetched_of-n-requires
 fetched_of-n-requires c =
