@@ -10,7 +10,7 @@ use Rattle.std.proofs.Common.{sym, ◌∙◌, true≢false}
 use Rattle.std.proofs.Math.Bool.{true, false, not}
 use native.Mathlib.Omega.{arith}
 use borrow.Author.Tests.{ltb-true, eqb-true, eq-eqb, ne_eqb}
-use Rattle.lists.specs.Choice.{pick, first_of}
+use Rattle.lists.specs.Choice.{first_of}
 use Rattle.lists.specs.Search.{first-not, first-none}
 use Rattle.refusal.specs.declared.Refusal.TheVariants.{Range, Room, Address, Reserved, BackPorch, LineShort, FrontPorch, Width, Kind, Stretch, Apart, Coded}
 use Rattle.refusal.specs.Number.{Checked, unrefused, after, number_of, wrong_size}

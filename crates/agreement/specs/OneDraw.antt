@@ -13,7 +13,7 @@ use Rattle.raster.specs.Moves.{cell}
 use Rattle.board.specs.declared.Page.{Page}
 use Rattle.board.specs.declared.Place.{Place}
 use Rattle.board.specs.declared.Board.{Board}
-use Rattle.fetch.specs.Run.{span_of, run_of, one_run, GivesSpan, GivesRun, span_in}
+use Rattle.fetch.specs.Run.{run_of, one_run, GivesSpan, GivesRun, span_in}
 use Rattle.fetch.specs.RowCells.{GivesCells}
 use Rattle.fetch.specs.Laws.{span_fits}
 use Rattle.fetch.specs.Rows.{entry_of, code_at, row_start, cell_at, fetched_of, fetched_before}

@@ -21,7 +21,7 @@ use Rattle.board.specs.Range.{memory_refused}
 use Rattle.timing.specs.Fields.{hact_of, lines_of, rows_of, visible_of, buffer_of}
 use Rattle.timing.specs.Laws.{range-ok, call_ok}
 use Rattle.fetch.specs.Rows.{code_at, cell_at, fetched_of, fetch_at}
-use Rattle.fetch.specs.Run.{run_check, span_of, span_in}
+use Rattle.fetch.specs.Run.{run_check, span_in}
 use Rattle.fetch.specs.RowCells.{cells_of, cells_check, cells_given, cells_put}
 use Rattle.fetch.specs.Laws.{cell-shown}
 use Rattle.fetch.specs.RowLaws.{cells-as-run, cells_at, run_at}

@@ -1,5 +1,5 @@
 -- Rests on run-passed for what the callees ask, on asked-row and asked-refused for the answer.
-use Rattle.std.specs.Prelude.{Ok, Err}
+use Rattle.std.specs.Prelude.{Ok}
 use Rattle.std.proofs.Common.{◌≡◌, List, ℕ, sym, ap, ◌∙◌, arith, length}
 use Rattle.refusal.specs.Number.{check_of, unrefused}
 use Rattle.refusal.specs.Laws.{sent-on}
