@@ -42,8 +42,8 @@ pub struct PairAnswer {
 // The lowest and the highest of a row's cells.
 #[derive(Clone, Copy)]
 pub struct Ends {
-    pub low: u16,
-    pub high: u16,
+    pub low: u32,
+    pub high: u32,
 }
 
 // The first later record that disagrees with one, where there is one, and whether that one is bad.
@@ -58,12 +58,12 @@ fn row_ends(buffer: raster::Buffer, start: raster::Cell, n: u32) -> Ends
     requires { Bounded buffer × (start.address < 16384) }
     ensures { result ≡ ends_by buffer start.address n }
 {
-    let mut low = start.address;
-    let mut high = start.address;
+    let mut low = start.address as u32;
+    let mut high = start.address as u32;
     let mut cell = start;
     for _ in 0..n {
-        low = low.min(cell.address);
-        high = high.max(cell.address);
+        low = low.min(cell.address as u32);
+        high = high.max(cell.address as u32);
         cell = raster::advance_one(buffer, cell);
     }
     Ends { low, high }
@@ -89,7 +89,7 @@ fn is_bad(p: Phrase) -> bool
 fn holds(p: Phrase, ends: Ends) -> bool
     ensures { result ≡ holds_ends ends p }
 {
-    (p.first <= ends.low as u32) & ((ends.high as u64) < p.first as u64 + p.length as u64)
+    (p.first <= ends.low) & ((ends.high as u64) < p.first as u64 + p.length as u64)
 }
 
 // The same language and number, and another first cell or length. A derived `==` would be no plainer: of the four
