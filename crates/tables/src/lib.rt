@@ -91,7 +91,8 @@ fn gather_run(
     valid
 }
 
-// The cells of a row round the buffer, one by one.
+// The cells of a row round the buffer, one by one. In one loop with `gather_run` each cell would come from the one
+// before it, and the compiler would make no vectors.
 fn gather_round(
     cells: &mut [u16],
     chars: &[u8],

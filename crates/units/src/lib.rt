@@ -164,7 +164,8 @@ impl Clocks {
     }
 }
 
-// The clocks of so many lines.
+// The clocks of so many lines. `dots_of` is the same of dots: as one generic function they would need a trait that says
+// which unit makes which, and a conversion is to be read by its name.
 pub fn clocks_of(n: Lines, line: Clocks) -> Clocks
     requires { n.0 * line.0 < 2 ^ 32 }
     ensures { result ≡ clocks_of n line }
