@@ -7,7 +7,7 @@
 --     cells_at         each element of the buffer that is counted is the row's cell of its number
 --     run_at           the first of these are the row's run
 --     run-least        which has no more cells than the row
-use Rattle.std.specs.Prelude.{ℕ, ◌+◌, ◌≤◌, ◌<◌, ◌≡◌, Bool, ◌||◌, ltb, leb, length, get_or, Ok, Err}
+use Rattle.std.specs.Prelude.{ℕ, ◌+◌, ◌≤◌, ◌<◌, ◌≡◌, Bool, ◌||◌, ltb, leb, length, get_or, Result, Ok, Err}
 use Rattle.std.proofs.Math.Path.{refl, ap}
 use Rattle.std.proofs.Common.{sym, ◌∙◌, arith, ltb-false, le-ltb}
 use Rattle.std.proofs.Math.Bool.{false, or-false}
@@ -15,6 +15,7 @@ use mathlib.Core.List.{List, ◌++◌}
 use Rattle.std.proofs.Math.ListN.{drop, get_or-append}
 use Rattle.lists.specs.Choice.{neither}
 use Rattle.lists.specs.Tab.{tab, length-tab, get_or-tab}
+use Rattle.refusal.specs.declared.Refusal.{Refusal}
 use Rattle.refusal.specs.Number.{Checked, unrefused, given, value_or, wrong_size}
 use Rattle.refusal.specs.Laws.{size-right}
 use Rattle.raster.specs.declared.Buffer.{Buffer}
@@ -52,11 +53,12 @@ cells-walked p chars row = refl
 
 -- ---- what the call leaves
 
-pub cells-given : (b : Board) (chars : List ℕ) (row : ℕ) (cells₀ : List ℕ) {cells : List ℕ} → cells_check b (length chars) row (length cells₀) ≡ unrefused
+pub cells-given : (b : Board) (chars : List ℕ) (row : ℕ) (cells₀ : List ℕ) {r : Result ℕ Refusal} {cells : List ℕ} → cells_check b (length chars) row (length cells₀) ≡ unrefused
+    → r ≡ Ok (fetched_of b.page chars row)
     → cells ≡ tab (fetched_of b.page chars row) (column_by (buffer_of b.page) (row_start b.page chars row)) ++ drop (fetched_of b.page chars row) cells₀
-    → cells ≡ cells_put b chars row cells₀
-unfolding cells_put
-cells-given b chars row cells₀ t q = rw t (q ∙ ap (λ (l : List ℕ). l ++ drop (fetched_of b.page chars row) cells₀) (cells-walked b.page chars row))
+    → (r ≡ cells_given b chars row (length cells₀)) × (cells ≡ cells_put b chars row cells₀)
+unfolding cells_given cells_put
+cells-given b chars row cells₀ t e q = (rw t e, rw t (q ∙ ap (λ (l : List ℕ). l ++ drop (fetched_of b.page chars row) cells₀) (cells-walked b.page chars row)))
 
 -- ---- what a caller knows of the count and of each cell
 

@@ -61,10 +61,10 @@ page_check p =
 unfoldable pub size_of : Page → Result PageSize Refusal
 size_of p = given (page_check p) (record { lines = visible_of p; dots = dots_of (clocks (hact_of p)) p.video.dots })
 
--- [refusal zeros]
 abbrev pub no_size : PageSize
 no_size = record { lines = lines 0; dots = dots 0 }
 
+-- [refusal zeros]
 -- the same, and on a refusal zeros
 abbrev pub size_in : Page → PageSize
 size_in p = value_or no_size (size_of p)

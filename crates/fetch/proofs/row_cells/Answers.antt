@@ -1,9 +1,9 @@
 -- Rests on cells-passed for what the callees ask, on cells-given for what is left.
-use Rattle.std.proofs.Common.{sym, arith}
+use Rattle.std.specs.Prelude.{Ok}
+use Rattle.std.proofs.Common.{sym, ap, arith}
 use native.Mathlib.Nat.{le_trans}
 use Rattle.timing.specs.Laws.{buffer-bounded}
 use Rattle.fetch.specs.Laws.{run-passed, row-start-lt, fetched-small}
-use Rattle.fetch.specs.RowCells.{cells_given}
 use Rattle.fetch.specs.RowLaws.{cells-passed, cells-given}
 use Rattle.fetch.proofs.row_cells.Goals as goal
 
@@ -25,9 +25,6 @@ put_cells-requires c =
     (buffer-bounded _, row-start-lt _ _ k.page _, le_trans (fetched-small _ _ _).1 p.1)
 
 pub returns : goal.returns
-unfolding cells_given
 returns c =
-    let ok = sym c.in_ok-cells_check.ensures in (
-      rw (ok, c.fetched_of-count.ensures),
-      cells-given _ _ _ _ ok (rw (c.buffer_of.ensures, c.row_start-start.ensures, c.fetched_of-count.ensures) at c.put_cells.ensures),
-    )
+    let ok = sym c.in_ok-cells_check.ensures in
+    cells-given _ _ _ _ ok (ap Ok c.fetched_of-count.ensures) (rw (c.buffer_of.ensures, c.row_start-start.ensures, c.fetched_of-count.ensures) at c.put_cells.ensures)
