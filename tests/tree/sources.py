@@ -101,6 +101,12 @@ def put_in(text, name, taken, fact):  # a ghost function's text in place of its 
 
 def kept(path, text):  # what a type keeps of a public trait or of `From`: each function, with the type's own words
     traits = {m[1]: m for m in TRAIT.finditer(text)}
+    kinds = {impl[1] for impl in IMPL.finditer(text)}
+    for trait in (t for name, t in traits.items() if name not in kinds):  # its types are private, or of other crates
+        for m in PROMISE.finditer(trait[2]):
+            start = trait.start(2) + m.start()
+            yield Function(path.parts[1], f'{trait[1]}::{m[1]}', True, comment_above(text, start, '//'), m[2], '', path,
+                           (start, trait.start(2) + m.end()))
     for impl in IMPL.finditer(text):
         ghosts = GHOST.findall(impl[3])
         for m in PROMISE.finditer(impl[3]) if impl[1] == 'From' else ():
@@ -108,7 +114,7 @@ def kept(path, text):  # what a type keeps of a public trait or of `From`: each 
             head = m[2].rstrip() + ' ensures { ' + re.sub(rf'\b{result}\b', 'result', fact) + ' }'
             yield Function(path.parts[1], f'{impl[2]}::{m[1]}', True, '', head, '', path, impl.span())
         trait = traits.get(impl[1])
-        for m in PROMISE.finditer(trait[2]) if trait and len(ghosts) > 1 else ():
+        for m in PROMISE.finditer(trait[2]) if trait else ():
             head = re.sub(r'\bSelf\b', impl[2], m[2])
             for ghost in ghosts:
                 head = put_in(head, *ghost) if ghost[1] else head.replace(f' {ghost[0]} ', f' {ghost[2]} ')

@@ -128,7 +128,8 @@ def public(tree, laws):
             yield f'\n### `{crate}`\n'
             for f in own:
                 asks = f'; internal, requires `{f.requires}`' if f.requires else ''
-                yield item(f'`{f.name}`: {contract(tree, f)}; law {quoted(law_of(f, laws))}{asks}.')
+                law = quoted(law_of(f, laws))
+                yield item(f'`{f.name}`: {contract(tree, f)}; {"law " + law if law else "no law"}{asks}.')
 
 
 def callers(tree):

@@ -12,9 +12,11 @@ use refusal::Refusal;
 pub trait Index {
     ghost kept: { Self → List Phrase };
 
+    // How many there are. No law of one answer: each index has its own.
     fn count(&self) -> usize
         ensures { result ≡ length (kept self.now) };
 
+    // The record at a position. No law of one answer: each index has its own.
     fn at(&self, i: usize) -> records::Phrase
         requires { i < length (kept self.now) }
         ensures { result ≡ get_or (kept self.now) i none };
