@@ -261,7 +261,9 @@ pub fn width_refused(d: units::Dots) -> bool
     (d < units::Dots(6)) | (units::Dots(12) < d)
 }
 
-// 12, 4, 13, 14, 15, 6, in this order.
+// 12, 4, 13, 14, 15, 6, in this order. A step asks only whether one of them refuses, and takes half as long again if
+// it has to call this.
+#[inline(always)]
 #[tactic(auto, unfolding(crate::specs::Check::page_check))]
 pub fn page_check(p: board::Page) -> Result<(), Refusal>
     ensures { result ≡ page_check p }
