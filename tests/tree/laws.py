@@ -11,11 +11,16 @@ FONT = 'words flags unshifted shifted groups'
 def plain(text, names):  # a fact with _ for each parameter, whatever of it is named
     text = re.sub(rf'\b(?:lent_font|font_to_fill|left_font) {FONT}\b', 'words', text)
     text = text.replace('lent_records', 'records_of')
-    named = '|'.join(map(re.escape, names))
+    named = '|'.join(map(re.escape, sorted(names, key=len, reverse=True)))
     text = re.sub(rf'(?<![\w.-])(?:{named})(?:\.(?:now|old|new|entry|exit|ref_ptr|\d+))*(?![\w-])', '_', text)
     while text != (text := re.sub(r'\(_\)(?:\.\d+)?', '_', text)):
         pass
     return ' '.join(text.split())
+
+
+def ghosts_in(head, fact):  # what a function of any type says of that type, such as I.kept: a parameter of its law
+    types = ['Self'] + re.findall(r'[<,] ?(\w+): ', head.split('(')[0])
+    return re.findall(rf'\b(?:{"|".join(types)})\.\w+', fact)
 
 
 def contract_fact(head):  # the fact that is ensured, and what it does not speak of
@@ -28,7 +33,7 @@ def contract_fact(head):  # the fact that is ensured, and what it does not speak
     silent = [x for x in written if not re.search(rf'\b{x}\.new\b', fact)]
     if '->' in head and not re.search(r'\bresult\b', fact):
         silent.append('its result')
-    return plain(fact, ['result', 'self'] + re.findall(r'(\w+): ', head)), silent
+    return plain(fact, ['result', 'self'] + re.findall(r'(\w+): ', head) + ghosts_in(head, fact)), silent
 
 
 def laws_by_fact():  # for each fact the names of the laws that only one answer meets it

@@ -17,7 +17,7 @@ TAG = re.compile(r'\[((?:' + '|'.join(SECTIONS) + r') [\w. -]+)\]')
 FUNCTION = re.compile(r'^( *)(pub )?(?:extern "C" )?fn (\w+)(.*?)(?:^\1| )\{\n(.*?)^\1\}', re.M | re.S)
 TRAIT = re.compile(r'^pub trait (\w+).*?\{\n(.*?)^\}', re.M | re.S)
 PROMISE = re.compile(r'^    fn (\w+)(.*?)(?:;$| \{$|^    \{$)', re.M | re.S)  # a function of a trait, with a body or none
-IMPL = re.compile(r'^impl (\w+)(?:<\w+>)? for (\w+) \{\n(.*?)^\}', re.M | re.S)
+IMPL = re.compile(r'^impl (\w+)(?:<.+>)? for (\w+) \{\n(.*?)^\}', re.M | re.S)
 GHOST = re.compile(r'ghost (\w+) = \{ (?:λ ([\w ]+)\. )?(.*?) \};')
 DECLARED = re.compile(r' *((?:abbrev|unfoldable) )?(?:pub )?(?:(?:record|data) (\S+)|([^\s(){}:=]+) :)')
 
@@ -103,14 +103,16 @@ def kept(path, text):  # what a type keeps of a public trait or of `From`: each 
     traits = {m[1]: m for m in TRAIT.finditer(text)}
     kinds = {impl[1] for impl in IMPL.finditer(text)}
     for trait in (t for name, t in traits.items() if name not in kinds):  # its types are private, or of other crates
+        ghosts = '|'.join(re.findall(r'^    ghost (\w+):', trait[2], re.M))
         for m in PROMISE.finditer(trait[2]):
             start = trait.start(2) + m.start()
-            yield Function(path.parts[1], f'{trait[1]}::{m[1]}', True, comment_above(text, start, '//'), m[2], '', path,
+            head = re.sub(rf'\b({ghosts})\b', r'Self.\1', m[2])
+            yield Function(path.parts[1], f'{trait[1]}::{m[1]}', True, comment_above(text, start, '//'), head, '', path,
                            (start, trait.start(2) + m.end()))
     for impl in IMPL.finditer(text):
         ghosts = GHOST.findall(impl[3])
-        for m in PROMISE.finditer(impl[3]) if impl[1] == 'From' else ():
-            name, (given, result), fact = ghosts[0][0], ghosts[0][1].split(), ghosts[0][2]
+        for m in PROMISE.finditer(impl[3]) if impl[1] in ('From', 'Default') else ():
+            result, fact = ghosts[0][1].split()[-1], ghosts[0][2]
             head = m[2].rstrip() + ' ensures { ' + re.sub(rf'\b{result}\b', 'result', fact) + ' }'
             yield Function(path.parts[1], f'{impl[2]}::{m[1]}', True, '', head, '', path, impl.span())
         trait = traits.get(impl[1])

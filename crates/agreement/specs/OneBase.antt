@@ -28,7 +28,7 @@ use Rattle.registers.specs.Write.{write_of}
 use Rattle.registers.specs.Read.{read_of}
 use Rattle.registers.specs.Video.{set_video_of}
 
--- ---- `units`
+-- ---- `units`. `<`, `<=`, `==` and `min` of counts are derived, and `units` Order says that the order is this one.
 
 pub clocks-count-of-one : (n : ℕ) → OneAnswer (λ r. r ≡ clocks n)
 clocks-count-of-one n = only _
@@ -59,6 +59,12 @@ clocks-during-one a from n = only _
 
 pub clocks-remainder-one : (a n : Clocks) → OneAnswer (λ r. r ≡ clocks (a.0 % n.0))
 clocks-remainder-one a n = only _
+
+pub clocks-quotient-one : (a n : Clocks) → OneAnswer (λ r. r ≡ a.0 / n.0)
+clocks-quotient-one a n = only _
+
+pub clocks-places-one : (a : Clocks) → OneAnswer (λ r. r ≡ a.0)
+clocks-places-one a = only _
 
 pub clocks-half-one : (a : Clocks) → OneAnswer (λ r. r ≡ clocks (a.0 / 2))
 clocks-half-one a = only _
@@ -117,6 +123,12 @@ dots-count-of-one n = only _
 pub dots-below-one : (a b : Dots) → OneAnswer (λ r. r ≡ ltb a.0 b.0)
 dots-below-one a b = only _
 
+pub dots-at-most-one : (a b : Dots) → OneAnswer (λ r. r ≡ leb a.0 b.0)
+dots-at-most-one a b = only _
+
+pub dots-same-one : (a b : Dots) → OneAnswer (λ r. r ≡ eqb a.0 b.0)
+dots-same-one a b = only _
+
 pub dots-plus-one : (a b : Dots) → OneAnswer (λ r. r ≡ dots (a.0 + b.0))
 dots-plus-one a b = only _
 
@@ -125,6 +137,12 @@ dots-minus-one a b = only _
 
 pub dots-times-one : (a : Dots) (k : ℕ) → OneAnswer (λ r. r ≡ dots (k * a.0))
 dots-times-one a k = only _
+
+pub dots-during-one : (a from n : Dots) → OneAnswer (λ r. r ≡ during from.0 n.0 a.0)
+dots-during-one a from n = only _
+
+pub dots-quotient-one : (a n : Dots) → OneAnswer (λ r. r ≡ a.0 / n.0)
+dots-quotient-one a n = only _
 
 pub dots-remainder-one : (a n : Dots) → OneAnswer (λ r. r ≡ dots (a.0 % n.0))
 dots-remainder-one a n = only _

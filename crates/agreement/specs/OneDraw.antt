@@ -1,6 +1,6 @@
 -- No second answer meets the contract of a public function of `fetch`, `catalogue`, `records`, `phrases`, `columns`, `shape`, `video`, `dots`, `tables`, `line`, `picture`, `place` or `step`: it names its answer,
 -- so each of these is `only`.
-use Rattle.std.specs.Prelude.{ℕ, ◌≡◌, Bool, List, length, Result}
+use Rattle.std.specs.Prelude.{ℕ, ◌≡◌, Bool, List, length, get_or, Result}
 use Rattle.std.proofs.Common.{arith, length-drop, length-take-le}
 use Rattle.lists.specs.Answer.{OneAnswer, only, only-both, only-four}
 use Rattle.units.specs.Units.{lines}
@@ -23,9 +23,10 @@ use Rattle.records.specs.declared.Phrase.{Phrase}
 use Rattle.records.specs.declared.PhraseAnswer.{PhraseAnswer}
 use Rattle.records.specs.declared.PairAnswer.{PairAnswer}
 use Rattle.records.specs.declared.Ends.{Ends}
+use Rattle.records.specs.declared.Asked.{Asked}
 use Rattle.records.specs.declared.Mate.{Mate}
-use Rattle.records.specs.Records.{phrase_of_row, phrases_differ}
-use Rattle.records.specs.Ends.{asked_of}
+use Rattle.records.specs.Records.{none, phrase_of_row, phrases_differ}
+use Rattle.records.specs.Ends.{asked_by, asked_of}
 use Rattle.records.specs.Folds.{start_of, visit_of, search_of, mate_start, mate_visit, mate_four, fours_from, pair_start, pair_visit}
 use Rattle.columns.specs.Columns.{records_of}
 use Rattle.latch.specs.Held.{held_at}
@@ -106,8 +107,11 @@ to-sheet-one b chars = only _
 pub row-asked-one : (b : Board) (chars : List ℕ) (row : ℕ) → OneAnswer (λ r. r ≡ asked_of b chars row)
 row-asked-one b chars row = only _
 
-pub start-one : (x : Checked) → OneAnswer (λ r. r ≡ start_of x)
-start-one x = only _
+pub asked-from-one : (x : Result Ends Refusal) → OneAnswer (λ r. r ≡ asked_by x)
+asked-from-one x = only _
+
+pub start-one : (a : Asked) → OneAnswer (λ r. r ≡ start_of a)
+start-one a = only _
 
 pub visit-one : (s : PhraseAnswer) (p : Phrase) (i : ℕ) (e : Ends) → OneAnswer (λ r. r ≡ visit_of s p i e)
 visit-one s p i e = only _
@@ -132,11 +136,23 @@ visit-pair-one s m i = only _
 
 -- ---- `phrases`
 
-pub search-one : (phrases : List Phrase) (a : Result Ends Refusal) → OneAnswer (λ r. r ≡ search_of phrases a)
+pub index-count-one : {S : Type 0} (kept : S → List Phrase) (s : S) → OneAnswer (λ r. r ≡ length (kept s))
+index-count-one kept s = only _
+
+pub index-at-one : {S : Type 0} (kept : S → List Phrase) (s : S) (i : ℕ) → OneAnswer (λ r. r ≡ get_or (kept s) i none)
+index-at-one kept s i = only _
+
+pub search-in-one : {S : Type 0} (kept : S → List Phrase) (s : S) (a : Asked) → OneAnswer (λ r. r ≡ search_of (kept s) a)
+search-in-one kept s a = only _
+
+pub search-one : (phrases : List Phrase) (a : Asked) → OneAnswer (λ r. r ≡ search_of phrases a)
 search-one phrases a = only _
 
 pub phrase-of-row-one : (b : Board) (chars : List ℕ) (phrases : List Phrase) (row : ℕ) → OneAnswer (λ r. r ≡ phrase_of_row b chars phrases row)
 phrase-of-row-one b chars phrases row = only _
+
+pub differ-in-one : {S : Type 0} (kept : S → List Phrase) (s : S) → OneAnswer (λ r. r ≡ phrases_differ (kept s))
+differ-in-one kept s = only _
 
 pub phrases-differ-one : (phrases : List Phrase) → OneAnswer (λ r. r ≡ phrases_differ phrases)
 phrases-differ-one phrases = only _

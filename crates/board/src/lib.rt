@@ -108,6 +108,15 @@ pub fn power() -> Board
     }
 }
 
+// Where a board must stand and a refusal gives none, it is the one after power on.
+impl Default for Board {
+    ghost is_default = { λ b. b ≡ power_of };
+
+    fn default() -> Board {
+        power()
+    }
+}
+
 // Versions from 1 to the newest are known.
 pub const NEWEST_VERSION: u8 = 3;
 

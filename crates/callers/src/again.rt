@@ -1,8 +1,10 @@
 // A file that is read, and written again.
 ghost use Rattle.std.specs.Prelude.{◌≡◌, false, length};
+ghost use Rattle.refusal.specs.Number.{value_or};
+ghost use Rattle.board.specs.State.{power_of};
 ghost use Rattle.board.specs.Layout.{file_size};
 ghost use Rattle.files.specs.Page.{version_in};
-ghost use Rattle.files.specs.File.{read_check};
+ghost use Rattle.files.specs.File.{read_check, read_page_of};
 ghost use Rattle.files.specs.FontFile.{font_size, font_check};
 ghost use Rattle.feldrime.specs.Answers.{answer_of};
 ghost use Rattle.callers.specs.Again.{again_check, written_again};
@@ -23,6 +25,15 @@ pub fn page_again(file: &[u8], out: &mut [u8]) -> Answer
         return read;
     }
     feldrime::feldrime_page_write(&numbers, &chars, &attrs, out)
+}
+
+// The board of a page file; of one that is refused, the board that power gives.
+pub fn board_or_power(file: &[u8]) -> board::Board
+    ensures { result ≡ value_or power_of (read_page_of file.now false) }
+{
+    let mut chars = [0u8; 16384];
+    let mut attrs = [0u8; 16384];
+    files::read_page(file, &mut chars, &mut attrs).unwrap_or_default()
 }
 
 // A font file that is accepted is written as the same bytes. C has no call that writes a font.

@@ -53,7 +53,8 @@ pub fn record_of_row(
         firsts,
         lengths,
     };
-    phrases::search_in(&columns, records::row_asked(b, chars, row))
+    let asked = records::row_asked(b, chars, row);
+    phrases::search_in(&columns, records::Asked::from(asked))
 }
 
 // The first two records with the same language and number that differ, by the earlier one's position, then the later's.

@@ -331,7 +331,7 @@ pub fn feldrime_phrase_of_row(
     ensures { result ≡ phrase_for numbers.now chars.now phrases.now row }
 {
     let asked = numbers_asked(numbers, chars, row);
-    phrases::search(phrases, asked)
+    phrases::search(phrases, records::Asked::from(asked))
 }
 
 // The first two records with the same language and number that differ in first cell or length.

@@ -71,9 +71,8 @@ fn print_listing(
     if !print(head, &out) {
         return false;
     }
-    let shown = timing::visible_of(page);
-    for line in 0..shown.0 {
-        let line = units::Lines(line);
+    for line in 0..timing::visible_of(page).places() {
+        let line = units::Lines(line as u32);
         let listed = listing_line(
             b, chars, attrs, words, flags, unshifted, shifted, groups, line, 0, &mut out,
         );

@@ -8,21 +8,22 @@ use Prim.Native.Nat.{ℕ, zero, suc, ◌+◌, ◌<◌}
 use Rattle.std.specs.Prelude.{◌≡◌, Bool, ◌&&◌, ◌||◌, List, Some, None, Ok, Err, length, get_or, is_ok}
 use Rattle.std.specs.Option.{is_some, is_none, unwrap_or}
 use Rattle.std.proofs.Math.Path.{refl}
-use Rattle.std.proofs.Common.{ap, ◌∙◌, arith, lt-ltb, le-ltb}
+use Rattle.std.proofs.Common.{ap, sym, ◌∙◌, arith, eq-eqb, eqb-true, lt-ltb, le-ltb}
 use Rattle.std.proofs.Math.Bool.{true, false}
 use Rattle.std.proofs.Math.Dec.{eqb}
 use Rattle.lists.specs.Choice.{pick}
 use Rattle.lists.specs.Search.{any_below, first_below, any_none, first-kept, first-new, same-any, same_first}
-use Rattle.refusal.specs.declared.Refusal.{Refusal}
-use Rattle.refusal.specs.Number.{Checked, unrefused, given}
+use Rattle.refusal.specs.Number.{Checked, given, number_of, beside_of}
+use Rattle.refusal.specs.Laws.{number-ok}
 use Rattle.board.specs.declared.Board.{Board}
 use Rattle.fetch.specs.Rows.{fetched_of, fetch_at}
 use Rattle.fetch.specs.Run.{run_check}
 use Rattle.records.specs.declared.Phrase.{Phrase}
 use Rattle.records.specs.declared.PairAnswer.{PairAnswer}
 use Rattle.records.specs.declared.Ends.{Ends}
+use Rattle.records.specs.declared.Asked.{Asked}
 use Rattle.records.specs.Records.{none, bad_record, holds_row, disagrees, at, among, phrase_answer, phrase_of_row, pair_answer, later_differs, phrases_differ}
-use Rattle.records.specs.Ends.{low_to, high_to, ends_of, asked_of, holds_ends, holds_row_lem}
+use Rattle.records.specs.Ends.{low_to, high_to, ends_of, asked, asked_by, asked_of, holds_ends, holds_row_lem}
 use Rattle.records.specs.Folds.{turn, start_of, visit_of, search_to, phrase_among, search_of, mate_on, mate_start, mate_visit, mate_four, mate_to, mate_of, pair_start, pair_visit, pairs_to}
 
 -- a turn more of a search that keeps its whole answer
@@ -54,38 +55,53 @@ same-among refused found nothing bad t u n h = rw (same-any t u n h, same_first 
 
 -- ---- the record of a row
 
-module _ (rs : List Phrase) (e : Ends) where
-  before : (n : ℕ) → search_to rs e n ≡ phrase_among (start_of unrefused) (at rs bad_record) (at rs (holds_ends e)) n
+module _ (rs : List Phrase) (a : Asked) where
+  before : a.refusal ≡ 0 → (n : ℕ) → search_to rs a n ≡ phrase_among (start_of a) (at rs bad_record) (at rs (holds_ends a.ends)) n
   unfolding visit_of among any_below
-  before zero = refl
-  before (suc n) =
-      among-more (phrase_answer 20 0 0) (phrase_answer 0 0 1) (start_of unrefused) (at rs bad_record) (at rs (holds_ends e))
-      (λ s. eqb s.refusal 0) (λ s. eqb s.found 0) (λ i. refl) (λ i. refl) refl (λ i. refl) refl n (before n)
+  before z zero = refl
+  before z (suc n) =
+      among-more (phrase_answer 20 0 0) (phrase_answer 0 0 1) (start_of a) (at rs bad_record) (at rs (holds_ends a.ends))
+      (λ s. eqb s.refusal 0) (λ s. eqb s.found 0) (λ i. refl) (λ i. refl) (eq-eqb _ _ z) (λ i. refl) refl n (before z n)
 
-  pub search-all : search_to rs e (length rs) ≡ search_of rs (Ok e)
+  stays : eqb a.refusal 0 ≡ false → (n : ℕ) → search_to rs a n ≡ start_of a
+  unfolding visit_of
+  stays z zero = refl
+  stays z (suc n) = rw (stays z n, z)
+
+  pub search-all : search_to rs a (length rs) ≡ search_of rs a
   unfolding search_of
-  search-all = before (length rs)
+  search-all = go (eqb a.refusal 0) refl
+    where
+      go : (t : Bool) → eqb a.refusal 0 ≡ t
+          → search_to rs a (length rs) ≡ pick t (phrase_among (start_of a) (at rs bad_record) (at rs (holds_ends a.ends)) (length rs)) (start_of a)
+      go true e = before (eqb-true _ _ e) (length rs)
+      go false e = stays e (length rs)
 
-pub held-refused : (rs : List Phrase) (why : Refusal) → search_of rs (Err why) ≡ start_of (Err why)
-unfolding search_of
-held-refused rs why = refl
+  -- nothing is looked at after a refusal
+  pub none-searched : eqb a.refusal 0 ≡ false → start_of a ≡ search_of rs a
+  unfolding search_of
+  none-searched e = rw e
+
+pub held-refused : (rs : List Phrase) (n m : ℕ) → eqb n 0 ≡ false → search_of rs (asked n m 0 0) ≡ phrase_answer n m 0 0
+held-refused rs n m e = sym (none-searched rs (asked n m 0 0) e)
 
 module _ (b : Board) (chars : List ℕ) (rs : List Phrase) (row : ℕ) where
   ends : Ends
   ends = ends_of (low_to (fetch_at b.page chars row) (fetched_of b.page chars row)) (high_to (fetch_at b.page chars row) (fetched_of b.page chars row))
 
-  held : search_of rs (Ok ends) ≡ phrase_among (phrase_answer 0 0 0 0) (at rs bad_record) (at rs (holds_row b.page chars row)) (length rs)
+  held : search_of rs (asked_by (Ok ends)) ≡ phrase_among (phrase_answer 0 0 0 0) (at rs bad_record) (at rs (holds_row b.page chars row)) (length rs)
   unfolding search_of ends
   held = same-among _ _ _ (at rs bad_record) (at rs (holds_ends ends)) (at rs (holds_row b.page chars row)) (length rs) (λ i l. holds_row_lem b.page chars row (get_or rs i none))
 
-  pub row-held : search_of rs (asked_of b chars row) ≡ phrase_of_row b chars rs row
+  pub row-held : search_of rs (asked_by (asked_of b chars row)) ≡ phrase_of_row b chars rs row
   unfolding phrase_of_row asked_of ends
   row-held = go (run_check b (length chars) row)
     where
-      go : (r : Checked) → search_of rs (given r ends)
-          ≡ pick (is_ok r) (phrase_among (phrase_answer 0 0 0 0) (at rs bad_record) (at rs (holds_row b.page chars row)) (length rs)) (start_of r)
+      go : (r : Checked) → search_of rs (asked_by (given r ends))
+          ≡ pick (is_ok r) (phrase_among (phrase_answer 0 0 0 0) (at rs bad_record) (at rs (holds_row b.page chars row)) (length rs))
+          (phrase_answer (number_of r) (beside_of r) 0 0)
       go (Ok tt) = held
-      go (Err why) = held-refused rs why
+      go (Err why) = held-refused rs _ _ (number-ok (Err why))
 
 -- ---- two records that differ
 

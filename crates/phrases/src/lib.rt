@@ -6,17 +6,15 @@ ghost use Rattle.records.specs.declared.Phrase.{Phrase};
 ghost use Rattle.records.specs.Records.{none, phrase_of_row, phrases_differ};
 ghost use Rattle.records.specs.Folds.{search_of, mate_to, mate_of};
 
-use refusal::Refusal;
-
 // The records of an index, by their positions.
 pub trait Index {
     ghost kept: { Self → List Phrase };
 
-    // How many there are. No law of one answer: each index has its own.
+    // How many there are.
     fn count(&self) -> usize
         ensures { result ≡ length (kept self.now) };
 
-    // The record at a position. No law of one answer: each index has its own.
+    // The record at a position.
     fn at(&self, i: usize) -> records::Phrase
         requires { i < length (kept self.now) }
         ensures { result ≡ get_or (kept self.now) i none };
@@ -39,18 +37,14 @@ impl<'a> Index for Listed<'a> {
 }
 
 // The lowest record of an index that holds what is asked.
-// No law of one answer: each index has its own, and `search` below shows the law.
-pub fn search_in<I: Index>(
-    index: &I,
-    asked: Result<records::Ends, Refusal>,
-) -> records::PhraseAnswer
+pub fn search_in<I: Index>(index: &I, asked: records::Asked) -> records::PhraseAnswer
     ensures { result ≡ search_of (I.kept index.now) asked }
 {
-    let ends = match asked {
-        Ok(ends) => ends,
-        Err(why) => return records::start(Err(why)),
-    };
-    let mut s = records::start(Ok(()));
+    let mut s = records::start(asked);
+    if asked.refusal != 0 {
+        return s;
+    }
+    let ends = asked.ends;
     for i in 0..index.count() {
         s = records::visit(s, index.at(i), i, ends);
     }
@@ -58,10 +52,7 @@ pub fn search_in<I: Index>(
 }
 
 // The lowest record that holds what is asked.
-pub fn search(
-    phrases: &[records::Phrase],
-    asked: Result<records::Ends, Refusal>,
-) -> records::PhraseAnswer
+pub fn search(phrases: &[records::Phrase], asked: records::Asked) -> records::PhraseAnswer
     ensures { result ≡ search_of phrases.now asked }
 {
     search_in(&Listed(phrases), asked)
@@ -77,7 +68,7 @@ pub fn phrase_of_row(
     ensures { result ≡ phrase_of_row b chars.now phrases.now row }
 {
     let asked = records::row_asked(b, chars, row);
-    search(phrases, asked)
+    search(phrases, records::Asked::from(asked))
 }
 
 // The first record after a position and before an end that disagrees with the one there.
@@ -119,7 +110,6 @@ fn mate_of<I: Index>(index: &I, after: usize) -> records::Mate
 
 // The first two records of an index with the same language and number that differ, by the earlier one's position, then
 // the later's.
-// No law of one answer: each index has its own, and `phrases_differ` below shows the law.
 pub fn differ_in<I: Index>(index: &I) -> records::PairAnswer
     ensures { result ≡ phrases_differ (I.kept index.now) }
 {

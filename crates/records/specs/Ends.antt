@@ -14,7 +14,7 @@ use Rattle.raster.specs.declared.Buffer.{Buffer}
 use Rattle.raster.specs.declared.Cell.{Cell}
 use Rattle.raster.specs.Moves.{cell, advance_by}
 use Rattle.refusal.specs.declared.Refusal.{Refusal}
-use Rattle.refusal.specs.Number.{unrefused, given}
+use Rattle.refusal.specs.Number.{unrefused, given, number_of, beside_of}
 use Rattle.board.specs.declared.Page.{Page}
 use Rattle.board.specs.declared.Board.{Board}
 use Rattle.timing.specs.Fields.{buffer_of}
@@ -23,6 +23,7 @@ use Rattle.fetch.specs.Run.{run_check}
 use Rattle.fetch.specs.Laws.{fetched-small}
 use Rattle.records.specs.declared.Phrase.{Phrase}
 use Rattle.records.specs.declared.Ends.{Ends}
+use Rattle.records.specs.declared.Asked.{Asked}
 use Rattle.records.specs.Records.{past_of, holds_cell, holds_row}
 
 -- of f 0 to f (n - 1), and of f 0 where n is 0
@@ -40,6 +41,14 @@ ends_of l h = record { low = l; high = h }
 -- of the n cells from a cell on
 unfoldable pub ends_by : Buffer → (start n : ℕ) → Ends
 ends_by b a n = ends_of (low_to (λ i. advance_by b i a) n) (high_to (λ i. advance_by b i a) n)
+
+abbrev pub asked : (refusal beside low high : ℕ) → Asked
+asked r b l h = record { refusal = r; beside = b; ends = ends_of l h }
+
+-- what a row with these ends asks, or one that is refused
+abbrev pub asked_by : Result Ends Refusal → Asked
+asked_by (Ok e) = record { refusal = 0; beside = 0; ends = e }
+asked_by (Err why) = asked (number_of (Err why)) (beside_of (Err why)) 0 0
 
 -- what a row asks of each record: whether it holds the ends of the row's cells
 unfoldable pub asked_of : Board → (chars : List ℕ) → (row : ℕ) → Result Ends Refusal

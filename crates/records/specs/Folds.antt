@@ -1,17 +1,16 @@
 -- The searches as they go from record to record. Assumes nothing.
-use Rattle.std.specs.Prelude.{ℕ, zero, suc, ◌+◌, ◌-◌, ◌*◌, ◌/◌, ◌%◌, ◌≤◌, ◌<◌, ◌≡◌, refl, Bool, true, false, not, ◌&&◌, ◌||◌, List, Option, Some, None, Result, Ok, Err, eqb, length, get_or}
+use Rattle.std.specs.Prelude.{ℕ, zero, suc, ◌+◌, ◌-◌, ◌*◌, ◌/◌, ◌%◌, ◌≤◌, ◌<◌, ◌≡◌, refl, Bool, true, false, not, ◌&&◌, ◌||◌, List, Option, Some, None, eqb, length, get_or}
 use Rattle.std.specs.Option.{is_some, is_none, unwrap_or}
 use Rattle.std.proofs.Common.{sym, ◌∙◌, arith, eqb-true, eq-eqb, ne_eqb}
 use Rattle.std.proofs.Math.Bool.{and-false}
 use Rattle.std.proofs.lemmas.Bool.{eqb-false}
 use Rattle.lists.specs.Choice.{pick, pass, neither}
 use Rattle.lists.specs.Search.{any_below, first_below}
-use Rattle.refusal.specs.declared.Refusal.{Refusal}
-use Rattle.refusal.specs.Number.{Checked, unrefused, number_of, beside_of}
 use Rattle.records.specs.declared.Phrase.{Phrase}
 use Rattle.records.specs.declared.PhraseAnswer.{PhraseAnswer}
 use Rattle.records.specs.declared.PairAnswer.{PairAnswer}
 use Rattle.records.specs.declared.Ends.{Ends}
+use Rattle.records.specs.declared.Asked.{Asked}
 use Rattle.records.specs.declared.Mate.{Mate}
 use Rattle.records.specs.Records.{none, bad_record, disagrees, at, among, phrase_answer, pair_answer, later_differs}
 use Rattle.records.specs.Ends.{holds_ends}
@@ -22,9 +21,9 @@ turn unrefused bad unfound good was refusal find = pick (unrefused && bad) refus
 
 -- ---- the record of a row
 
--- before any record, and where the row is refused
-abbrev pub start_of : Checked → PhraseAnswer
-start_of r = phrase_answer (number_of r) (beside_of r) 0 0
+-- before any record
+abbrev pub start_of : Asked → PhraseAnswer
+start_of a = phrase_answer a.refusal a.beside 0 0
 
 -- s is the answer so far, and i the position of the record
 unfoldable pub visit_of : PhraseAnswer → Phrase → (i : ℕ) → Ends → PhraseAnswer
@@ -36,17 +35,16 @@ unfolding visit_of
 visit-on s r i e b g = simp (b, g, and-false)
 
 -- after n records
-abbrev pub search_to : List Phrase → Ends → (n : ℕ) → PhraseAnswer
-search_to rs e zero = start_of unrefused
-search_to rs e (suc n) = visit_of (search_to rs e n) (get_or rs n none) n e
+abbrev pub search_to : List Phrase → Asked → (n : ℕ) → PhraseAnswer
+search_to rs a zero = start_of a
+search_to rs a (suc n) = visit_of (search_to rs a n) (get_or rs n none) n a.ends
 
 abbrev pub phrase_among : (nothing : PhraseAnswer) → (bad good : ℕ → Bool) → (n : ℕ) → PhraseAnswer
 phrase_among = among (phrase_answer 20 0 0) (phrase_answer 0 0 1)
 
--- the lowest record that holds both ends, or what was refused before
-unfoldable pub search_of : List Phrase → Result Ends Refusal → PhraseAnswer
-search_of rs (Ok e) = phrase_among (start_of unrefused) (at rs bad_record) (at rs (holds_ends e)) (length rs)
-search_of rs (Err why) = start_of (Err why)
+-- the lowest record that holds both ends, after what was refused before
+unfoldable pub search_of : List Phrase → Asked → PhraseAnswer
+search_of rs a = pick (eqb a.refusal 0) (phrase_among (start_of a) (at rs bad_record) (at rs (holds_ends a.ends)) (length rs)) (start_of a)
 
 -- ---- two records that differ
 

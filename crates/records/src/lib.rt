@@ -3,7 +3,7 @@
 ghost use Rattle.std.specs.Prelude.{◌≡◌, ◌+◌, min, max, ◌<◌};
 ghost use Rattle.raster.specs.Moves.{Bounded};
 ghost use Rattle.records.specs.Records.{bad_record, disagrees, pair_answer};
-ghost use Rattle.records.specs.Ends.{ends_by, asked_of, holds_ends};
+ghost use Rattle.records.specs.Ends.{ends_by, asked_by, asked_of, holds_ends};
 ghost use Rattle.records.specs.Folds.{start_of, visit_of, label_of, same_label, unequal, mate_start, mate_visit, mate_four, first_four, fours_from, pair_start, pair_visit};
 
 use refusal::Refusal;
@@ -44,6 +44,33 @@ pub struct PairAnswer {
 pub struct Ends {
     pub low: u32,
     pub high: u32,
+}
+
+// What is asked of each record: the ends of a row's cells, or nothing after a refusal, of any number.
+#[derive(Clone, Copy)]
+pub struct Asked {
+    pub refusal: u32,
+    pub beside: u32,
+    pub ends: Ends,
+}
+
+impl From<Result<Ends, Refusal>> for Asked {
+    ghost from_gives = { λ row a. a ≡ asked_by row };
+
+    fn from(row: Result<Ends, Refusal>) -> Asked {
+        match row {
+            Ok(ends) => Asked {
+                refusal: 0,
+                beside: 0,
+                ends,
+            },
+            Err(why) => Asked {
+                refusal: refusal::number(Err(why)),
+                beside: refusal::beside(Err(why)),
+                ends: Ends { low: 0, high: 0 },
+            },
+        }
+    }
 }
 
 // The first later record that disagrees with one, where there is one, and whether that one is bad.
@@ -103,12 +130,12 @@ fn disagree(p: Phrase, o: Phrase) -> bool
 }
 
 // The answer before any record is looked at.
-pub fn start(refused: Result<(), Refusal>) -> PhraseAnswer
-    ensures { result ≡ start_of refused }
+pub fn start(asked: Asked) -> PhraseAnswer
+    ensures { result ≡ start_of asked }
 {
     PhraseAnswer {
-        refusal: refusal::number(refused),
-        beside: refusal::beside(refused),
+        refusal: asked.refusal,
+        beside: asked.beside,
         found: 0,
         position: 0,
     }
