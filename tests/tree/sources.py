@@ -99,11 +99,11 @@ def put_in(text, name, taken, fact):  # a ghost function's text in place of its 
     return re.sub(rf'\b{name} (\w+)', lambda m: re.sub(rf'\b{taken}\b', m[1], fact), text)
 
 
-def kept(path, text):  # what a type keeps of a public trait or of `From`: each function, with the type's own words
+def kept(path, text):  # what a type keeps of a public trait, `From` or `Default`: each function, with the type's own words
     traits = {m[1]: m for m in TRAIT.finditer(text)}
     kinds = {impl[1] for impl in IMPL.finditer(text)}
     for trait in (t for name, t in traits.items() if name not in kinds):  # its types are private, or of other crates
-        ghosts = '|'.join(re.findall(r'^    ghost (\w+):', trait[2], re.M))
+        ghosts = '|'.join(re.findall(r'^    ghost (\w+):', trait[2], re.M)) or '(?!)'
         for m in PROMISE.finditer(trait[2]):
             start = trait.start(2) + m.start()
             head = re.sub(rf'\b({ghosts})\b', r'Self.\1', m[2])

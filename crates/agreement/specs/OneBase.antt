@@ -28,7 +28,7 @@ use Rattle.registers.specs.Write.{write_of}
 use Rattle.registers.specs.Read.{read_of}
 use Rattle.registers.specs.Video.{set_video_of}
 
--- ---- `units`. `<`, `<=`, `==` and `min` of counts are derived, and `units` Order says that the order is this one.
+-- ---- `units`. `<`, `<=`, `==` and `min` of counts are derived; `units` Order says that the order is this one.
 
 pub clocks-count-of-one : (n : ℕ) → OneAnswer (λ r. r ≡ clocks n)
 clocks-count-of-one n = only _
@@ -122,12 +122,6 @@ dots-count-of-one n = only _
 
 pub dots-below-one : (a b : Dots) → OneAnswer (λ r. r ≡ ltb a.0 b.0)
 dots-below-one a b = only _
-
-pub dots-at-most-one : (a b : Dots) → OneAnswer (λ r. r ≡ leb a.0 b.0)
-dots-at-most-one a b = only _
-
-pub dots-same-one : (a b : Dots) → OneAnswer (λ r. r ≡ eqb a.0 b.0)
-dots-same-one a b = only _
 
 pub dots-plus-one : (a b : Dots) → OneAnswer (λ r. r ≡ dots (a.0 + b.0))
 dots-plus-one a b = only _

@@ -20,6 +20,7 @@ use Rattle.feldrime.specs.declared.RunAnswer.{RunAnswer}
 use Rattle.feldrime.specs.declared.BoardAnswer.{BoardAnswer}
 use Rattle.feldrime.specs.Answers.{size_answer, font_answer, run_answer, board_given, answer_of}
 
+-- [refusal zeros]
 unfoldable pub size_for : List ℕ → SizeAnswer
 size_for numbers =
     pick (numbers_refused numbers) (size_answer (Err Size) 0 0)
