@@ -32,7 +32,8 @@ pub struct Plan {
     pub reading: video::Reading,
 }
 
-// What all cells of a picture are drawn from: the plan, and the tables by sign, by mark and by look, which fit it.
+// What all cells of a picture are drawn from: the plan, and the tables by sign, by mark and by look, which fit it. It
+// goes by value: by reference, the loop over a line's cells read a cell's width from the stack each turn.
 #[derive(Clone, Copy)]
 struct Tables<'a> {
     plan: Plan,
@@ -44,12 +45,12 @@ struct Tables<'a> {
 
 // One cell from its number, on a scan line. No branch goes by what a cell is. `line` does the same from the font: there
 // one line is drawn, and tables would cost more than they save.
-fn put(out: &mut [u8], t: &Tables, scan: units::Lines, number: u16, tight: bool)
-    requires scan_lt_scans { scan.0 < t.now.plan.scans.0 }
-    requires dots_in_bounds { reach_of tight t.now.plan.dots.0 ≤ length out.old }
+fn put(out: &mut [u8], t: Tables, scan: units::Lines, number: u16, tight: bool)
+    requires scan_lt_scans { scan.0 < t.plan.scans.0 }
+    requires dots_in_bounds { reach_of tight t.plan.dots.0 ≤ length out.old }
     ensures { out.new
-        ≡ cell_dots_of t.now.shown.now t.now.looks.now (reach_of tight t.now.plan.dots.0) scan.0 number
-        ++ drop (reach_of tight t.now.plan.dots.0) out.old }
+        ≡ cell_dots_of t.entry.shown.now t.entry.looks.now (reach_of tight t.entry.plan.dots.0) scan.0 number
+        ++ drop (reach_of tight t.entry.plan.dots.0) out.old }
 {
     let s = scan.places();
     let sign = s * 512 + (number % 512) as usize;
@@ -59,12 +60,12 @@ fn put(out: &mut [u8], t: &Tables, scan: units::Lines, number: u16, tight: bool)
 }
 
 // So many cells of a line. All but the last may be stored with some dots too many, over which the next cell is drawn.
-fn draw_cells(out: &mut [u8], t: &Tables, cells: &[u16], scan: units::Lines, n: usize)
+fn draw_cells(out: &mut [u8], t: Tables, cells: &[u16], scan: units::Lines, n: usize)
     requires cells_all { length cells.now ≡ 256 }
-    requires scan_lt_scans { (scan.0 < t.now.plan.scans.0) × (0 < n) × (n ≤ 256) × (n * t.now.plan.dots.0 ≤ length out.old) }
+    requires scan_lt_scans { (scan.0 < t.plan.scans.0) × (0 < n) × (n ≤ 256) × (n * t.plan.dots.0 ≤ length out.old) }
     ensures { out.new
-        ≡ joined 0 n (cell_from cells.now t.now.shown.now t.now.looks.now t.now.plan.dots.0 scan.0)
-        ++ drop (n * t.now.plan.dots.0) out.old }
+        ≡ joined 0 n (cell_from cells.now t.entry.shown.now t.entry.looks.now t.entry.plan.dots.0 scan.0)
+        ++ drop (n * t.entry.plan.dots.0) out.old }
 {
     let last = n - 1;
     let d = t.plan.dots.places();
@@ -75,12 +76,12 @@ fn draw_cells(out: &mut [u8], t: &Tables, cells: &[u16], scan: units::Lines, n: 
 }
 
 // One line from its row's cells: of a row of double width its cells first, and then each dot twice.
-fn draw_columns(out: &mut [u8], t: &Tables, wide: bool, cells: &[u16], scan: units::Lines)
+fn draw_columns(out: &mut [u8], t: Tables, wide: bool, cells: &[u16], scan: units::Lines)
     requires cells_all { length cells.now ≡ 256 }
-    requires scan_lt_scans { (scan.0 < t.now.plan.scans.0) × (t.now.plan.width ≤ length out.old) }
+    requires scan_lt_scans { (scan.0 < t.plan.scans.0) × (t.plan.width ≤ length out.old) }
     ensures { out.new
-        ≡ joined 0 t.now.plan.columns.0 (shown_of wide (cell_from cells.now t.now.shown.now t.now.looks.now t.now.plan.dots.0 scan.0))
-        ++ drop t.now.plan.width out.old }
+        ≡ joined 0 t.entry.plan.columns.0 (shown_of wide (cell_from cells.now t.entry.shown.now t.entry.looks.now t.entry.plan.dots.0 scan.0))
+        ++ drop t.entry.plan.width out.old }
 {
     let n = t.plan.columns;
     if wide {
@@ -95,12 +96,12 @@ fn draw_columns(out: &mut [u8], t: &Tables, wide: bool, cells: &[u16], scan: uni
 }
 
 // All lines of a row from its cells.
-fn draw_lines(out: &mut [u8], t: &Tables, k: raster::Code, cells: &[u16])
+fn draw_lines(out: &mut [u8], t: Tables, k: raster::Code, cells: &[u16])
     requires cells_all { length cells.now ≡ 256 }
-    requires width_in_bounds { t.now.plan.lines.0 * t.now.plan.width ≤ length out.old }
+    requires width_in_bounds { t.plan.lines.0 * t.plan.width ≤ length out.old }
     ensures { out.new
-        ≡ joined 0 t.now.plan.lines.0 (line_from t.now.plan k cells.now t.now.shown.now t.now.looks.now)
-        ++ drop (t.now.plan.lines.0 * t.now.plan.width) out.old }
+        ≡ joined 0 t.entry.plan.lines.0 (line_from t.entry.plan k cells.now t.entry.shown.now t.entry.looks.now)
+        ++ drop (t.entry.plan.lines.0 * t.entry.plan.width) out.old }
 {
     let p = t.plan;
     let wide = k.is_wide();
@@ -114,7 +115,7 @@ fn draw_lines(out: &mut [u8], t: &Tables, k: raster::Code, cells: &[u16])
 // after it comes out.
 fn draw_row(
     out: &mut [u8],
-    t: &Tables,
+    t: Tables,
     k: raster::Code,
     n: u32,
     chars: &[u8],
@@ -123,11 +124,11 @@ fn draw_row(
     held: u8,
 ) -> u8
     requires memories { (length chars.now ≡ 16384) × (length attrs.now ≡ 16384) }
-    requires n_value { (n ≡ fetched_for (is_wide k) t.now.plan.columns.0) × (start.address < 16384) × (t.now.plan.lines.0 * t.now.plan.width ≤ length out.old) }
-    ensures { (result ≡ held_by t.now.plan.reading.runs attrs.now t.now.plan.buffer held start.address (fetched_for (is_wide k) t.now.plan.columns.0))
+    requires n_value { (n ≡ fetched_for (is_wide k) t.plan.columns.0) × (start.address < 16384) × (t.plan.lines.0 * t.plan.width ≤ length out.old) }
+    ensures { (result ≡ held_by t.entry.plan.reading.runs attrs.now t.entry.plan.buffer held start.address (fetched_for (is_wide k) t.entry.plan.columns.0))
         × (out.new
-        ≡ row_from t.now.plan k chars.now attrs.now t.now.shown.now t.now.looks.now held start.address
-        ++ drop (t.now.plan.lines.0 * t.now.plan.width) out.old) }
+        ≡ row_from t.entry.plan k chars.now attrs.now t.entry.shown.now t.entry.looks.now held start.address
+        ++ drop (t.entry.plan.lines.0 * t.entry.plan.width) out.old) }
 {
     let mut cells = [0u16; 256];
     let buffer = t.plan.buffer;
@@ -140,12 +141,12 @@ fn draw_row(
 }
 
 // All rows. What is latched in one goes on in the next.
-fn draw_rows(out: &mut [u8], t: &Tables, page: board::Page, chars: &[u8], attrs: &[u8])
+fn draw_rows(out: &mut [u8], t: Tables, page: board::Page, chars: &[u8], attrs: &[u8])
     requires memories { (length chars.now ≡ 16384) × (length attrs.now ≡ 16384) }
-    requires accepted { Accepted page × (t.now.plan ≡ plan_of page) × (t.now.plan.rows * t.now.plan.size ≤ length out.old) }
+    requires accepted { Accepted page × (t.plan ≡ plan_of page) × (t.plan.rows * t.plan.size ≤ length out.old) }
     ensures { out.new
-        ≡ joined 0 t.now.plan.rows (row_drawn t.now.plan page chars.now attrs.now t.now.shown.now t.now.looks.now)
-        ++ drop (t.now.plan.rows * t.now.plan.size) out.old }
+        ≡ joined 0 t.entry.plan.rows (row_drawn t.entry.plan page chars.now attrs.now t.entry.shown.now t.entry.looks.now)
+        ++ drop (t.entry.plan.rows * t.entry.plan.size) out.old }
 {
     let p = t.plan;
     let mut held = 0;
@@ -233,7 +234,7 @@ fn by_rows(
         looks: &looks,
         inks: &inks,
     };
-    draw_rows(out, &t, page, chars, attrs);
+    draw_rows(out, t, page, chars, attrs);
 }
 
 // The picture line by line.

@@ -16,6 +16,6 @@ pub returns : goal.returns
 returns c =
     let a = c.args in
     let n = c.requires.n_value.0 in (
-      held_after a.t.now.plan a.k a.chars.now a.attrs.now a.held a.start.address n _ c.gather-valid.ensures.0,
-      as_row a.t.now.plan a.k a.chars.now a.attrs.now a.held a.start.address n _ _ _ _ _ _ c.gather-valid.ensures.1 c.draw_lines.ensures,
+      held_after a.t.plan a.k a.chars.now a.attrs.now a.held a.start.address n _ c.gather-valid.ensures.0,
+      as_row a.t.plan a.k a.chars.now a.attrs.now a.held a.start.address n _ _ _ _ _ _ c.gather-valid.ensures.1 c.draw_lines.ensures,
     )
