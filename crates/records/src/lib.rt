@@ -46,7 +46,8 @@ pub struct Ends {
     pub high: u32,
 }
 
-// What is asked of each record: the ends of a row's cells, or nothing after a refusal, of any number.
+// What is asked of each record: to hold the ends of a row's cells. After a refusal nothing is asked, and the refusal is
+// handed on, whatever its number.
 #[derive(Clone, Copy)]
 pub struct Asked {
     pub refusal: u32,
